@@ -1,0 +1,4 @@
+pub mod Filling
+pub mod Found
+pub mod Numbers
+pub mod Torn

@@ -1,0 +1,6 @@
+pub mod Files
+pub mod Memory
+pub mod Output
+pub mod Real
+pub mod Store
+pub mod Write
