@@ -1,0 +1,6 @@
+pub mod Names
+pub mod Once
+pub mod Placement
+pub mod Tokens
+pub mod Tuple
+pub mod Quoted

@@ -1,0 +1,6 @@
+-- Channel names, as their list in the order of their numbers.
+use Rattle.std.specs.Prelude.{ℕ, ◌≡◌, List, slice_get, Some}
+
+-- A name that has a number keeps it.
+abbrev pub KeepsNumbers : List (List ℕ) → List (List ℕ) → Type 0
+KeepsNumbers old new = (n : ℕ) (name : List ℕ) → slice_get old n ≡ Some name → slice_get new n ≡ Some name
