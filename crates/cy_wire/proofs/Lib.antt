@@ -1,0 +1,4 @@
+pub mod Varints
+pub mod Fronts
+pub mod Signs
+pub mod Facts

@@ -1,0 +1,4 @@
+pub mod Wire
+pub mod Front
+pub mod Zigzag
+pub mod Laws

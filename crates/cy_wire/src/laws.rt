@@ -1,0 +1,21 @@
+// What holds of the spelling of every number: proved here, and nothing to run.
+ghost use Rattle.cy_wire.specs.Laws.{ReadsBack, TakesAByte, TakesTenBytesAtMost, SmallIsItsByte, BytesFit, UnzigzagUndoes, ZigzagFits};
+
+/// A number that was written is the one that is read, whatever follows it.
+pub fn reads_back()
+    ensures { ReadsBack }
+{}
+
+/// Each number takes one to ten bytes, and one below 128 is its own byte.
+pub fn takes_one_to_ten_bytes()
+    ensures some { TakesAByte }
+    ensures most { TakesTenBytesAtMost }
+    ensures small { SmallIsItsByte }
+    ensures bytes { BytesFit }
+{}
+
+/// A signed number of 64 bits is written as one of 64 bits, and nothing of it is lost.
+pub fn unzigzag_undoes()
+    ensures undoes { UnzigzagUndoes }
+    ensures fits { ZigzagFits }
+{}
