@@ -1,0 +1,2 @@
+pub mod Fusion
+pub mod Fetch
