@@ -1,0 +1,119 @@
+// The five kinds of section, as values.
+use cy_msg::{Bytes, Items, Text};
+
+/// The type of a section, as its head has it.
+#[derive(Clone, Copy, Debug, PartialEq, Eq)]
+pub enum SectionKind {
+    /// The header of the file.
+    Header,
+    /// The header of a chunk, which its body follows.
+    ChunkHeader,
+    /// The messages of a chunk.
+    ChunkBody,
+    /// The index, which is the last section.
+    Index,
+    /// A channel's name, type and description.
+    Channel,
+}
+
+/// The header of a record. Times and intervals are in nanoseconds, sizes and places in bytes.
+#[derive(Clone, Copy, Debug, PartialEq, Eq)]
+pub struct Header {
+    pub major_version: u32,
+    pub minor_version: u32,
+    /// 0 where chunks are not compressed.
+    pub compress: u32,
+    pub chunk_interval: u64,
+    pub segment_interval: u64,
+    /// The place of the index's head.
+    pub index_position: u64,
+    pub chunk_number: u64,
+    pub channel_number: u64,
+    /// The least time of a message, 0 where there is none.
+    pub begin_time: u64,
+    /// The greatest time of a message, 0 where there is none.
+    pub end_time: u64,
+    pub message_number: u64,
+    /// The length of the file.
+    pub size: u64,
+    /// Whether the writer came to the record's end.
+    pub is_complete: bool,
+    pub chunk_raw_size: u64,
+    pub segment_raw_size: u64,
+}
+
+/// The header of a chunk.
+#[derive(Clone, Copy, Debug, PartialEq, Eq)]
+pub struct ChunkHeader {
+    /// The least time in the chunk.
+    pub begin_time: u64,
+    /// The greatest time in the chunk.
+    pub end_time: u64,
+    pub message_number: u64,
+    /// The bytes of its messages' contents together.
+    pub raw_size: u64,
+}
+
+/// A message as a chunk's body has it.
+#[derive(Debug, Drop)]
+pub struct BodyMessage {
+    pub channel_name: Text,
+    /// In nanoseconds.
+    pub time: u64,
+    pub content: Bytes,
+}
+
+/// The messages of a chunk.
+#[derive(Drop)]
+pub struct ChunkBody {
+    pub messages: Items<BodyMessage>,
+}
+
+/// A channel: its name, the type of its messages and their description.
+#[derive(Debug, Drop)]
+pub struct Channel {
+    pub name: Text,
+    pub message_type: Text,
+    pub proto_desc: Bytes,
+}
+
+/// What the index keeps of a channel.
+#[derive(Debug, Drop)]
+pub struct ChannelCache {
+    /// The number of its messages in the whole file.
+    pub message_number: u64,
+    pub name: Text,
+    pub message_type: Text,
+    pub proto_desc: Bytes,
+}
+
+/// What the index keeps of a chunk's header.
+#[derive(Clone, Copy, Debug, PartialEq, Eq)]
+pub struct ChunkHeaderCache {
+    pub message_number: u64,
+    pub begin_time: u64,
+    pub end_time: u64,
+    pub raw_size: u64,
+}
+
+/// What the index keeps of a chunk's body.
+#[derive(Clone, Copy, Debug, PartialEq, Eq)]
+pub struct ChunkBodyCache {
+    pub message_number: u64,
+}
+
+/// An entry of the index: a section's type and the place of its head, and what is kept of it.
+#[derive(Debug, Drop)]
+pub struct IndexEntry {
+    pub kind: u32,
+    pub position: u64,
+    pub channel_cache: Option<ChannelCache>,
+    pub chunk_header_cache: Option<ChunkHeaderCache>,
+    pub chunk_body_cache: Option<ChunkBodyCache>,
+}
+
+/// The index of a record: an entry for each section but the header and the index itself, in file order.
+#[derive(Drop)]
+pub struct Index {
+    pub entries: Items<IndexEntry>,
+}
