@@ -1,0 +1,20 @@
+// A component's place in a wiring.
+use crate::Kind;
+use cy_msg::{Items, Text};
+
+/// A component: what it is, and which channels it reads and writes.
+#[derive(Drop)]
+pub struct Plan {
+    /// Its name.
+    pub name: Text,
+    /// Its class.
+    pub kind: Kind,
+    /// The numbers of the channels that it reads. A message of the first one triggers a call.
+    pub readers: Items<u32>,
+    /// How many tuples its buffer keeps.
+    pub queue: u32,
+    /// The number of the channel that it writes.
+    pub out: u32,
+    /// The type of the messages on that channel.
+    pub out_type: Text,
+}

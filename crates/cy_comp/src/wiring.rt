@@ -1,0 +1,35 @@
+// Components and channels.
+ghost use Rattle.cy_comp.specs.Wiring.{IsWiring};
+
+use crate::Plan;
+use cy_msg::{Items, Names};
+
+/// Components, in the order of their DAG file, over numbered channels.
+#[derive(Drop)]
+pub struct Wiring {
+    /// The names of the channels, by number.
+    pub names: Names,
+    /// The components.
+    pub plans: Items<Plan>,
+    ghost lawful: { IsWiring names plans },
+}
+
+impl Wiring {
+    ghost use Rattle.std.specs.Prelude.{◌≡◌, ◌≢◌, ◌<◌, ◌≤◌, [], ◌∷◌, length};
+    ghost use Rattle.cy_comp.specs.declared.plan.Plan.{Plan};
+
+    /// The wiring of one component, which reads one channel and writes another.
+    #[tactic(auto, using(crate::proofs::Alone::alone))]
+    pub fn of_one(names: Names, plans: Items<Plan>) -> Self
+        ghost plan: { Plan }
+        requires plan { plans ≡ plan ∷ [] }
+        requires reader { plan.readers ≡ 0 ∷ [] }
+        requires out { plan.out ≡ 1 }
+        requires names { length names ≡ 2 }
+        requires queue { 1 ≤ plan.queue }
+        ensures names { result.names ≡ names }
+        ensures plans { result.plans ≡ plans }
+    {
+        Wiring { names, plans }
+    }
+}
