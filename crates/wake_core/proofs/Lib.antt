@@ -1,0 +1,10 @@
+pub mod Places
+pub mod MoreCalls
+pub mod Nexts
+pub mod PlannedPass
+pub mod KeptSteps
+pub mod Passed
+pub mod SettleSteps
+pub mod SerialSteps
+pub mod Lawful
+pub mod MadeFor

@@ -1,0 +1,9 @@
+pub mod Settle
+pub mod Run
+pub mod Serial
+pub mod Planned
+pub mod World
+pub mod Pass
+pub mod PassWiring
+pub mod WorldOf
+pub mod Kept
