@@ -1,0 +1,14 @@
+pub mod Fields
+pub mod Entries
+pub mod FieldsCode
+pub mod EntriesFall
+pub mod Reads
+pub mod Letters
+pub mod Numbers
+pub mod Strings
+pub mod Gives
+pub mod Tokens
+pub mod Form
+pub mod Views
+pub mod Places
+pub mod Printed

@@ -1,0 +1,218 @@
+// Each kind of fault at its place, and what the forms of the text give.
+use super::*;
+use std::alloc::Global;
+use std::process::Abort;
+use std::test::*;
+
+const CLASSIC: &[u8] = b"scheduler_conf {
+  policy: \"classic\"
+  process_level_cpuset: \"0-7,16-23\" # all threads are in the cpuset
+  threads: [
+    { name: \"async_log\" cpuset: \"1\" policy: \"SCHED_OTHER\" prio: 0 },
+    { name: \"shm\" cpuset: \"2\" policy: \"SCHED_FIFO\" prio: 10 }
+  ]
+  classic_conf {
+    groups: [
+      { name: \"group1\" processor_num: 16 affinity: \"range\"
+        cpuset: \"0-7,16-23\" processor_policy: \"SCHED_OTHER\" processor_prio: 0
+        tasks: [ { name: \"E\" prio: 0 } ] },
+      { name: \"group2\" processor_num: 16 affinity: \"1to1\"
+        cpuset: \"8-15,24-31\" processor_policy: \"SCHED_OTHER\" processor_prio: 0
+        tasks: [ { name: \"A\" prio: 0 }, { name: \"B\" prio: 1 },
+                 { name: \"C\" prio: 2 }, { name: \"D\" prio: 3 } ] }
+    ]
+  }
+}
+";
+
+// The tree of a text, all of which are short here.
+fn read(rt: &(impl Abort + AllocGlobal), text: &[u8]) -> Result<Tree, TextError> {
+    assert!(rt; text.len() < 100_000);
+    parse(rt.alloc(), text)
+}
+
+// The printed form of a text.
+fn printed(rt: &(impl Abort + AllocGlobal), text: &[u8]) -> Result<Vec<u8>, TextError> {
+    let tree = read(rt, text)?;
+    Ok(print(rt.alloc(), &tree)?.into_vec())
+}
+
+// A text of some messages, each in the one before.
+fn nested(alloc: Global, depth: u32) -> Result<Vec<u8>, TextError> {
+    let mut text = Vec::new(alloc);
+    for _ in 0..depth {
+        text.extend_from_slice(b"a{")?;
+    }
+    for _ in 0..depth {
+        text.push(b'}')?;
+    }
+    Ok(text)
+}
+
+fn bad(line: u32, column: u32, kind: BadKind) -> Option<TextError> {
+    Some(TextError::Bad { line, column, kind })
+}
+
+#[test]
+fn faults_of_tokens(rt: HostRuntime) {
+    for (text, want) in [
+        (b"a: $".as_slice(), bad(1, 4, BadKind::Token)),
+        (b"a: 1\n  %".as_slice(), bad(2, 3, BadKind::Token)),
+        (b"a: .".as_slice(), bad(1, 4, BadKind::Number)),
+        (b"a: 0x".as_slice(), bad(1, 4, BadKind::Number)),
+        (b"a: 08".as_slice(), bad(1, 4, BadKind::Number)),
+        (b"a: 1_0".as_slice(), bad(1, 4, BadKind::Number)),
+        (b"a: 1.e".as_slice(), bad(1, 4, BadKind::Number)),
+        (b"a: 1ff".as_slice(), bad(1, 4, BadKind::Number)),
+        (
+            b"a: 18446744073709551616".as_slice(),
+            bad(1, 4, BadKind::Number),
+        ),
+        (b"a: 'b\n'".as_slice(), bad(1, 4, BadKind::Quote)),
+        (b"a: \"b'".as_slice(), bad(1, 4, BadKind::Quote)),
+        (b"a: '\\q".as_slice(), bad(1, 5, BadKind::Escape)),
+        (b"a: 'b\\400'".as_slice(), bad(1, 6, BadKind::Escape)),
+        (b"a: '\\x'".as_slice(), bad(1, 5, BadKind::Escape)),
+        (b"a: '\\ud800'".as_slice(), bad(1, 5, BadKind::Escape)),
+        (b"a: '\\U00110000'".as_slice(), bad(1, 5, BadKind::Escape)),
+        (b"a: '\\".as_slice(), bad(1, 5, BadKind::Escape)),
+        (b"a: '\\\n'".as_slice(), bad(1, 5, BadKind::Escape)),
+    ] {
+        assert_eq!(rt; read(&rt, text).err(), want);
+    }
+}
+
+#[test]
+fn faults_of_places(rt: HostRuntime) {
+    for (text, want) in [
+        (b"\n\n[ext.x]: 1".as_slice(), bad(3, 1, BadKind::Extension)),
+        (b"a { [b] }".as_slice(), bad(1, 5, BadKind::Extension)),
+        (b"1".as_slice(), bad(1, 1, BadKind::Name)),
+        (b"a: 1 : 2".as_slice(), bad(1, 6, BadKind::Name)),
+        (b"a: 01.5".as_slice(), bad(1, 6, BadKind::Name)),
+        (b"a 1".as_slice(), bad(1, 3, BadKind::Colon)),
+        (b"a [ {}, 'x' ]".as_slice(), bad(1, 9, BadKind::Colon)),
+        (b"a: }".as_slice(), bad(1, 4, BadKind::Value)),
+        (b"a: [ 1, ]".as_slice(), bad(1, 9, BadKind::Value)),
+        (b"a: [ [".as_slice(), bad(1, 6, BadKind::Value)),
+        (b"a: - 'x'".as_slice(), bad(1, 6, BadKind::Value)),
+        (b"a".as_slice(), bad(1, 2, BadKind::Value)),
+        (b"}".as_slice(), bad(1, 1, BadKind::Close)),
+        (b"a: 1,,".as_slice(), bad(1, 6, BadKind::Close)),
+        (b"a < }".as_slice(), bad(1, 5, BadKind::Close)),
+        (b"a: [ 1 2 ]".as_slice(), bad(1, 8, BadKind::Close)),
+        (b"a {\n".as_slice(), bad(2, 1, BadKind::Close)),
+        (b"a: [ 'x'".as_slice(), bad(1, 9, BadKind::Close)),
+    ] {
+        assert_eq!(rt; read(&rt, text).err(), want);
+    }
+}
+
+#[test]
+fn depth(rt: HostRuntime) -> Result<(), Fail> {
+    let deep = nested(rt.alloc(), 64)?;
+    assert!(rt; read(&rt, &deep).is_ok());
+    let deeper = nested(rt.alloc(), 65)?;
+    let want = TextError::TooDeep {
+        line: 1,
+        column: 130,
+    };
+    assert_eq!(rt; read(&rt, &deeper).err(), Some(want));
+    Ok(())
+}
+
+#[test]
+fn prints_what_it_reads(rt: HostRuntime) -> Result<(), Fail> {
+    for (text, want) in [
+        (
+            b"a < b: 010 ; c: \"x\" 'y' >\nzz: 1.5e3f".as_slice(),
+            b"a {\n  b: 8\n  c: \"xy\"\n}\nzz: 1.5e3f\n".as_slice(),
+        ),
+        (b"# nothing\n", b""),
+        (b"a: 0xFf, b: 0; c: -07", b"a: 255\nb: 0\nc: -7\n"),
+        (b"a: 18446744073709551615", b"a: 18446744073709551615\n"),
+        (b"a: - inf b: -.5 c: 1f", b"a: -inf\nb: -.5\nc: 1f\n"),
+        (
+            b"a: [1, -x, 'y' 'z', {}] b: []",
+            b"a: 1\na: -x\na: \"yz\"\na {\n}\n",
+        ),
+        (b"a [{b: 1}, <>]", b"a {\n  b: 1\n}\na {\n}\n"),
+        (
+            b"a: '\\a\\b\\f\\n\\r\\t\\v\\?\\\\\\'\\\"'",
+            b"a: \"\\007\\010\\014\\n\\r\\t\\013?\\\\'\\\"\"\n",
+        ),
+        (b"a: '\\101\\7\\x4a\\xF0'", b"a: \"A\\007J\\360\"\n"),
+        (
+            b"a: '\\u00e4\\U0001F600'",
+            b"a: \"\xC3\xA4\xF0\x9F\x98\x80\"\n",
+        ),
+    ] {
+        assert_eq!(rt; printed(&rt, text)?.as_slice(), want);
+    }
+    Ok(())
+}
+
+#[test]
+fn reads_a_classic_file(rt: HostRuntime) -> Result<(), Fail> {
+    let once = printed(&rt, CLASSIC)?;
+    assert_eq!(rt; once.len(), 906);
+    let twice = printed(&rt, &once)?;
+    assert_eq!(rt; twice.as_slice(), once.as_slice());
+    Ok(())
+}
+
+#[test]
+fn values(rt: HostRuntime) -> Result<(), Fail> {
+    let tree = read(
+        &rt,
+        b"a: -18446744073709551615 b: True c: 1 d: 'x' e: '\\377' f: 2.0",
+    )?;
+    let entries = tree.entries();
+    assert_eq!(rt; entries.len(), 6);
+    for (entry, (whole, truth, text)) in entries.iter().zip([
+        (Some(-18_446_744_073_709_551_615), None, None),
+        (None, Some(true), None),
+        (Some(1), Some(true), None),
+        (None, None, Some("x")),
+        (None, None, None),
+        (None, None, None),
+    ]) {
+        assert_eq!(rt; entry.value.whole(), whole);
+        assert_eq!(rt; entry.value.truth(), truth);
+        assert_eq!(rt; entry.value.text(), text);
+    }
+    Ok(())
+}
+
+#[test]
+fn spans(rt: HostRuntime) -> Result<(), Fail> {
+    let tree = read(&rt, b"ab: 'x' 'y' c: [ -1, {} ]")?;
+    let entries = tree.entries();
+    assert_eq!(rt; entries.len(), 3);
+    for (entry, span) in entries.iter().zip([(0, 11), (17, 19), (21, 23)]) {
+        assert_eq!(rt; (entry.span.start, entry.span.end), span);
+    }
+    Ok(())
+}
+
+#[test]
+fn makes_a_tree(rt: HostRuntime) -> Result<(), Fail> {
+    let mut entries = Vec::new(rt.alloc());
+    let value = Value::Message(Tree::new(rt.alloc()));
+    let span = Span { start: 0, end: 0 };
+    let name = cy_msg::Text::new(rt.alloc(), "a")?;
+    entries.push(Entry { name, span, value })?;
+    let mut tree = Tree::from_entries(entries);
+    let name = cy_msg::Text::new(rt.alloc(), "b")?;
+    let text = cy_msg::Text::new(rt.alloc(), "x")?;
+    let value = Value::Word {
+        negative: true,
+        text,
+    };
+    tree.push(Entry { name, span, value })?;
+    assert_eq!(rt;
+        print(rt.alloc(), &tree)?.as_slice(),
+        b"a {\n}\nb: -x\n".as_slice()
+    );
+    Ok(())
+}
