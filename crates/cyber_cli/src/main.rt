@@ -1,0 +1,72 @@
+//! The program `cyber`: it plays recorded messages through components.
+//!
+//! `specs/Due` says what it answers, `specs/Words` which words it takes, `specs/Input` which records it plays, `specs/Tape` what
+//! it makes of them, `specs/Writes` in which order it writes.
+#![tactic(auto)]
+
+mod candidate;
+mod chunk;
+mod failure;
+#[cfg(test)]
+mod faults;
+mod input;
+mod line;
+mod list;
+mod make;
+mod messages;
+mod one;
+mod parts;
+mod pass;
+mod pieces;
+mod play;
+mod put;
+mod read;
+mod record;
+#[cfg(test)]
+mod samples;
+mod status;
+mod still;
+#[cfg(test)]
+mod tests;
+mod told;
+mod wiring;
+mod words;
+mod write;
+
+use crate::status::Status;
+use crate::still::cyber_still;
+use cy_msg::Text;
+use cy_store::{RealSink, RealStore};
+use std::alloc::AllocError;
+use std::env;
+use std::io::ErrorKind;
+use std::process::ExitCode;
+
+// The words after the program's name; none where one of them is no UTF-8, since such words are of no known form.
+fn program_words(rt: &HostRuntime) -> Result<Vec<Text>, AllocError> {
+    let mut words = Vec::new(rt.alloc());
+    let args = match env::args(rt) {
+        Ok(args) => args,
+        Err(error) if error.kind() == ErrorKind::OutOfMemory => return Err(AllocError),
+        Err(_) => return Ok(words),
+    };
+    for word in args.skip(1) {
+        words.push(Text::from_string(word))?;
+    }
+    Ok(words)
+}
+
+// Does what the program's words ask for, on the files and streams of the machine.
+fn run(rt: &HostRuntime) -> Status {
+    let Ok(words) = program_words(rt) else {
+        return Status::Memory;
+    };
+    let mut store = RealStore::new(rt);
+    let mut out = RealSink::new(rt.stdout());
+    let mut err = RealSink::new(rt.stderr());
+    cyber_still(rt.alloc(), &words, &mut store, &mut out, &mut err)
+}
+
+fn main(rt: HostRuntime) -> ExitCode {
+    ExitCode::from(run(&rt).code())
+}

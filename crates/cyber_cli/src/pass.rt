@@ -1,0 +1,71 @@
+// The command `pass`.
+ghost use Rattle.std.specs.Prelude.{◌≡◌, ◌≤◌, ◌++◌, true, List, ℕ, OnOk, IsErrOf};
+ghost use Rattle.std.specs.Option.{option_map};
+ghost use Rattle.cy_store.specs.Write.{Write, name_of, after_writes};
+ghost use Rattle.cy_store.specs.Store.{StoreRose};
+ghost use Rattle.cyber_cli.specs.declared.failure.File.{File};
+ghost use Rattle.cyber_cli.specs.Words.{is_pass};
+ghost use Rattle.cyber_cli.specs.Writes.{FitsInTurn, StopsAt, StopsBefore};
+ghost use Rattle.cyber_cli.specs.Views.{words_of, name_of_file, pieces_of, PassEnds};
+ghost use Rattle.cyber_cli.specs.Made.{writes_of};
+
+use crate::failure::{Failure, File};
+use crate::input::read_input;
+use crate::make::{Made, make};
+use crate::read::read_file;
+use crate::words::Pass;
+use crate::write::put_file;
+use cy_msg::Bytes;
+use cy_store::{Store, StoreError};
+use std::alloc::Global;
+
+// A store's error at a file.
+fn failed_at(file: File, error: StoreError) -> Failure
+    ensures failed { error ≡ StoreError.Failed → result ≡ Failure.Store file }
+    ensures memory { error ≡ StoreError.Memory → result ≡ Failure.Memory }
+{
+    match error {
+        StoreError::Failed => Failure::Store(file),
+        StoreError::Memory => Failure::Memory,
+    }
+}
+
+// Writes the record, and then the trace.
+fn write_both<S: Store>(store: &mut S, pass: &Pass, made: &Made) -> Result<(), Failure>
+    requires record { FitsInTurn (pieces_of made.now.record) }
+    requires trace { FitsInTurn (pieces_of made.now.trace) }
+    ensures done { OnOk result ((S.shows store.new).files ≡ option_map (after_writes (writes_of (words_of pass.now) made.now)) (S.shows store.old).files) }
+    ensures failed { (f : File) → IsErrOf result (Failure.Store f) → ((w : Write) × (name_of w ≡ name_of_file (words_of pass.now) f)
+        × StopsAt (writes_of (words_of pass.now) made.now) w (S.shows store.old).files (S.shows store.new).files) }
+    ensures memory { IsErrOf result Failure.Memory → StopsBefore (writes_of (words_of pass.now) made.now) (S.shows store.old).files (S.shows store.new).files }
+    ensures built { IsErrOf result Failure.NotBuilt → ⊥ }
+    ensures causes { (f : File) (any : List ℕ) → IsErrOf result (Failure.Store f) → StoreRose (S.shows store.old) (S.shows store.new) any }
+{
+    if let Err(error) = put_file(store, pass.output, made.record.as_slice()) {
+        return Err(failed_at(File::Output, error));
+    }
+    if let Err(error) = put_file(store, pass.trace, made.trace.as_slice()) {
+        return Err(failed_at(File::Trace, error));
+    }
+    Ok(())
+}
+
+/// Plays a record through one component and writes the record of all messages and the trace. Answers the line that tells what
+/// was done. All reading is done before the first file is made.
+pub fn run_pass<S: Store>(alloc: Global, pass: &Pass, store: &mut S) -> Result<Bytes, Failure>
+    requires { is_pass (words_of pass.now) ≡ true }
+    ensures { PassEnds (words_of pass.now) (S.shows store.old) (S.shows store.new) result }
+{
+    let bytes = match read_file(alloc, store, pass.input) {
+        Ok(Some(bytes)) => bytes,
+        Ok(None) => return Err(Failure::NotBuilt),
+        Err(error) => return Err(failed_at(File::Input, error)),
+    };
+    let Some(input) = read_input(alloc, pass, bytes.as_slice())? else {
+        return Err(Failure::NotBuilt);
+    };
+    let made = make(alloc, pass, &input)?;
+    write_both(store, pass, &made)?;
+    let Made { line, .. } = made;
+    Ok(line)
+}

@@ -1,0 +1,142 @@
+// The top call.
+ghost use Rattle.std.specs.Prelude.{◌≡◌, ◌≢◌};
+ghost use Rattle.cyber_cli.specs.Line.{bytes_of_line};
+ghost use Rattle.cyber_cli.specs.Due.{IsDue, IsTold, GetsFront, Answers, IsComplete};
+ghost use Rattle.cy_store.specs.Store.{SinkView};
+ghost use Rattle.cyber_cli.specs.Views.{words_of, IsDueAfter};
+
+use crate::failure::{Failure, File};
+use crate::line::{Line, write_line};
+use crate::pass::run_pass;
+use crate::status::Status;
+use crate::words::{Pass, pass_words};
+use cy_msg::Text;
+use cy_store::{Sink, SinkError, Store};
+use std::alloc::Global;
+
+const USAGE_LINE: &str = "cyber: the words are not of a known form\n";
+
+const MEMORY_LINE: &str = "cyber: out of memory\n";
+
+const OUTPUT_LINE: &str = "cyber: the output failed\n";
+
+const STORE_FAILED: &str = ": the store failed\n";
+
+const NOT_BUILT: &str = ": a form not built yet\n";
+
+// A status that is due, and the line that tells it.
+#[derive(Drop)]
+struct Due<'a> {
+    status: Status,
+    line: Line<'a>,
+}
+
+// What is due after a failure.
+fn due_after<'a>(pass: &Pass<'a>, failure: Failure) -> Due<'a>
+    ensures { IsDueAfter (words_of pass.now) failure result.status (bytes_of_line result.line) }
+{
+    match failure {
+        Failure::NotBuilt => Due {
+            status: Status::Refused,
+            line: Line::Named(pass.input, NOT_BUILT),
+        },
+        Failure::Store(file) => {
+            let name = match file {
+                File::Input => pass.input,
+                File::Output => pass.output,
+                File::Trace => pass.trace,
+            };
+            Due {
+                status: Status::StoreFault,
+                line: Line::Named(name, STORE_FAILED),
+            }
+        }
+        Failure::Memory => Due {
+            status: Status::Memory,
+            line: Line::Fixed(MEMORY_LINE),
+        },
+    }
+}
+
+// Does what the words ask for, and says which status is due.
+fn due_of<'a, S: Store>(alloc: Global, words: &'a [Text], store: &mut S) -> Due<'a>
+    ensures { IsDue words.now (S.shows store.old) (S.shows store.new) result.status (bytes_of_line result.line) }
+{
+    let Some(pass) = pass_words(words) else {
+        return Due {
+            status: Status::Usage,
+            line: Line::Fixed(USAGE_LINE),
+        };
+    };
+    match run_pass(alloc, &pass, store) {
+        Ok(line) => Due {
+            status: Status::Done,
+            line: Line::Made(line),
+        },
+        Err(failure) => due_after(&pass, failure),
+    }
+}
+
+// Writes a line as far as it can be written.
+fn try_to_tell<E: Sink>(err: &mut E, text: &str)
+    ensures { GetsFront (E.shows err.old) (E.shows err.new) text.now }
+{
+    let _told = err.write(text.as_bytes());
+}
+
+// Tells on `out` that all was done.
+fn tell_done<O: Sink, E: Sink>(line: &Line, out: &mut O, err: &mut E) -> Status
+    ensures { IsTold Status.Done (bytes_of_line line.now) record { out = O.shows out.old; err = E.shows err.old } record { out = O.shows out.new; err = E.shows err.new } result }
+{
+    match write_line(out, line) {
+        Ok(()) => Status::Done,
+        Err(SinkError::Memory) => Status::Memory,
+        Err(SinkError::Failed) => {
+            try_to_tell(err, OUTPUT_LINE);
+            Status::SinkFault
+        }
+    }
+}
+
+// Tells on `err` a status that is not Done.
+fn tell_failure<E: Sink>(status: Status, line: &Line, err: &mut E) -> Status
+    requires done { status ≢ Status.Done }
+    requires sink { status ≢ Status.SinkFault }
+    ensures { (out : SinkView) → IsTold status (bytes_of_line line.now) record { out = out; err = E.shows err.old } record { out = out; err = E.shows err.new } result }
+{
+    match write_line(err, line) {
+        Ok(()) => status,
+        Err(SinkError::Memory) => Status::Memory,
+        Err(SinkError::Failed) => Status::SinkFault,
+    }
+}
+
+// Tells a due status, and answers it or what befell the telling.
+fn tell<O: Sink, E: Sink>(due: &Due, out: &mut O, err: &mut E) -> Status
+    requires { due.now.status ≢ Status.SinkFault }
+    ensures { IsTold due.now.status (bytes_of_line due.now.line) record { out = O.shows out.old; err = E.shows err.old } record { out = O.shows out.new; err = E.shows err.new } result }
+{
+    match due.status {
+        Status::Done => tell_done(&due.line, out, err),
+        status => tell_failure(status, &due.line, err),
+    }
+}
+
+/// Does what the words ask for: `pass RECORD OUT TRACE FROM TO` plays a record through one component that passes each message
+/// of the channel FROM on to the channel TO, and writes a record of all messages and a trace of all calls.
+///
+/// The line that tells what was done goes to `out`, and one that tells of a refusal or a fault goes to `err`. The answer is
+/// one of the seven statuses; its contract says which is due, what stands in the store then, and how it is told.
+pub fn cyber_still<S: Store, O: Sink, E: Sink>(
+    alloc: Global,
+    words: &[Text],
+    store: &mut S,
+    out: &mut O,
+    err: &mut E,
+) -> Status
+    ensures answers { Answers words.now (S.shows store.old) (S.shows store.new) record { out = O.shows out.old; err = E.shows err.old } record { out = O.shows out.new; err = E.shows err.new } result }
+    ensures complete { IsComplete words.now (S.shows store.old) (S.shows store.new) record { out = O.shows out.old; err = E.shows err.old } record { out = O.shows out.new; err = E.shows err.new } result }
+{
+    let due = due_of(alloc, words, store);
+    tell(&due, out, err)
+}
