@@ -1,9 +1,9 @@
 -- The lengths of fields and sections.
 use Rattle.std.proofs.Common.{◌≡◌, ℕ, ◌+◌, ◌*◌, ◌-◌, ◌/◌, ◌^◌, ◌≤◌, ◌<◌, List, [], ◌∷◌, ◌++◌, ◌∙◌, sym, length, take, drop, replicate, arith, refl, ap, length-append, lit≤, lit<}
-use Rattle.std.proofs.lemmas.List.{length-replicate, drop-replicate, take_all, flat_map_more}
+use Rattle.std.proofs.lemmas.List.{length-drop, length-replicate, drop-replicate, take_all, flat_map_more}
 use Rattle.cy_wire.specs.Wire.{varint_bytes, field_u64, field_bytes}
 use Rattle.cy_wire.proofs.Varints.{varint_bytes-small, varint_bytes-large, length-varint_bytes}
-use Rattle.cy_section.specs.Section.{section, header_body, header_section, message_field, chunk_body, truth_number}
+use Rattle.cy_section.specs.Section.{section, head_bytes, header_body, header_section, message_field, chunk_body, truth_number}
 use Rattle.cy_section.specs.declared.types.SectionKind.{SectionKind}
 use Rattle.cy_section.specs.declared.types.SectionKind.TheVariants as kind
 use Rattle.cy_section.specs.declared.types.Header.{Header}
@@ -13,6 +13,15 @@ use Rattle.cy_section.specs.declared.types.BodyMessage.{BodyMessage}
 pub length-section : (k : SectionKind) (body : List ℕ) → length (section k body) ≡ 16 + length body
 unfolding section
 length-section k body = omega arith
+
+-- a head written over the 16 bytes in front of a body makes a section
+pub section_over : (k : SectionKind) (start : ℕ) (old head new : List ℕ) → head ≡ head_bytes k (length old - start - 16)
+    → new ≡ take start old ++ (head ++ drop (start + length head) old) → new ≡ take start old ++ section k (drop (start + 16) old)
+unfolding section
+section_over k start old head new is_head e =
+    let size : length old - start - 16 ≡ length (drop (start + 16) old) = omega (arith, length-drop (start + 16) old) in
+    let sixteen : length head ≡ 16 = rw is_head (omega arith) in
+    e ∙ rw (sixteen, is_head, size) refl
 
 -- a tag of a low field is one byte
 pub length-tag : (tag : ℕ) → tag < 128 → length (varint_bytes tag) ≡ 1

@@ -1,10 +1,13 @@
 // Writes a section's head, and a section whose body stands as bytes.
-ghost use Rattle.std.specs.Prelude.{◌≡◌, ◌++◌, OnOk, OnErr, IsOkUnless};
+ghost use Rattle.std.specs.Prelude.{◌≡◌, ◌+◌, ◌≤◌, ◌++◌, length, take, drop, OnOk, OnErr, IsOkUnless};
 ghost use Rattle.cy_section.specs.Section.{kind_number, head_bytes, section};
 
 use crate::{Piece, SectionError, SectionKind};
 use byteorder::{ByteOrder, LittleEndian};
 use cy_wire::WireError;
+
+/// The bytes of a head.
+const HEAD_SIZE: usize = 16;
 
 /// The number of a section's type.
 fn number_of(kind: SectionKind) -> u32
@@ -43,6 +46,24 @@ pub fn put_head(to: &mut Piece, kind: SectionKind, size: u64) -> Result<(), Sect
     ensures only_memory { IsOkUnless result SectionError.Memory }
 {
     to.append(&head_of(kind, size), &[])
+}
+
+/// Writes the head of a section of this kind over 16 bytes from a place on, in place: what stands behind them is its body.
+pub(crate) fn set_head_at(piece: &mut Piece, start: usize, kind: SectionKind)
+    requires { start + 16 ≤ length piece.old }
+    ensures { piece.new ≡ take start piece.old ++ section kind (drop (start + 16) piece.old) }
+{
+    let size = piece.bytes().len() - start - HEAD_SIZE;
+    piece.overwrite(start, &head_of(kind, size as u64));
+}
+
+/// Writes the head of a section of this kind over the first 16 bytes, in place: what stands behind them is the section's body.
+/// It takes no memory.
+pub fn set_head(piece: &mut Piece, kind: SectionKind)
+    requires { 16 ≤ length piece.old }
+    ensures { piece.new ≡ section kind (drop 16 piece.old) }
+{
+    set_head_at(piece, 0, kind);
 }
 
 /// Appends a section of this kind with this body. Want of memory changes nothing.

@@ -5,6 +5,7 @@ ghost use Rattle.cy_section.specs.Section.{section, optional_field, channel_cach
 ghost use Rattle.cy_section.specs.declared.types.SectionKind.TheVariants as kind;
 
 use crate::head::{no_memory, put_section};
+use crate::put::FIELD_ROOM;
 use crate::{
     ChannelCache, ChunkBodyCache, ChunkHeaderCache, Index, IndexEntry, Piece, SectionError,
     SectionKind,
@@ -46,7 +47,7 @@ fn chunk_header_cache(
     let Some(cache) = value else {
         return Ok(());
     };
-    let mut body = Writer::new(alloc);
+    let mut body = Writer::with_capacity(alloc, 4 * FIELD_ROOM)?;
     body.field_u64(1, cache.message_number)?;
     body.field_u64(2, cache.begin_time)?;
     body.field_u64(3, cache.end_time)?;

@@ -15,7 +15,7 @@ mod tests;
 mod types;
 
 pub use error::SectionError;
-pub use head::put_head;
+pub use head::{put_head, set_head};
 pub use index::put_index;
 pub use message::{message_size, put_chunk_body, put_message};
 pub use piece::Piece;

@@ -1,18 +1,25 @@
 // Writes messages, and the section of a chunk's messages.
-ghost use Rattle.std.specs.Prelude.{◌≡◌, ◌+◌, ◌≤◌, ◌++◌, length, IfOk, OnOk, OnErr, IsOkUnless};
+ghost use Rattle.std.specs.Prelude.{◌≡◌, ◌+◌, ◌≤◌, ◌++◌, length, take, vec_len, vec_capacity, OnOk, OnErr, IsOkUnless};
 ghost use Rattle.cy_wire.specs.Wire.{varint_bytes, field_u64, field_bytes};
 ghost use Rattle.cy_section.specs.Section.{section, message_field, chunk_body};
 ghost use Rattle.cy_section.specs.declared.types.SectionKind.TheVariants as kind;
 
-use crate::head::{no_memory, put_section};
+use crate::head::{put_head, set_head_at};
 use crate::{BodyMessage, ChunkBody, Piece, SectionError, SectionKind};
-use cy_wire::{WireError, Writer};
-use std::alloc::Global;
+use bytes::BufMut;
+use cy_wire::push_varint;
 
-/// The tag of a message in a chunk's body, and of the content in a message: wire type 2 in the low three bits.
+/// The tag of a message in a chunk's body, and those of a message's fields: the wire type in the low three bits.
 const MESSAGE_TAG: u64 = 8 + 2;
 
+const NAME_TAG: u64 = 8 + 2;
+
+const TIME_TAG: u64 = 2 * 8;
+
 const CONTENT_TAG: u64 = 3 * 8 + 2;
+
+/// Room for the numbers of a message: four tags, three lengths and the time, ten bytes for each.
+const MESSAGE_ROOM: usize = 80;
 
 /// How many bytes a number takes as a varint.
 #[tactic(auto, using(crate::proofs::Lengths::varint_lengths))]
@@ -31,7 +38,7 @@ fn varint_len(value: u64) -> u64
 /// How many bytes the fields of a message take.
 #[tactic(auto, using(crate::proofs::Lengths::message_fields))]
 fn fields_size(name: &str, time: u64, content: &[u8]) -> u64
-    requires { length name.now + length content.now ≤ 4611686018427387904 }
+    requires { length name.now + length content.now ≤ 9223372036854775808 }
     ensures { result ≡ length (field_bytes 1 name.now ++ field_u64 2 time ++ field_bytes 3 content.now) }
 {
     let name_len = name.len() as u64;
@@ -52,31 +59,67 @@ pub fn message_size(name: &str, time: u64, content: &[u8]) -> u64
     1 + varint_len(size) + size
 }
 
-/// The fields of a message up to its content's bytes.
-fn fields_front(alloc: Global, name: &str, time: u64, content: &[u8]) -> Result<Writer, WireError>
-    ensures ok { IfOk result (λ w. w ++ content.now ≡ field_bytes 1 name.now ++ field_u64 2 time ++ field_bytes 3 content.now) }
-    ensures only_memory { IsOkUnless result WireError.Memory }
+/// Appends bytes, for which there is room: that can't fail.
+fn push_bytes(out: &mut Vec<u8>, bytes: &[u8])
+    requires { vec_len out.old + length bytes.now ≤ vec_capacity out.old }
+    ensures items { out.new.items ≡ out.old.items ++ bytes.now }
+    ensures len { vec_len out.new ≡ vec_len out.old + length bytes.now }
+    ensures capacity { vec_capacity out.old ≤ vec_capacity out.new }
 {
-    let mut front = Writer::new(alloc);
-    front.field_bytes(1, name.as_bytes())?;
-    front.field_u64(2, time)?;
-    front.varint(CONTENT_TAG)?;
-    front.varint(content.len() as u64)?;
-    Ok(front)
+    let _ = out.put_slice(bytes);
 }
 
-/// A message as a chunk's body has it, up to its content's bytes.
-#[tactic(auto, unfolding(crate::specs::Section::message_field))]
-fn message_front(alloc: Global, name: &str, time: u64, content: &[u8]) -> Result<Writer, WireError>
-    ensures ok { IfOk result (λ w. w ++ content.now ≡ message_field record { channel_name = name.now; time = time; content = content.now }) }
-    ensures only_memory { IsOkUnless result WireError.Memory }
+/// Appends a field that holds bytes, for which there is room.
+fn push_field(out: &mut Vec<u8>, tag: u64, bytes: &[u8])
+    requires { vec_len out.old + length bytes.now + 20 ≤ vec_capacity out.old }
+    ensures items { out.new.items ≡ out.old.items ++ (varint_bytes tag ++ varint_bytes (length bytes.now) ++ bytes.now) }
+    ensures len { vec_len out.new ≤ vec_len out.old + length bytes.now + 20 }
+    ensures capacity { vec_capacity out.old ≤ vec_capacity out.new }
 {
-    let fields = fields_front(alloc, name, time, content)?;
-    let mut front = Writer::new(alloc);
-    front.varint(MESSAGE_TAG)?;
-    front.varint(fields.done().len() as u64 + content.len() as u64)?;
-    front.bytes(fields.done())?;
-    Ok(front)
+    push_varint(out, tag);
+    push_varint(out, bytes.len() as u64);
+    push_bytes(out, bytes);
+}
+
+/// Appends the fields of a message, for which there is room.
+fn push_fields(out: &mut Vec<u8>, name: &str, time: u64, content: &[u8])
+    requires { vec_len out.old + length name.now + length content.now + 60 ≤ vec_capacity out.old }
+    ensures items { out.new.items ≡ out.old.items ++ (field_bytes 1 name.now ++ field_u64 2 time ++ field_bytes 3 content.now) }
+{
+    push_field(out, NAME_TAG, name.as_bytes());
+    push_varint(out, TIME_TAG);
+    push_varint(out, time);
+    push_field(out, CONTENT_TAG, content);
+}
+
+/// Makes room for a message. The bytes stay, whatever the answer.
+fn reserve_message(out: &mut Vec<u8>, name: &str, content: &[u8]) -> Result<(), SectionError>
+    ensures same { out.new.items ≡ out.old.items }
+    ensures room { OnOk result (vec_len out.new + length name.now + length content.now + 80 ≤ vec_capacity out.new) }
+    ensures only_memory { IsOkUnless result SectionError.Memory }
+{
+    let bytes = name.len() + content.len();
+    out.reserve(bytes.saturating_add(MESSAGE_ROOM))?;
+    Ok(())
+}
+
+/// Appends a message as a chunk's body has it. Want of memory changes nothing.
+#[tactic(auto, unfolding(crate::specs::Section::message_field))]
+fn push_message(
+    out: &mut Vec<u8>,
+    name: &str,
+    time: u64,
+    content: &[u8],
+) -> Result<(), SectionError>
+    ensures ok { OnOk result (out.new.items ≡ out.old.items ++ message_field record { channel_name = name.now; time = time; content = content.now }) }
+    ensures err { OnErr result (out.new.items ≡ out.old.items) }
+    ensures only_memory { IsOkUnless result SectionError.Memory }
+{
+    reserve_message(out, name, content)?;
+    push_varint(out, MESSAGE_TAG);
+    push_varint(out, fields_size(name, time, content));
+    push_fields(out, name, time, content);
+    Ok(())
 }
 
 /// Appends a message as a chunk's body has it; its content is copied once. Want of memory changes nothing.
@@ -90,34 +133,35 @@ pub fn put_message(
     ensures err { OnErr result (to.new ≡ to.old) }
     ensures only_memory { IsOkUnless result SectionError.Memory }
 {
-    let front = message_front(to.alloc(), name, time, content).map_err(no_memory)?;
-    to.append(front.done(), content)
+    push_message(&mut to.bytes, name, time, content)
 }
 
-/// The body of a chunk with these messages.
-fn body_of(alloc: Global, messages: &[BodyMessage]) -> Result<Piece, SectionError>
-    ensures ok { IfOk result (λ p. p ≡ chunk_body messages.now) }
+/// Appends messages. After want of memory some of them may stand behind what was there before.
+fn put_messages(to: &mut Piece, messages: &[BodyMessage]) -> Result<(), SectionError>
+    ensures ok { OnOk result (to.new ≡ to.old ++ chunk_body messages.now) }
+    ensures err { OnErr result (take (length to.old) to.new ≡ to.old) }
     ensures only_memory { IsOkUnless result SectionError.Memory }
 {
-    let mut body = Piece::new(alloc);
     for message in messages {
         let content = message.content.as_slice();
-        put_message(
-            &mut body,
-            message.channel_name.as_str(),
-            message.time,
-            content,
-        )?;
+        put_message(to, message.channel_name.as_str(), message.time, content)?;
     }
-    Ok(body)
+    Ok(())
 }
 
-/// Appends the messages of a chunk; their contents are copied twice. Want of memory changes nothing.
+/// Appends the messages of a chunk; their contents are copied once. Want of memory changes nothing.
 pub fn put_chunk_body(to: &mut Piece, value: &ChunkBody) -> Result<(), SectionError>
     ensures ok { OnOk result (to.new ≡ to.old ++ section kind.ChunkBody (chunk_body value.now.messages)) }
     ensures err { OnErr result (to.new ≡ to.old) }
     ensures only_memory { IsOkUnless result SectionError.Memory }
 {
-    let body = body_of(to.alloc(), value.messages.as_slice())?;
-    put_section(to, SectionKind::ChunkBody, body.bytes())
+    let start = to.bytes().len();
+    // The size in the head is known once the messages stand behind it.
+    put_head(to, SectionKind::ChunkBody, 0)?;
+    if let Err(error) = put_messages(to, value.messages.as_slice()) {
+        to.truncate(start);
+        return Err(error);
+    }
+    set_head_at(to, start, SectionKind::ChunkBody);
+    Ok(())
 }

@@ -1,20 +1,30 @@
 // Bytes of sections, gathered in memory.
-ghost use Rattle.std.specs.Prelude.{◌≡◌, ◌++◌, [], List, ℕ, OnOk, OnErr, IsOkUnless};
+ghost use Rattle.std.specs.Prelude.{◌≡◌, ◌+◌, ◌≤◌, ◌++◌, [], List, ℕ, length, take, drop, OnOk, OnErr, IsOkUnless};
 
 use crate::SectionError;
+use bytes::BufMut;
 use std::alloc::Global;
 use std::marker::Model;
 
 /// Bytes of sections, gathered in memory: contracts see them as a list.
 #[derive(Drop)]
 pub struct Piece {
-    bytes: Vec<u8>,
+    pub(crate) bytes: Vec<u8>,
 }
 
 impl Model for Piece {
     ghost Value = { List ℕ };
 
     ghost view = { λ p. p.bytes.items };
+}
+
+/// Writes over the bytes from a place on.
+fn write_over(bytes: &mut [u8], start: usize, front: &[u8])
+    requires { start + length front.now ≤ length bytes.old }
+    ensures after { bytes.new ≡ take start bytes.old ++ (front.now ++ drop (start + length front.now) bytes.old) }
+    ensures len { length bytes.new ≡ length bytes.old }
+{
+    bytes[start..start + front.len()].copy_from_slice(front);
 }
 
 impl Piece {
@@ -49,7 +59,7 @@ impl Piece {
         bytes
     }
 
-    /// Makes room for so many further bytes. The bytes stay, whatever the answer.
+    /// Makes room for so many further bytes, and for more where the bytes have to move. The bytes stay, whatever the answer.
     pub fn reserve(&mut self, additional: usize) -> Result<(), SectionError>
         ensures same { self.new ≡ self.old }
         ensures only_memory { IsOkUnless result SectionError.Memory }
@@ -63,6 +73,21 @@ impl Piece {
         *self.bytes.allocator()
     }
 
+    /// Forgets the bytes from a place on.
+    pub(crate) fn truncate(&mut self, len: usize)
+        ensures { self.new ≡ take len self.old }
+    {
+        self.bytes.truncate(len);
+    }
+
+    /// Writes over the bytes from a place on.
+    pub(crate) fn overwrite(&mut self, start: usize, front: &[u8])
+        requires { start + length front.now ≤ length self.old }
+        ensures { self.new ≡ take start self.old ++ (front.now ++ drop (start + length front.now) self.old) }
+    {
+        write_over(self.bytes.as_mut_slice(), start, front);
+    }
+
     /// Appends two runs of bytes, one after the other. Want of memory changes nothing.
     pub(crate) fn append(&mut self, first: &[u8], second: &[u8]) -> Result<(), SectionError>
         ensures ok { OnOk result (self.new ≡ self.old ++ (first.now ++ second.now)) }
@@ -71,8 +96,8 @@ impl Piece {
     {
         // Room for both at once, so that a want of memory leaves nothing half written.
         self.bytes.reserve(first.len() + second.len())?;
-        self.bytes.extend_from_slice(first)?;
-        self.bytes.extend_from_slice(second)?;
+        self.bytes.put_slice(first)?;
+        self.bytes.put_slice(second)?;
         Ok(())
     }
 }

@@ -11,12 +11,15 @@ use std::alloc::Global;
 /// The bytes of the header's section, which zeros fill up.
 const HEADER_SIZE: usize = 2064;
 
+/// The room that a writer wants for a field that holds a number, in bytes.
+pub(crate) const FIELD_ROOM: usize = 20;
+
 #[tactic(auto, unfolding(crate::specs::Section::header_body))]
 fn header_fields(alloc: Global, value: &Header) -> Result<Writer, WireError>
     ensures ok { IfOk result (λ w. w ≡ header_body value.now) }
     ensures only_memory { IsOkUnless result WireError.Memory }
 {
-    let mut body = Writer::new(alloc);
+    let mut body = Writer::with_capacity(alloc, 15 * FIELD_ROOM)?;
     body.field_u64(1, u64::from(value.major_version))?;
     body.field_u64(2, u64::from(value.minor_version))?;
     body.field_u64(3, u64::from(value.compress))?;
@@ -40,7 +43,7 @@ fn chunk_header_fields(alloc: Global, value: &ChunkHeader) -> Result<Writer, Wir
     ensures ok { IfOk result (λ w. w ≡ chunk_header_body value.now) }
     ensures only_memory { IsOkUnless result WireError.Memory }
 {
-    let mut body = Writer::new(alloc);
+    let mut body = Writer::with_capacity(alloc, 4 * FIELD_ROOM)?;
     body.field_u64(1, value.begin_time)?;
     body.field_u64(2, value.end_time)?;
     body.field_u64(3, value.message_number)?;

@@ -14,8 +14,8 @@ mod zigzag;
 pub use error::WireError;
 pub use front::front_varint;
 pub use laws::{reads_back, takes_one_to_ten_bytes, unzigzag_undoes};
-pub use whole::whole_bytes;
-pub use writer::Writer;
+pub use whole::{put_whole, whole_bytes};
+pub use writer::{Writer, push_varint};
 pub use zigzag::{zigzag_number, zigzag_value};
 
 #[cfg(test)]

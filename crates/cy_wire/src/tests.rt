@@ -1,5 +1,5 @@
 // Vectors of the Protocol Buffers documentation ("Encoding"), and numbers at the ends of their ranges.
-use crate::{WireError, Writer, front_varint, whole_bytes, zigzag_number, zigzag_value};
+use crate::{WireError, Writer, front_varint, put_whole, whole_bytes, zigzag_number, zigzag_value};
 use std::test::Fail;
 
 #[test]
@@ -79,6 +79,7 @@ fn signed_numbers(rt: HostRuntime) {
 
 #[test]
 fn wholes(rt: HostRuntime) -> Result<(), Fail> {
+    let mut writer = Writer::with_capacity(rt.alloc(), 11)?;
     for (value, bytes) in [
         (7, b"\x08\x0e".as_slice()),
         (-980, b"\x08\xa7\x0f".as_slice()),
@@ -92,6 +93,9 @@ fn wholes(rt: HostRuntime) -> Result<(), Fail> {
         ),
     ] {
         assert_eq!(rt; whole_bytes(rt.alloc(), value)?.done(), bytes, "{value}");
+        writer.clear();
+        put_whole(&mut writer, value)?;
+        assert_eq!(rt; writer.done(), bytes, "{value}");
     }
     Ok(())
 }

@@ -1,5 +1,5 @@
 // Writes numbers and fields.
-ghost use Rattle.std.specs.Prelude.{◌≡◌, ◌++◌, ◌<◌, ◌≤◌, ◌^◌, ◌+◌, [], List, ℕ, length, OnOk, OnErr, IsOkUnless, vec_len, vec_capacity};
+ghost use Rattle.std.specs.Prelude.{◌≡◌, ◌++◌, ◌<◌, ◌≤◌, ◌^◌, ◌+◌, [], List, ℕ, length, IfOk, OnOk, OnErr, IsOkUnless, vec_len, vec_capacity};
 ghost use Rattle.cy_wire.specs.Wire.{varint_bytes, field_u64, field_bytes};
 
 use crate::WireError;
@@ -21,9 +21,9 @@ impl Model for Writer {
     ghost view = { λ w. w.out.items };
 }
 
-// Appends a number, for which there is room.
+/// Appends a number in as few bytes as it takes, where there is room for the ten of the longest.
 #[tactic(auto, using(crate::proofs::Varints::varint_steps))]
-fn push_varint(out: &mut Vec<u8>, value: u64)
+pub fn push_varint(out: &mut Vec<u8>, value: u64)
     requires { vec_len out.old + 10 ≤ vec_capacity out.old }
     ensures items { out.new.items ≡ out.old.items ++ varint_bytes value }
     ensures longer { vec_len out.new ≤ vec_len out.old + 10 }
@@ -45,6 +45,22 @@ impl Writer {
         Writer {
             out: Vec::new(alloc),
         }
+    }
+
+    /// No bytes yet, and room for so many.
+    pub fn with_capacity(alloc: Global, bytes: usize) -> Result<Self, WireError>
+        ensures ok { IfOk result (λ w. w ≡ []) }
+        ensures only_memory { IsOkUnless result WireError.Memory }
+    {
+        let out = Vec::with_capacity(alloc, bytes)?;
+        Ok(Writer { out })
+    }
+
+    /// Forgets the bytes and keeps their room.
+    pub fn clear(&mut self)
+        ensures { self.new ≡ [] }
+    {
+        self.out.clear();
     }
 
     /// Appends a number in as few bytes as it takes. Want of memory changes nothing.
