@@ -1,0 +1,5 @@
+pub mod Chunks
+pub mod Puts
+pub mod Closing
+pub mod Standing
+pub mod Cut
