@@ -1,1 +1,11 @@
+pub mod CutLaws
 pub mod Ends
+pub mod Fronts
+pub mod LineLaws
+pub mod NameLaws
+pub mod NumeralLaws
+pub mod Order
+pub mod PartLaws
+pub mod ReadingSteps
+pub mod Readers
+pub mod RunTexts

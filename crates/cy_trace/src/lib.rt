@@ -1,13 +1,25 @@
-//! The text of a trace.
+//! The text of a trace, written and read.
 //!
-//! `specs/TraceText` has the text of any run.
+//! `specs/TraceText` has the text of any run, and `specs/TraceForm` the text of any trace.
 #![tactic(auto)]
 
+mod building;
+mod call;
 mod error;
+mod fault;
+mod laws;
+mod line;
 mod lines;
+mod name;
+mod read;
 #[cfg(test)]
 mod tests;
 mod text;
+mod trace;
+mod word;
 
 pub use error::TraceError;
+pub use laws::{first_bad_is_one, lines_read_back, runs_are_traces, texts_tell_traces};
+pub use read::read_trace;
 pub use text::trace_text;
+pub use trace::{TapeEntry, Trace, TraceCall, TraceComponent, TraceOutput};

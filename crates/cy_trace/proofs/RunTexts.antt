@@ -1,0 +1,93 @@
+-- What is written of a run, line by line.
+use Rattle.std.proofs.Common.{ℕ, ◌≡◌, ◌+◌, Bool, true, cond, List, [], ◌∷◌, ◌++◌, length, map, codes, is_some, Option, Some, None, refl, ap, sym, ◌∙◌, append_assoc}
+use Rattle.std.proofs.lemmas.List.{append-nil}
+use Rattle.std.proofs.lemmas.List.Concat.{flat_map-append}
+use Rattle.std.specs.List.{flat_map}
+use Rattle.std.specs.Fmt.{decimal}
+use Rattle.cy_msg.specs.Quoted.{quoted}
+use Rattle.cy_msg.specs.Tuple.{messages_of}
+use Rattle.cy_msg.specs.declared.token.Token.{Token}
+use Rattle.cy_fuse.specs.Fusion.{Arrival}
+use Rattle.cy_comp.specs.declared.call.Call.{Call}
+use Rattle.cy_comp.specs.declared.call.Out.{Out}
+use Rattle.cy_comp.specs.declared.plan.Plan.{Plan}
+use Rattle.cy_comp.specs.Calls.{cursor_after, last_outcome, is_last}
+use Rattle.wake_core.specs.Run.{Run, routes_of, played_of}
+use Rattle.cy_trace.specs.TraceText.{title, played_line, roles_text, out_text, call_line, call_lines, end_line, component_text, components_text, tape_line, trace_text}
+use Rattle.cy_trace.specs.TraceForm.{line_text, whole_line, lines_of_component, text_of_trace, numbers_text, digits_text, output_text}
+use Rattle.cy_trace.specs.TraceOfRun.{output_of_call, trace_call, trace_calls, trace_component, trace_components, tape_entry, trace_of_run}
+use Rattle.cy_trace.specs.declared.line.Line.TheVariants as line
+
+roles_same : (arrivals : List Arrival) → roles_text arrivals ≡ digits_text (map (λ (a : Arrival). a.0) arrivals)
+roles_same [] = refl
+roles_same (a ∷ rest) = ap (λ (ds : List ℕ). (48 + a.0) ∷ ds) (digits_same rest)
+  where
+    digits_same : (xs : List Arrival) → map (λ (b : Arrival). 48 + b.0) xs ≡ map (λ n. 48 + n) (map (λ (b : Arrival). b.0) xs)
+    digits_same [] = refl
+    digits_same (x ∷ xs) = ap (λ (ds : List ℕ). (48 + x.0) ∷ ds) (digits_same xs)
+
+numbers_same : (ms : List Token) → flat_map (λ (m : Token). codes " " ++ decimal m.seq) ms ≡ numbers_text (map (λ (m : Token). m.seq) ms)
+numbers_same [] = refl
+numbers_same (m ∷ ms) = ap (λ (xs : List ℕ). codes " " ++ decimal m.seq ++ xs) (numbers_same ms)
+
+out_same : (before : ℕ) (o : Option Out) → out_text before o ≡ output_text (output_of_call before o)
+out_same before None = refl
+out_same before (Some out) = refl
+
+call_same : (before : ℕ) (x : Call) → call_line before x ≡ whole_line (line.Call (trace_call before x))
+unfolding line_text
+call_same before x =
+    ap (λ (ns : List ℕ). codes "call " ++ decimal x.position ++ codes "/" ++ decimal x.tail ++ ns ++ codes " " ++ out_text before x.out ++ codes "\n") (numbers_same (messages_of x.tuple))
+    ∙ ap (λ (o : List ℕ). codes "call " ++ decimal x.position ++ codes "/" ++ decimal x.tail ++ numbers_text (map (λ (m : Token). m.seq) (messages_of x.tuple)) ++ codes " " ++ o ++ codes "\n") (out_same before x.out)
+
+calls_same : (before : ℕ) (calls : List Call) → call_lines before calls ≡ flat_map whole_line (map line.Call (trace_calls before calls))
+calls_same before [] = refl
+calls_same before (x ∷ rest) =
+    ap (λ (xs : List ℕ). xs ++ call_lines (before + cond (is_some x.out) 1 0) rest) (call_same before x)
+    ∙ ap (λ (xs : List ℕ). whole_line (line.Call (trace_call before x)) ++ xs) (calls_same (before + cond (is_some x.out) 1 0) rest)
+
+end_same : (finished : Bool) (next : ℕ) → end_line finished next ≡ whole_line (line.End finished next)
+unfolding line_text
+end_same finished next = refl
+
+joined_component : (front name newline middle roles calls end : List ℕ)
+    → front ++ name ++ newline ++ middle ++ roles ++ newline ++ calls ++ end ≡ (front ++ name ++ newline) ++ ((middle ++ roles ++ newline) ++ (calls ++ end))
+joined_component front name newline middle roles calls end = simp append_assoc
+
+component_same : (p : Plan) (arrivals : List Arrival) (calls : List Call) → component_text p arrivals calls ≡ flat_map whole_line (lines_of_component (trace_component p arrivals calls))
+unfolding line_text
+component_same p arrivals calls =
+    let end = end_line (is_last (last_outcome p.kind calls)) (cursor_after calls) in
+    joined_component (codes "component ") (quoted true p.name) (codes "\n") (codes "roles ") (roles_text arrivals) (call_lines 0 calls) end
+    ∙ ap (λ (rs : List ℕ). (codes "component " ++ quoted true p.name ++ 10 ∷ []) ++ ((codes "roles " ++ rs ++ 10 ∷ []) ++ (call_lines 0 calls ++ end))) (roles_same arrivals)
+    ∙ ap (λ (xs : List ℕ). (codes "component " ++ quoted true p.name ++ 10 ∷ []) ++ ((codes "roles " ++ digits_text (map (λ (a : Arrival). a.0) arrivals) ++ 10 ∷ []) ++ xs)) (
+    ap (λ (xs : List ℕ). xs ++ end) (calls_same 0 calls)
+    ∙ ap (λ (xs : List ℕ). flat_map whole_line (map line.Call (trace_calls 0 calls)) ++ xs) (sym (append-nil end))
+    ∙ sym (flat_map-append whole_line (map line.Call (trace_calls 0 calls)) (line.End (is_last (last_outcome p.kind calls)) (cursor_after calls) ∷ [])))
+
+components_same : (w : Run) (c : ℕ) (plans : List Plan) → components_text w c plans ≡ flat_map whole_line (flat_map lines_of_component (trace_components w c plans))
+components_same w c [] = refl
+components_same w c (p ∷ rest) =
+    ap (λ (xs : List ℕ). xs ++ components_text w (c + 1) rest) (component_same p (w.arrivals c) (w.calls c))
+    ∙ ap (λ (xs : List ℕ). flat_map whole_line (lines_of_component (trace_component p (w.arrivals c) (w.calls c))) ++ xs) (components_same w (c + 1) rest)
+    ∙ sym (flat_map-append whole_line (lines_of_component (trace_component p (w.arrivals c) (w.calls c))) (flat_map lines_of_component (trace_components w (c + 1) rest)))
+
+tape_same : (names : List (List ℕ)) (tape : List Token) → flat_map (tape_line names) tape ≡ flat_map whole_line (map line.Tape (map (tape_entry names) tape))
+unfolding line_text
+tape_same names [] = refl
+tape_same names (t ∷ rest) = ap (λ (xs : List ℕ). tape_line names t ++ xs) (tape_same names rest)
+
+head_same : (played shadowed : ℕ) (rest : List ℕ) → title ++ played_line played shadowed ++ rest ≡ whole_line line.Title ++ (whole_line (line.Played played shadowed) ++ rest)
+unfolding line_text
+head_same played shadowed rest = append_assoc title (played_line played shadowed) rest
+
+pub run_text : (names : List (List ℕ)) (plans : List Plan) (shadowed : ℕ) (w : Run) → trace_text names plans shadowed w ≡ text_of_trace (trace_of_run names plans shadowed w)
+unfolding trace_text text_of_trace
+run_text names plans shadowed w =
+    let played = length (played_of (routes_of plans) w.tape) in
+    append_assoc (title ++ played_line played shadowed) (components_text w 0 plans) (flat_map (tape_line names) w.tape)
+    ∙ head_same played shadowed (components_text w 0 plans ++ flat_map (tape_line names) w.tape)
+    ∙ ap (λ (xs : List ℕ). whole_line line.Title ++ (whole_line (line.Played played shadowed) ++ xs)) (
+    ap (λ (xs : List ℕ). xs ++ flat_map (tape_line names) w.tape) (components_same w 0 plans)
+    ∙ ap (λ (xs : List ℕ). flat_map whole_line (flat_map lines_of_component (trace_components w 0 plans)) ++ xs) (tape_same names w.tape)
+    ∙ sym (flat_map-append whole_line (flat_map lines_of_component (trace_components w 0 plans)) (map line.Tape (map (tape_entry names) w.tape))))

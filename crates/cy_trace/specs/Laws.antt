@@ -1,0 +1,34 @@
+-- Laws on the texts of traces.
+use Rattle.std.specs.Prelude.{ℕ, ◌≡◌, List, Some}
+use Rattle.cy_comp.specs.declared.plan.Plan.{Plan}
+use Rattle.wake_core.specs.Run.{Run}
+use Rattle.cy_trace.specs.declared.line.Line.{Line}
+use Rattle.cy_trace.specs.declared.trace.Trace.{Trace}
+use Rattle.cy_trace.specs.LineReading.{line_of}
+use Rattle.cy_trace.specs.TraceForm.{IsFirstBad, IsLine, IsTrace, IsTraceText, line_text, text_of_trace}
+use Rattle.cy_trace.specs.TraceOfRun.{trace_of_run}
+use Rattle.cy_trace.specs.TraceText.{trace_text}
+
+-- A line that is written is read back.
+abbrev pub LinesReadBack : Type 0
+LinesReadBack = (line : Line) → IsLine line → line_of (line_text line) ≡ Some line
+
+-- Bytes that are read as a line are its text.
+abbrev pub LinesAreSpelled : Type 0
+LinesAreSpelled = (bytes : List ℕ) (line : Line) → line_of bytes ≡ Some line → IsLine line × (bytes ≡ line_text line)
+
+-- No two traces have one text.
+abbrev pub TextsTellTraces : Type 0
+TextsTellTraces = (t u : Trace) → IsTrace t → IsTrace u → text_of_trace t ≡ text_of_trace u → t ≡ u
+
+-- A text has no two first bad lines,
+abbrev pub FirstBadIsOne : Type 0
+FirstBadIsOne = (text : List ℕ) (m n : ℕ) → IsFirstBad text m → IsFirstBad text n → m ≡ n
+
+-- and one of the form has none.
+abbrev pub TextsOfTracesAreGood : Type 0
+TextsOfTracesAreGood = (text : List ℕ) (n : ℕ) → IsFirstBad text n → ¬ (IsTraceText text)
+
+-- What is written of a run is the text of its trace.
+abbrev pub RunsAreTraces : Type 0
+RunsAreTraces = (names : List (List ℕ)) (plans : List Plan) (shadowed : ℕ) (w : Run) → trace_text names plans shadowed w ≡ text_of_trace (trace_of_run names plans shadowed w)

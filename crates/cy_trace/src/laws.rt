@@ -1,0 +1,24 @@
+// What holds of the texts of traces.
+ghost use Rattle.cy_trace.specs.Laws.{FirstBadIsOne, LinesAreSpelled, LinesReadBack, RunsAreTraces, TextsOfTracesAreGood, TextsTellTraces};
+
+/// A line that is written is read back, and whatever is read is just how a line is written.
+pub fn lines_read_back()
+    ensures back { LinesReadBack }
+    ensures spelled { LinesAreSpelled }
+{}
+
+/// No two traces have one text.
+pub fn texts_tell_traces()
+    ensures { TextsTellTraces }
+{}
+
+/// A text has at most one first bad line, and the text of a trace has none.
+pub fn first_bad_is_one()
+    ensures one { FirstBadIsOne }
+    ensures good { TextsOfTracesAreGood }
+{}
+
+/// What `trace_text` writes of a run is the text of its trace.
+pub fn runs_are_traces()
+    ensures { RunsAreTraces }
+{}

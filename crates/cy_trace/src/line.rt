@@ -1,0 +1,135 @@
+// The lines of a trace, each as a value.
+ghost use Rattle.std.specs.Prelude.{◌≡◌, option_map};
+ghost use Rattle.std.specs.Str.{bytes_eq};
+ghost use Rattle.cy_trace.specs.LineReading.{Gives, call, ended, line_by, line_of, pair, pair_last, played, state, taped, title};
+
+use crate::call::{call, roles};
+use crate::fault::Fault;
+use crate::name::name;
+use crate::word::{behind, cut, cut_last, is_word, long, short};
+use crate::{TapeEntry, TraceCall};
+use cy_msg::{Items, Text};
+use std::alloc::Global;
+
+/// A line of a trace.
+#[derive(Drop)]
+pub(crate) enum Line {
+    /// The first line.
+    Title,
+    /// How many messages were played, and how many were shadowed.
+    Played(u32, u32),
+    /// A component by its name.
+    Component(Text),
+    /// The role of each arrival.
+    Roles(Items<u8>),
+    /// A call.
+    Call(TraceCall),
+    /// Whether the component has ended, and where its next fetch would begin.
+    End(bool, u64),
+    /// A message of the tape.
+    Tape(TapeEntry),
+}
+
+/// The first line, of which this is the form's version.
+#[tactic(auto, unfolding(crate::specs::LineReading::title))]
+fn title(rest: &[u8]) -> Option<Line>
+    ensures { result ≡ title rest.now }
+{
+    if is_word(rest, b"1") {
+        Some(Line::Title)
+    } else {
+        None
+    }
+}
+
+/// How many messages were played and shadowed.
+#[tactic(auto, unfolding(crate::specs::LineReading::played))]
+fn played(rest: &[u8]) -> Option<Line>
+    ensures { result ≡ played rest.now }
+{
+    let (played, shadowed) = cut(rest, b' ')?;
+    let played = short(played)?;
+    let shadowed = short(behind(shadowed, b"shadowed ")?)?;
+    Some(Line::Played(played, shadowed))
+}
+
+/// Whether a component has ended.
+fn state(word: &[u8]) -> Option<bool>
+    ensures { result ≡ state word.now }
+{
+    if is_word(word, b"FINISHED") {
+        Some(true)
+    } else if is_word(word, b"DATA_WAIT") {
+        Some(false)
+    } else {
+        None
+    }
+}
+
+/// The end of a component.
+#[tactic(auto, unfolding(crate::specs::LineReading::ended))]
+fn ended(rest: &[u8]) -> Option<Line>
+    ensures { result ≡ ended rest.now }
+{
+    let (word, next) = cut(rest, b' ')?;
+    let finished = state(word)?;
+    let next = long(behind(next, b"next ")?)?;
+    Some(Line::End(finished, next))
+}
+
+/// A message of the tape.
+#[tactic(auto, unfolding(crate::specs::LineReading::taped))]
+fn taped(alloc: Global, rest: &[u8]) -> Result<TapeEntry, Fault>
+    ensures { Gives result (taped rest.now) }
+{
+    let Some((channel, seq)) = cut_last(rest, b' ') else {
+        return Err(Fault::Bad);
+    };
+    let Some(seq) = short(seq) else {
+        return Err(Fault::Bad);
+    };
+    let name = name(alloc, channel)?;
+    Ok(TapeEntry { name, seq })
+}
+
+/// The value of a reading that needs no memory.
+fn found(line: Option<Line>) -> Result<Line, Fault>
+    ensures { Gives result line }
+{
+    line.ok_or(Fault::Bad)
+}
+
+/// The line with a first word and what follows it.
+#[tactic(auto, unfolding(crate::specs::LineReading::line_by))]
+fn line_by(alloc: Global, word: &[u8], rest: &[u8]) -> Result<Line, Fault>
+    ensures { Gives result (line_by word.now rest.now) }
+{
+    if is_word(word, b"call") {
+        Ok(Line::Call(call(alloc, rest)?))
+    } else if is_word(word, b"tape") {
+        Ok(Line::Tape(taped(alloc, rest)?))
+    } else if is_word(word, b"component") {
+        Ok(Line::Component(name(alloc, rest)?))
+    } else if is_word(word, b"roles") {
+        Ok(Line::Roles(roles(alloc, rest)?))
+    } else if is_word(word, b"end") {
+        found(ended(rest))
+    } else if is_word(word, b"played") {
+        found(played(rest))
+    } else if is_word(word, b"cyber-trace") {
+        found(title(rest))
+    } else {
+        Err(Fault::Bad)
+    }
+}
+
+/// The line that the bytes are, without a newline.
+#[tactic(auto, unfolding(crate::specs::LineReading::line_of))]
+pub(crate) fn line_of(alloc: Global, bytes: &[u8]) -> Result<Line, Fault>
+    ensures { Gives result (line_of bytes.now) }
+{
+    match cut(bytes, b' ') {
+        Some((word, rest)) => line_by(alloc, word, rest),
+        None => Err(Fault::Bad),
+    }
+}

@@ -1,0 +1,59 @@
+// A trace, as its lines have it.
+use cy_msg::{Items, Text};
+
+/// What a call put out.
+#[derive(Clone, Copy, Debug, PartialEq, Eq)]
+pub struct TraceOutput {
+    /// Its number among the outputs of its component.
+    pub seq: u32,
+    /// In nanoseconds.
+    pub time: u64,
+    /// The whole number that its content stands for, where it stands for one.
+    pub value: Option<i64>,
+}
+
+/// A call of a component.
+#[derive(Drop)]
+pub struct TraceCall {
+    /// The number of its tuple among those that were fused, from 1.
+    pub position: u64,
+    /// How many tuples had been fused then.
+    pub tail: u64,
+    /// The numbers of its one to four messages, in the order of the readers.
+    pub seqs: Items<u32>,
+    /// What it put out, if anything.
+    pub out: Option<TraceOutput>,
+}
+
+/// What came of a component.
+#[derive(Drop)]
+pub struct TraceComponent {
+    pub name: Text,
+    /// The role of each arrival, from 0 to 9.
+    pub roles: Items<u8>,
+    pub calls: Items<TraceCall>,
+    /// Whether it ended by itself.
+    pub finished: bool,
+    /// Where its next fetch would begin.
+    pub next: u64,
+}
+
+/// A message of the tape.
+#[derive(Debug, Drop)]
+pub struct TapeEntry {
+    /// The name of its channel.
+    pub name: Text,
+    /// Its number among the messages of its channel.
+    pub seq: u32,
+}
+
+/// A trace, line by line.
+#[derive(Drop)]
+pub struct Trace {
+    /// How many messages were played.
+    pub played: u32,
+    /// How many of them were shadowed.
+    pub shadowed: u32,
+    pub components: Items<TraceComponent>,
+    pub tape: Items<TapeEntry>,
+}
