@@ -1,7 +1,7 @@
 -- Fields line by line.
-use Rattle.std.proofs.Common.{ℕ, ◌≡◌, ◌+◌, ◌<◌, List, [], ◌∷◌, ◌++◌, length, take, get_or, codes, refl, ap, sym, ◌∙◌, append_assoc}
+use Rattle.std.proofs.Common.{ℕ, ◌≡◌, ◌+◌, ◌<◌, List, [], ◌∷◌, ◌++◌, length, take, get_or, codes, ap, sym, ◌∙◌, append_assoc}
 use Rattle.std.proofs.lemmas.List.{take_more}
-use Rattle.cy_text.specs.Fields.{Fields, And}
+use Rattle.cy_text.specs.Fields.{And}
 use Rattle.cy_text.specs.Entries.{fields_of, held_of}
 use Rattle.cy_text.specs.Printed.{fields_text, held_text}
 use Rattle.cy_text.specs.declared.tree.Entry.{Entry}

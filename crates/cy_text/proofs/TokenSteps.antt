@@ -1,6 +1,5 @@
 -- Tokens one by one.
-use Rattle.std.proofs.Common.{ℕ, zero, suc, ◌≡◌, zero-add, ◌+◌, ◌-◌, ◌<◌, ◌≤◌, ◌==◌, ◌||◌, List, [], ◌∷◌, length, length-drop, drop, drop-drop, get_or, get_or-drop, not, Bool, true, false, IsTrue, Option, Some, None, Result, Ok, Err, refl, ap, sym, ◌∙◌, arith}
-use Rattle.std.proofs.lemmas.Grind.{common_steps}
+use Rattle.std.proofs.Common.{ℕ, zero, suc, ◌≡◌, zero-add, ◌+◌, ◌-◌, ◌<◌, ◌≤◌, ◌==◌, ◌||◌, List, [], ◌∷◌, length, length-drop, drop, drop-drop, get_or, get_or-drop, not, Bool, true, false, IsTrue, Result, Ok, Err, refl, ap, sym, ◌∙◌, arith}
 use Rattle.std.proofs.lemmas.Bool.{false≢true}
 use Rattle.std.proofs.lemmas.List.{drop_more}
 use Rattle.std.proofs.Math.ListN.{drop_of_length-le}
@@ -29,7 +28,7 @@ passed_over at (suc passed) (b ∷ bytes) h =
 front : (place : ℕ) (bytes : List ℕ) → place < length bytes → drop place bytes ≡ get_or bytes place 0 ∷ drop (place + 1) bytes
 front place bytes h = drop_more bytes place 0 h
 
-blank_front : (at b : ℕ) (bytes : List ℕ) → is_blank b ≡ true → tokens_from at 0 (b ∷ bytes) ≡ tokens_from (at + 1) 0 bytes
+pub blank_front : (at b : ℕ) (bytes : List ℕ) → is_blank b ≡ true → tokens_from at 0 (b ∷ bytes) ≡ tokens_from (at + 1) 0 bytes
 unfolding tokens_from
 blank_front at b bytes h = rw h refl
 
@@ -60,7 +59,7 @@ after_comment at place len bytes there mark counted fits =
     ∙ ap (tokens_from (at + place) 0) (sym (front place bytes there))
 
 -- What the tokens at a byte are, by the token there.
-pub with_token : ℕ → List ℕ → Result Lexeme Fault → Tokens
+unfoldable pub with_token : ℕ → List ℕ → Result Lexeme Fault → Tokens
 with_token at bytes (Ok found) = Next found (tokens_from (at + 1) (found.span.end - (at + 1)) bytes)
 with_token at bytes (Err fault) = Faulty fault
 
@@ -69,7 +68,7 @@ not_either false false h = (refl, refl)
 not_either false true h = absurd (false≢true h)
 not_either true y h = absurd (false≢true h)
 
-token_front : (at b : ℕ) (bytes : List ℕ) → begins_token b ≡ true → tokens_from at 0 (b ∷ bytes) ≡ with_token at bytes (token_at at (b ∷ bytes))
+pub token_front : (at b : ℕ) (bytes : List ℕ) → begins_token b ≡ true → tokens_from at 0 (b ∷ bytes) ≡ with_token at bytes (token_at at (b ∷ bytes))
 unfolding tokens_from with_token
 token_front at b bytes h =
     let neither = not_either (is_blank b) (b == 35) h in

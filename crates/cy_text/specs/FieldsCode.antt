@@ -1,8 +1,8 @@
 -- A code for fields, by which proofs tell them apart.
-use Rattle.std.specs.Prelude.{ℕ, zero, suc, ◌≡◌, Bool, List, refl}
+use Rattle.std.specs.Prelude.{ℕ, suc, ◌≡◌, Bool, List, refl}
 use Rattle.std.specs.Coded.{Coded, coded×, coded_ℕ, coded_bool, coded_list}
 use base.Stored.{Gv, gnil, gnum, gcons}
-use Rattle.std.proofs.Common.{ap, subst, arith}
+use Rattle.std.proofs.Common.{ap, arith}
 use Rattle.cy_text.specs.Fields.{Fields, Held, Nothing, And, Whole, Literal, Word, Quote, Message}
 use Rattle.cy_text.specs.declared.tree.Span.{Span}
 

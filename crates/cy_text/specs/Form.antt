@@ -6,7 +6,6 @@ use Rattle.cy_text.specs.Strings.{and_then}
 use Rattle.cy_text.specs.Tokens.{Tokens, Next, End, Faulty, tokens_of}
 use Rattle.cy_text.specs.declared.token.Bracket.{Bracket}
 use Rattle.cy_text.specs.declared.token.Bracket.TheVariants.{Brace, Angle}
-use Rattle.cy_text.specs.declared.token.Token.{Token}
 use Rattle.cy_text.specs.declared.token.Token.TheVariants as token
 use Rattle.cy_text.specs.declared.token.Lexeme.{Lexeme}
 use Rattle.cy_text.specs.declared.expected.Place.{Place}

@@ -12,3 +12,7 @@ pub mod Form
 pub mod Views
 pub mod Places
 pub mod Printed
+pub mod Grammar
+pub mod Laws
+pub mod Printable
+pub mod Spans

@@ -1,5 +1,5 @@
 -- What is read, without where it lies in memory.
-use Rattle.std.specs.Prelude.{List, reverse}
+use Rattle.std.specs.Prelude.{reverse}
 use Rattle.cy_text.specs.Form.{Building, Reading}
 use Rattle.cy_text.specs.declared.building.Building as code
 use Rattle.cy_text.specs.declared.building.Reading as code_reading

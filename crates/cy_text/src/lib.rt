@@ -1,4 +1,7 @@
 //! The text form of Protocol Buffers: a text as a tree of fields, and a tree as a text.
+//!
+//! `specs/Grammar` says which texts are of the form and which fields they say, `specs/Form` how that is read token by token,
+//! `specs/Tokens` what the tokens are, `specs/Printed` what is printed, and `specs/Laws` what holds of all texts.
 #![tactic(auto)]
 
 mod building;
@@ -7,6 +10,7 @@ mod escape;
 mod expected;
 mod fault;
 mod gap;
+mod laws;
 mod letters;
 mod number;
 mod printing;
@@ -18,6 +22,9 @@ mod tree;
 mod value;
 
 pub use error::{BadKind, TextError};
+pub use laws::{
+    form_is_read, printed_is_read, read_is_form, refused_at_first_fault, spans_are_in_order,
+};
 pub use printing::print;
 pub use text::parse;
 pub use tree::{Entry, Span, Tree, Value};

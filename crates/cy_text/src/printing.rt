@@ -100,7 +100,8 @@ fn push_value(
     }
 }
 
-/// The printed form of fields. Its only error is want of memory.
+/// The printed form of fields. Its only error is want of memory. It calls itself as deep as messages stand in one another: in a tree
+/// that `parse` gave at most 64 times, and in any other as deep as its maker made it.
 pub fn print(alloc: Global, tree: &Tree) -> Result<Bytes, TextError>
     ensures text { IfOk result (λ bytes. bytes ≡ printed tree.now) }
     ensures only_memory { IsOkUnless result text_error.Memory }

@@ -1,5 +1,4 @@
-use Rattle.std.proofs.Common.{◌≡◌, ◌<◌, ◌≤◌, ◌+◌, ◌*◌, ◌^◌, length, length-drop, drop, get_or, arith, rules, ◌∙◌}
-use Rattle.std.proofs.lemmas.Grind.{common_steps}
+use Rattle.std.proofs.Common.{◌≡◌, ◌<◌, ◌≤◌, ◌+◌, ◌*◌, ◌^◌, length, length-drop, drop, get_or, arith, ◌∙◌}
 use Rattle.cy_text.specs.Letters.{digit_of}
 use Rattle.cy_text.proofs.Values.{exceeds_sum, exceeds_product, from_not_below, last_digit}
 use Rattle.cy_text.proofs.number.value_of.Goals as goal

@@ -1,4 +1,4 @@
-use Rattle.std.proofs.Common.{◌≡◌, ◌++◌, List, ℕ, ap, ◌∙◌}
+use Rattle.std.proofs.Common.{◌++◌, List, ℕ, ap, ◌∙◌}
 use Rattle.cy_text.proofs.Lines.{line_printed}
 use Rattle.cy_text.proofs.printing.+print.Goals as goal
 

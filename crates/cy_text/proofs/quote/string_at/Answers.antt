@@ -1,6 +1,5 @@
-use Rattle.std.proofs.Common.{arith, rules}
+use Rattle.std.proofs.Common.{arith}
 use Rattle.std.proofs.lemmas.Result.{err_from_is_err_and}
-use Rattle.cy_text.specs.Strings.{string_at}
 use Rattle.cy_text.proofs.Strings as steps
 use Rattle.cy_text.proofs.quote.string_at.Goals as goal
 

@@ -1,4 +1,4 @@
-use Rattle.std.proofs.Common.{ℕ, ◌≡◌, ◌<◌, ◌≤◌, ◌+◌, ◌-◌, length, drop, IsTrue, slice_index}
+use Rattle.std.proofs.Common.{◌≡◌, ◌<◌, ◌≤◌, ◌-◌, length, drop, IsTrue, slice_index}
 use Rattle.cy_text.specs.Form.{read, read_text}
 use Rattle.cy_text.specs.Tokens.{begins_token, tokens_from}
 use Rattle.cy_text.specs.Views.{view_reading}
