@@ -1,8 +1,7 @@
 -- Which bytes are an input, by what is read from them.
-use Rattle.std.proofs.Common.{◌≡◌, ◌∙◌, ℕ, ◌+◌, ◌≤◌, List, [], ◌∷◌, length, map, Some, None, refl, ap, sym, subst, arith, Option, option_map, slice_get, IsUtf8, Bool, false, true, bytes_eq, Decides}
+use Rattle.std.proofs.Common.{◌≡◌, ◌∙◌, ℕ, ◌+◌, ◌≤◌, List, [], ◌∷◌, length, map, Some, None, refl, ap, sym, subst, arith, Option, option_map, slice_get, IsUtf8, Bool, false, true, Decides}
 use Rattle.std.proofs.lemmas.Option.{slice_get-map}
 use Rattle.std.proofs.lemmas.Bool.Decides.{not_from_Decides}
-use Rattle.std.proofs.lemmas.Slice.Eq.{bytes_eq-Decides}
 use Rattle.cy_section.specs.declared.types.BodyMessage.{BodyMessage}
 use Rattle.cy_section.specs.Section.{chunk_body}
 use Rattle.cy_section.specs.Chunks.{are_chunks}
@@ -10,7 +9,10 @@ use Rattle.cyber_cli.specs.Words.{PassWords}
 use Rattle.cyber_cli.specs.Candidate.{candidate_of}
 use Rattle.cyber_cli.specs.Timed.{IsTimed}
 use Rattle.cyber_cli.specs.Input.{IsInput, input_channel, input_messages, message_of_sample}
-use Rattle.cyber_cli.specs.InputText.{input_text}
+use Rattle.cyber_cli.specs.InputText.{input_text, spelled}
+use Rattle.cy_section.specs.RecordText.{record_bytes}
+use Rattle.cyber_cli.proofs.Cut.{one_chunk_given}
+use Rattle.cyber_cli.proofs.InputRecord.{length-spelled}
 use Rattle.cyber_cli.specs.declared.input.Input.{Input}
 use Rattle.cyber_cli.specs.declared.input.Sample.{Sample}
 use Rattle.cyber_cli.proofs.OneChunk.{one_chunk, near_in_chunk}
@@ -50,22 +52,26 @@ one_chunk_of p (first ∷ rest) timed short =
     let found = from_sample p (slice_get (first ∷ rest) n) m (sym (slice_get-map (message_of_sample p) (first ∷ rest) n) ∙ e) in
     omega (arith, timed.near n first found.0 refl found.1.0, found.1.1))
 
+-- the record of an input, as it is written, has them in one chunk
+spelled_text : (p : PassWords) (i : Input) → IsTimed i.samples → length (chunk_body (input_messages p i)) ≤ 200000000 → spelled p i ≡ input_text p i
+spelled_text p i timed short =
+    ap (record_bytes (input_channel p i ∷ [])) (one_chunk_given p.input (input_channel p i ∷ []) (input_messages p i) (one_chunk_of p i.samples timed short))
+
 -- what is read, with good times, is the input if its text is the bytes
-pub is_input : (p : PassWords) (bytes text : List ℕ) (i : Input) → length p.to ≤ 255 → length bytes ≤ 1048576 → IsUtf8 i.message_type
-    → candidate_of bytes ≡ Some i → IsTimed i.samples
-    → text ≡ input_text p i → bytes_eq text bytes ≡ true → IsInput p bytes i
-is_input p bytes text i name short utf8 found timed made equal =
-    let e : bytes ≡ input_text p i = sym ((bytes_eq-Decides text bytes).0 equal) ∙ made in
-    let least = length-record_bytes-one (input_channel p i) (input_messages p i) in
+pub is_input : (p : PassWords) (bytes : List ℕ) (i : Input) (r : Bool) → length bytes ≤ 1048576 → IsUtf8 i.message_type
+    → candidate_of bytes ≡ Some i → IsTimed i.samples → Decides r (bytes ≡ spelled p i) → r ≡ true → IsInput p bytes i
+is_input p bytes i r short utf8 found timed tells equal =
+    let same : bytes ≡ spelled p i = tells.0 equal in
+    let least = length-spelled p.input (input_channel p i ∷ []) (input_messages p i) in
+    let e : bytes ≡ input_text p i = same ∙ spelled_text p i timed (omega (arith, least, ap length same)) in
     record {
-      short_name = name;
       short = short;
       text_type = utf8;
       some = timed.some;
       ordered = timed.ordered;
       times = times_found bytes i found;
       values = values_found bytes i found;
-      one_chunk = one_chunk_of p i.samples timed (omega (arith, least, ap length e));
+      one_chunk = one_chunk_of p i.samples timed (omega (arith, least, ap length same));
       text = e;
     }
 
@@ -91,8 +97,9 @@ other_read p bytes j e refused i h =
     let Q : Input → Type 0 = λ k. bytes ≡ input_text p k in
     refused (subst P same (timed_input p bytes i h)) (subst Q same h.text)
 
--- the text that was compared is another one
-pub other_text : (p : PassWords) (bytes text : List ℕ) (j : Input) → text ≡ input_text p j → bytes_eq text bytes ≡ false
-    → bytes ≡ input_text p j → ⊥
-other_text p bytes text j made differs e =
-    not_from_Decides (bytes_eq text bytes) (bytes_eq-Decides text bytes) differs (made ∙ sym e)
+-- the record that was compared is another one
+pub other_text : (p : PassWords) (bytes : List ℕ) (j : Input) (r : Bool) → length bytes ≤ 1048576 → Decides r (bytes ≡ spelled p j) → r ≡ false
+    → IsTimed j.samples → bytes ≡ input_text p j → ⊥
+other_text p bytes j r short tells differs timed e =
+    let least = length-record_bytes-one (input_channel p j) (input_messages p j) in
+    not_from_Decides r tells differs (e ∙ sym (spelled_text p j timed (omega (arith, least, ap length e))))

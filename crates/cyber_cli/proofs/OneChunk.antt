@@ -46,11 +46,11 @@ pub one_chunk : (first : BodyMessage) (rest : List BodyMessage) → length (chun
 one_chunk first rest short near =
     rw (all_taken-behind first [] rest short (λ (n : ℕ) (m : BodyMessage) e. near (suc n) m e)) refl
 
-left_true : (a b : Bool) → (a && b) ≡ true → a ≡ true
+pub left_true : (a b : Bool) → (a && b) ≡ true → a ≡ true
 left_true true b h = refl
 left_true false b h = h
 
-right_true : (a b : Bool) → (a && b) ≡ true → b ≡ true
+pub right_true : (a b : Bool) → (a && b) ≡ true → b ≡ true
 right_true true b h = h
 right_true false b h = cc
 

@@ -1,17 +1,17 @@
 -- The messages that are written: each that was played, followed by the one that passes it on.
-use Rattle.std.proofs.Common.{ℕ, zero, suc, ◌+◌, ◌*◌, ◌≤◌, ◌≡◌, ◌∙◌, Bool, true, false, List, [], ◌∷◌, ◌++◌, length, map, refl, sym, ap, arith, length-append, lit≤}
+use Rattle.std.proofs.Common.{ℕ, suc, ◌+◌, ◌*◌, ◌≤◌, ◌≡◌, ◌∙◌, Bool, true, false, List, [], ◌∷◌, ◌++◌, length, map, refl, sym, ap, arith, length-append}
 use Rattle.std.specs.Prelude.{Some, slice_get, if◌then◌else◌}
 use Rattle.std.specs.Str.{bytes_eq}
-use Rattle.std.proofs.lemmas.Option.{slice_get-map, none-some, same_Some}
+use Rattle.std.proofs.lemmas.Option.{slice_get-map}
 use Rattle.std.proofs.lemmas.Slice.Eq.{bytes_eq-Decides}
 use Rattle.std.specs.Option.{option_map}
 use Rattle.std.specs.List.{list_any}
-use Rattle.cy_wire.specs.Wire.{field_u64, field_bytes, whole_content, zigzag}
+use Rattle.cy_wire.specs.Wire.{field_u64, field_bytes, whole_content}
 use Rattle.cy_wire.proofs.Facts.{some-varint_bytes}
 use Rattle.cy_section.specs.declared.types.BodyMessage.{BodyMessage}
 use Rattle.cy_section.specs.Section.{chunk_body, message_field}
 use Rattle.cy_section.specs.RecordText.{names_after}
-use Rattle.cy_section.proofs.Lengths.{length-message_field, length-of-message_field, length-message_fields, length-field_u64}
+use Rattle.cy_section.proofs.Lengths.{length-of-message_field, length-message_fields}
 use Rattle.wake_core.specs.Pass.{passed_tape_after}
 use Rattle.cyber_cli.specs.declared.input.Sample.{Sample}
 use Rattle.cyber_cli.specs.Words.{PassWords}
@@ -88,34 +88,3 @@ pub least_body : (messages : List BodyMessage) → 8 * length messages ≤ lengt
 least_body [] = omega arith
 least_body (m ∷ rest) =
     omega (arith, least_field m, least_body rest, length-append (message_field m) (chunk_body rest))
-
--- and one of a whole number at most 75 more than its name
-length-sent : (name : List ℕ) (s : Sample) → length (message_field (sent name s)) ≤ length name + 75
-length-sent name s =
-    omega (arith, length-message_field (sent name s), length-field_u64 1 (zigzag s.value) (lit≤ tt))
-
--- what is passed on to a short name lengthens the body little
-pub length-passes : (from to : List ℕ) (samples : List Sample) → length to ≤ 255
-    → length (chunk_body (passes from to samples)) ≤ length (chunk_body (map (sent from) samples)) + 330 * length samples
-length-passes from to [] short = omega arith
-length-passes from to (s ∷ rest) short =
-    omega (
-      arith,
-      length-passes from to rest short,
-      length-sent to s,
-      length-append (message_field (sent from s)) (chunk_body (map (sent from) rest)),
-      length-append (message_field (sent from s)) (chunk_body (sent to s ∷ passes from to rest)),
-      length-append (message_field (sent to s)) (chunk_body (passes from to rest)),
-    )
-
--- their times are those of the samples
-pub times_passed : (from to : List ℕ) (samples : List Sample) (latest : ℕ)
-    → ((n : ℕ) (s : Sample) → slice_get samples n ≡ Some s → s.time ≤ latest)
-    → (n : ℕ) (m : BodyMessage) → slice_get (passes from to samples) n ≡ Some m → m.time ≤ latest
-times_passed from to [] latest near n m e = absurd (none-some m e)
-times_passed from to (s ∷ rest) latest near zero m e =
-    omega (arith, near 0 s refl, ap (λ (x : BodyMessage). x.time) (same_Some (sent from s) m e))
-times_passed from to (s ∷ rest) latest near (suc zero) m e =
-    omega (arith, near 0 s refl, ap (λ (x : BodyMessage). x.time) (same_Some (sent to s) m e))
-times_passed from to (s ∷ rest) latest near (suc (suc n)) m e =
-    times_passed from to rest latest (λ (k : ℕ) (t : Sample) h. near (suc k) t h) n m e

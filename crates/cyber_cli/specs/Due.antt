@@ -6,6 +6,7 @@ use Rattle.cy_store.specs.Files.{Files, Holds}
 use Rattle.cy_store.specs.Write.{Write, name_of}
 use Rattle.cy_store.specs.Store.{StoreView, SinkView, StoreRose, Rose}
 use Rattle.cy_section.specs.declared.types.BodyMessage.{BodyMessage}
+use Rattle.cy_writer.specs.Writes.{StopsAt, StopsBefore}
 use Rattle.wake_core.specs.Run.{Run}
 use Rattle.cyber_cli.specs.declared.status.Status.{Status}
 use Rattle.cyber_cli.specs.declared.status.Status.TheVariants.{Done, Refused, Usage, StoreFault, SinkFault, Limit, Memory}
@@ -13,7 +14,7 @@ use Rattle.cyber_cli.specs.Words.{PassWords, pass_of}
 use Rattle.cyber_cli.specs.declared.input.Input.{Input}
 use Rattle.cyber_cli.specs.Input.{IsInput}
 use Rattle.cyber_cli.specs.Tape.{IsPassed, pass_record, pass_trace, pass_line}
-use Rattle.cyber_cli.specs.Writes.{pass_writes, StopsAt, StopsBefore}
+use Rattle.cyber_cli.specs.Writes.{pass_writes}
 use Rattle.cyber_cli.specs.Lines.{usage_line, memory_line, output_line, store_line, not_built_line}
 
 -- The record file is accepted, and what `pass` makes of it.

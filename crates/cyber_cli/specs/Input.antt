@@ -20,12 +20,9 @@ message_of_sample p s = record { channel_name = p.from; time = s.time; content =
 abbrev pub input_messages : PassWords → Input → List BodyMessage
 input_messages p i = map (message_of_sample p) i.samples
 
--- The most bytes of such a record, and of the name of the channel that is written.
+-- The most bytes of such a record.
 abbrev pub longest_input : ℕ
 longest_input = 1048576
-
-abbrev pub longest_to : ℕ
-longest_to = 255
 
 -- The times of the messages never fall.
 abbrev pub IsOrdered : List Sample → Type 0
@@ -34,7 +31,6 @@ IsOrdered samples = (n : ℕ) (s t : Sample) → slice_get samples n ≡ Some s 
 -- These bytes are a record that `pass` plays today: the record text of whole numbers on the channel that is read, at least one,
 -- with times that never fall, in one chunk, in a file that isn't long.
 pub record IsInput (p : PassWords) (bytes : List ℕ) (i : Input) : Type 0 where
-  pub short_name : length p.to ≤ longest_to
   pub short : length bytes ≤ longest_input
   pub text_type : IsUtf8 i.message_type
   pub some : 1 ≤ length i.samples

@@ -8,11 +8,10 @@ pub mod Due
 pub mod Views
 pub mod Line
 pub mod Made
-pub mod Parts
 pub mod Written
+pub mod Recorded
 pub mod Candidate
-pub mod Pieces
 pub mod Play
 pub mod InputText
 pub mod Timed
-pub mod Chunk
+pub mod Status

@@ -1,8 +1,7 @@
 -- What the program's own types stand for.
-use Rattle.std.specs.Prelude.{ℕ, ◌≡◌, List, map, Result, Ok, Err}
+use Rattle.std.specs.Prelude.{ℕ, ◌≡◌, List, Result, Ok, Err}
 use Rattle.cy_store.specs.Store.{StoreView}
 use Rattle.cyber_cli.specs.declared.words.Pass.{Pass}
-use Rattle.cyber_cli.specs.declared.put.Put.{Put}
 use Rattle.cyber_cli.specs.declared.failure.File.{File}
 use Rattle.cyber_cli.specs.declared.failure.File.TheVariants as file
 use Rattle.cyber_cli.specs.declared.failure.Failure.{Failure}
@@ -15,10 +14,6 @@ use Rattle.cyber_cli.specs.Due.{IsDone, IsRefused, IsFaulted, IsStarved}
 
 abbrev pub words_of : Pass → PassWords
 words_of p = record { input = p.input.now; output = p.output.now; trace = p.trace.now; from = p.from.now; to = p.to.now }
-
--- Pieces with their places.
-abbrev pub pieces_of : List Put → List (ℕ × List ℕ)
-pieces_of puts = map (λ (put : Put). (put.at, put.bytes)) puts
 
 abbrev pub name_of_file : PassWords → File → List ℕ
 name_of_file p file.Input = p.input

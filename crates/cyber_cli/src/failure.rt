@@ -41,3 +41,10 @@ impl<T: Drop> From<AllocFailed<T>> for Failure {
         Failure::Memory
     }
 }
+
+/// A call that fails for want of memory alone.
+pub fn no_memory<E: Drop>(_: E) -> Failure
+    ensures { result ≡ Failure.Memory }
+{
+    Failure::Memory
+}

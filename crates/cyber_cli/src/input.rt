@@ -1,28 +1,31 @@
 // The records that `pass` plays.
-ghost use Rattle.std.specs.Prelude.{◌≡◌, ◌∷◌, map, Some, IfOk, IfSome, IfNone, MatchOption, IsOkUnless};
+ghost use Rattle.std.specs.Prelude.{◌≡◌, ◌∷◌, Some, IfOk, OnOk, IfSome, IfNone, MatchOption, IsOkUnless};
 ghost use Rattle.std.specs.Bool.{Decides};
+ghost use Rattle.std.specs.Option.{option_map};
 ghost use Rattle.std.specs.Str.{IsUtf8};
+ghost use Rattle.cy_store.specs.Write.{after_writes};
 ghost use Rattle.cyber_cli.specs.Candidate.{candidate_of};
-ghost use Rattle.cyber_cli.specs.Chunk.{IsChunkOf};
-ghost use Rattle.cyber_cli.specs.Input.{IsInput, input_channel, message_of_sample};
-ghost use Rattle.cyber_cli.specs.InputText.{input_text};
+ghost use Rattle.cyber_cli.specs.Input.{IsInput};
+ghost use Rattle.cyber_cli.specs.InputText.{spelled, spelled_writes};
 ghost use Rattle.cyber_cli.specs.Timed.{IsTimed};
+ghost use Rattle.cy_wire.specs.Wire.{whole_content};
 ghost use Rattle.cyber_cli.specs.Views.{words_of};
+ghost use Rattle.cyber_cli.specs.Written.{written};
 
 use crate::candidate::{candidate_in, samples_in};
-use crate::chunk::Chunk;
-use crate::failure::Failure;
-use crate::parts::no_memory;
-use crate::record::{CHUNK_INTERVAL, record_text};
+use crate::failure::{Failure, no_memory};
+use crate::recording::Recording;
 use crate::words::Pass;
 use cy_msg::{Bytes, Items, Text};
-use cy_section::Channel;
+use cy_store::{MemStore, Store};
+use cy_writer::WriteError;
 use std::alloc::Global;
 
-/// The most bytes of a record, and of the name of the channel that is written.
-const LONGEST_INPUT: usize = 1_048_576;
+/// The most bytes of a record that is played.
+pub const LONGEST_INPUT: u64 = 1_048_576;
 
-const LONGEST_TO: usize = 255;
+/// The longest time from a chunk's first message to another, in nanoseconds.
+const CHUNK_INTERVAL: u64 = 20_000_000_000;
 
 /// A message of a whole number.
 #[derive(Clone, Copy, Debug, PartialEq, Eq)]
@@ -41,39 +44,40 @@ pub struct Input {
     pub samples: Items<Sample>,
 }
 
-// The channel of an input.
-fn channel_of(alloc: Global, pass: &Pass, input: &Input) -> Result<Channel, Failure>
-    ensures channel { IfOk result (λ c. c ≡ input_channel (words_of pass.now) input.now) }
-    ensures only_memory { IsOkUnless result Failure.Memory }
+// The number of a message, whose written form is the content.
+fn number_in(sample: &Sample) -> Option<i64>
+    ensures { written result ≡ whole_content sample.now.value }
 {
-    Ok(Channel {
-        name: Text::new(alloc, pass.from).map_err(no_memory)?,
-        message_type: Text::new(alloc, input.message_type.as_str()).map_err(no_memory)?,
-        proto_desc: Bytes::new(alloc, input.proto_desc.as_slice()).map_err(no_memory)?,
-    })
+    Some(sample.value)
 }
 
-// The chunk of an input's messages.
-fn chunk_of(alloc: Global, pass: &Pass, samples: &[Sample]) -> Result<Chunk, Failure>
-    ensures messages { IfOk result (λ c. IsChunkOf c (map (message_of_sample (words_of pass.now)) samples.now)) }
-    ensures only_memory { IsOkUnless result Failure.Memory }
+// Writes the record of an input.
+fn write_input<S: Store>(
+    alloc: Global,
+    store: &mut S,
+    pass: &Pass,
+    input: &Input,
+) -> Result<(), WriteError>
+    ensures done { OnOk result ((S.shows store.new).files ≡ option_map (after_writes (spelled_writes (words_of pass.now) input.now)) (S.shows store.old).files) }
 {
-    let mut chunk = Chunk::new(alloc);
-    for sample in samples {
-        chunk.add(alloc, pass.from, sample.time, Some(sample.value))?;
+    let mut recording = Recording::start(alloc, store, pass.input, pass, input)?;
+    for sample in input.samples.as_slice() {
+        recording.add(alloc, store, 0, sample.time, number_in(sample))?;
     }
-    Ok(chunk)
+    recording.close(alloc, store)
 }
 
-// The record that holds an input in one chunk.
-fn text_of(alloc: Global, pass: &Pass, input: &Input) -> Result<Vec<u8>, Failure>
-    ensures text { IfOk result (λ v. v.items ≡ input_text (words_of pass.now) input.now) }
+// Whether bytes are the record of an input. That is written in memory, and compared.
+fn is_record_of(alloc: Global, pass: &Pass, input: &Input, bytes: &[u8]) -> Result<bool, Failure>
+    ensures decides { IfOk result (λ r. Decides r (bytes.now ≡ spelled (words_of pass.now) input.now)) }
     ensures only_memory { IsOkUnless result Failure.Memory }
 {
-    let channel = channel_of(alloc, pass, input)?;
-    let samples = input.samples.as_slice();
-    let chunk = chunk_of(alloc, pass, samples)?;
-    record_text(alloc, &[channel], &[samples.len() as u64], &chunk)
+    let mut store = MemStore::new(alloc);
+    write_input(alloc, &mut store, pass, input).map_err(no_memory)?;
+    match store.file(pass.input) {
+        Some(text) => Ok(text == bytes),
+        None => Err(Failure::Memory),
+    }
 }
 
 // Whether no time of the further messages falls, or is too far behind the first one's.
@@ -129,7 +133,7 @@ pub fn read_input(alloc: Global, pass: &Pass, bytes: &[u8]) -> Result<Option<Inp
     ensures accepted { IfOk result (λ r. MatchOption r ((i : Input) → IsInput (words_of pass.now) bytes.now i → ⊥) (λ i. IsInput (words_of pass.now) bytes.now i)) }
     ensures only_memory { IsOkUnless result Failure.Memory }
 {
-    if pass.to.len() > LONGEST_TO || bytes.len() > LONGEST_INPUT {
+    if bytes.len() as u64 > LONGEST_INPUT {
         return Ok(None);
     }
     let Some(input) = input_in(alloc, bytes)? else {
@@ -139,8 +143,7 @@ pub fn read_input(alloc: Global, pass: &Pass, bytes: &[u8]) -> Result<Option<Inp
         return Ok(None);
     }
     // Whatever stands in the places of its parts, the bytes are a record if they are the very record of that.
-    let text = text_of(alloc, pass, &input)?;
-    if text.as_slice() == bytes {
+    if is_record_of(alloc, pass, &input, bytes)? {
         Ok(Some(input))
     } else {
         Ok(None)

@@ -5,7 +5,7 @@
 #![tactic(auto)]
 
 mod candidate;
-mod chunk;
+mod channel;
 mod failure;
 #[cfg(test)]
 mod faults;
@@ -13,15 +13,11 @@ mod input;
 mod line;
 mod list;
 mod make;
-mod messages;
 mod one;
-mod parts;
 mod pass;
-mod pieces;
 mod play;
-mod put;
 mod read;
-mod record;
+mod recording;
 #[cfg(test)]
 mod samples;
 mod status;

@@ -5,18 +5,20 @@ ghost use Rattle.cy_store.specs.Write.{Write, name_of, after_writes};
 ghost use Rattle.cy_store.specs.Store.{StoreRose};
 ghost use Rattle.cyber_cli.specs.declared.failure.File.{File};
 ghost use Rattle.cyber_cli.specs.Words.{is_pass};
-ghost use Rattle.cyber_cli.specs.Writes.{FitsInTurn, StopsAt, StopsBefore};
-ghost use Rattle.cyber_cli.specs.Views.{words_of, name_of_file, pieces_of, PassEnds};
-ghost use Rattle.cyber_cli.specs.Made.{writes_of};
+ghost use Rattle.cy_writer.specs.Writes.{StopsAt, StopsBefore};
+ghost use Rattle.cyber_cli.specs.Views.{words_of, name_of_file, PassEnds};
+ghost use Rattle.cyber_cli.specs.Made.{IsMade, writes_of};
 
 use crate::failure::{Failure, File};
-use crate::input::read_input;
+use crate::input::{Input, read_input};
 use crate::make::{Made, make};
 use crate::read::read_file;
+use crate::recording::write_record;
 use crate::words::Pass;
-use crate::write::put_file;
+use crate::write::write_file;
 use cy_msg::Bytes;
 use cy_store::{Store, StoreError};
+use cy_writer::WriteError;
 use std::alloc::Global;
 
 // A store's error at a file.
@@ -30,22 +32,40 @@ fn failed_at(file: File, error: StoreError) -> Failure
     }
 }
 
+// A failure to write a file.
+fn unwritten(file: File, error: WriteError) -> Failure
+    ensures failed { (error ≡ WriteError.Memory → ⊥) → result ≡ Failure.Store file }
+    ensures memory { error ≡ WriteError.Memory → result ≡ Failure.Memory }
+{
+    match error {
+        WriteError::Failed | WriteError::Broken => Failure::Store(file),
+        WriteError::Memory => Failure::Memory,
+    }
+}
+
 // Writes the record, and then the trace.
-fn write_both<S: Store>(store: &mut S, pass: &Pass, made: &Made) -> Result<(), Failure>
-    requires record { FitsInTurn (pieces_of made.now.record) }
-    requires trace { FitsInTurn (pieces_of made.now.trace) }
-    ensures done { OnOk result ((S.shows store.new).files ≡ option_map (after_writes (writes_of (words_of pass.now) made.now)) (S.shows store.old).files) }
+fn write_both<S: Store>(
+    alloc: Global,
+    store: &mut S,
+    pass: &Pass,
+    input: &Input,
+    made: &Made,
+) -> Result<(), Failure>
+    requires words { is_pass (words_of pass.now) ≡ true }
+    requires made { IsMade (words_of pass.now) input.now made.now }
+    ensures done { OnOk result ((S.shows store.new).files ≡ option_map (after_writes (writes_of (words_of pass.now) input.now made.now)) (S.shows store.old).files) }
     ensures failed { (f : File) → IsErrOf result (Failure.Store f) → ((w : Write) × (name_of w ≡ name_of_file (words_of pass.now) f)
-        × StopsAt (writes_of (words_of pass.now) made.now) w (S.shows store.old).files (S.shows store.new).files) }
-    ensures memory { IsErrOf result Failure.Memory → StopsBefore (writes_of (words_of pass.now) made.now) (S.shows store.old).files (S.shows store.new).files }
+        × StopsAt (writes_of (words_of pass.now) input.now made.now) w (S.shows store.old).files (S.shows store.new).files) }
+    ensures memory { IsErrOf result Failure.Memory → StopsBefore (writes_of (words_of pass.now) input.now made.now) (S.shows store.old).files (S.shows store.new).files }
     ensures built { IsErrOf result Failure.NotBuilt → ⊥ }
     ensures causes { (f : File) (any : List ℕ) → IsErrOf result (Failure.Store f) → StoreRose (S.shows store.old) (S.shows store.new) any }
 {
-    if let Err(error) = put_file(store, pass.output, made.record.as_slice()) {
-        return Err(failed_at(File::Output, error));
+    let tape = made.world.tape_list();
+    if let Err(error) = write_record(alloc, store, pass, input, tape) {
+        return Err(unwritten(File::Output, error));
     }
-    if let Err(error) = put_file(store, pass.trace, made.trace.as_slice()) {
-        return Err(failed_at(File::Trace, error));
+    if let Err(error) = write_file(store, pass.trace, made.trace.as_slice()) {
+        return Err(unwritten(File::Trace, error));
     }
     Ok(())
 }
@@ -64,8 +84,10 @@ pub fn run_pass<S: Store>(alloc: Global, pass: &Pass, store: &mut S) -> Result<B
     let Some(input) = read_input(alloc, pass, bytes.as_slice())? else {
         return Err(Failure::NotBuilt);
     };
+    // What was read is let go before the run takes its memory.
+    drop(bytes);
     let made = make(alloc, pass, &input)?;
-    write_both(store, pass, &made)?;
+    write_both(alloc, store, pass, &input, &made)?;
     let Made { line, .. } = made;
     Ok(line)
 }

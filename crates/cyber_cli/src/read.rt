@@ -4,12 +4,10 @@ ghost use Rattle.cy_store.specs.Files.{Holds};
 ghost use Rattle.cyber_cli.specs.Input.{longest_input};
 ghost use Rattle.cyber_cli.specs.Causes.{HasCauses};
 
+use crate::input::LONGEST_INPUT;
 use cy_msg::Bytes;
 use cy_store::{Store, StoreError};
 use std::alloc::Global;
-
-/// The most bytes of a record that `pass` plays.
-const LONGEST_INPUT: u64 = 1_048_576;
 
 // Reads a file from its front until the buffer is full or the file ends, and says how many bytes it read. It reads at least
 // once, so that a name that is not there fails for an empty buffer too.

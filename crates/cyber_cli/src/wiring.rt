@@ -7,10 +7,9 @@ ghost use Rattle.cyber_cli.specs.Words.{is_pass};
 ghost use Rattle.cyber_cli.specs.Views.{words_of};
 ghost use Rattle.cyber_cli.specs.Tape.{pass_names as names_of_pass, pass_plan as plan_of_pass, pass_scan};
 
-use crate::failure::Failure;
+use crate::failure::{Failure, no_memory};
 use crate::input::Input;
 use crate::one::one;
-use crate::parts::no_memory;
 use crate::words::Pass;
 use cy_comp::{Kind, Plan, Wiring};
 use cy_msg::{ContextPlan, Names, NamesError, Placement, Text};

@@ -1,5 +1,4 @@
 use Rattle.std.proofs.Common.{arith}
-use Rattle.wake_core.specs.WorldOf.{world_of}
 use Rattle.cyber_cli.specs.Views.{words_of}
 use Rattle.cyber_cli.proofs.Playing.{timed}
 use Rattle.cyber_cli.proofs.Making.{few, is_made}
@@ -15,8 +14,6 @@ played_world-requires-clause-timed c = timed c.args.input.now.samples c.requires
 
 pub returns-clause-made : goal.returns-clause-made
 returns-clause-made c =
-    is_made (words_of c.args.pass.now) c.args.input.now c.requires.input.0 (world_of c.in_ok-world.world) c.in_ok-wiring.wiring.names
-    c.in_ok-wiring.wiring.plans c.tape_list.result.now
-    record { «record» = c.in_ok-record_of.field-0; trace = c.in_ok-trace_of.field-0; line = c.in_ok-told_of.field-0 }
-    c.requires.words c.requires.input.1 c.in_ok-world.ensures.played c.in_ok-wiring.ensures.names c.in_ok-wiring.ensures.plans
-    c.tape_list.ensures.tape c.in_ok-record_of.ensures.pieces c.in_ok-trace_of.ensures.piece c.in_ok-told_of.ensures.line
+    is_made (words_of c.args.pass.now) c.args.input.now c.in_ok-wiring.wiring.names c.in_ok-wiring.wiring.plans
+    record { world = c.in_ok-world.world; trace = c.in_ok-trace.trace; line = c.in_ok-line.line }
+    c.in_ok-world.ensures.played c.in_ok-wiring.ensures.names c.in_ok-wiring.ensures.plans c.in_ok-trace.ensures.trace c.in_ok-line.ensures.line

@@ -2,11 +2,8 @@ use Rattle.std.proofs.Common.{ℕ, List, subst}
 use Rattle.std.proofs.lemmas.Result.{err_from_is_err_and}
 use Rattle.cyber_cli.specs.Input.{IsInput}
 use Rattle.cyber_cli.specs.Views.{words_of}
-use Rattle.cyber_cli.proofs.PassExits.{fits-made, done, stopped}
+use Rattle.cyber_cli.proofs.PassExits.{done, stopped}
 use Rattle.cyber_cli.proofs.pass.run_pass.Goals as goal
-
-pub write_both-requires-clause-record : goal.write_both-requires-clause-record
-write_both-requires-clause-record g c = fits-made (words_of c.args.pass.now) c.in-Some.input c.in_ok-made.made c.in_ok-made.ensures.made
 
 pub returns-in_err-write_both : goal.returns-in_err-write_both
 returns-in_err-write_both g c =
@@ -18,7 +15,7 @@ returns-in_err-write_both g c =
     let p = err_from_is_err_and c.from_residual-in_err-write_both.result c.from_residual-in_err-write_both.ensures.1 in
     rw (p.1, p.2) (stopped (words_of c.args.pass.now) c.in-Some.input c.in_ok-made.made c.in-Ok-Some.bytes
     (g.S.Store.shows c.args.store.now) (g.S.Store.shows c.read_file.new.store) (g.S.Store.shows c.write_both.new.store) c.in_err-write_both.field-0.0
-    c.in_ok-made.ensures.made held (subst P c.as_slice.ensures read) c.read_file.ensures.same causes.faults_stay causes.misses_stay
+    c.requires c.in_ok-made.ensures.made held (subst P c.as_slice.ensures read) c.read_file.ensures.same causes.faults_stay causes.misses_stay
     e.failed e.memory e.built e.causes)
 
 pub returns : goal.returns
@@ -28,4 +25,4 @@ returns g c =
     let P : List ℕ → Type 0 = λ bytes. IsInput (words_of c.args.pass.now) bytes c.in-Some.input in
     done (words_of c.args.pass.now) c.in-Some.input c.in_ok-made.made c.in-Ok-Some.bytes
     (g.S.Store.shows c.args.store.now) (g.S.Store.shows c.read_file.new.store) (g.S.Store.shows c.write_both.new.store)
-    c.in_ok-made.ensures.made held (subst P c.as_slice.ensures read) c.read_file.ensures.same c.in_ok-write_both.ensures.done
+    c.requires c.in_ok-made.ensures.made held (subst P c.as_slice.ensures read) c.read_file.ensures.same c.in_ok-write_both.ensures.done
