@@ -1,0 +1,17 @@
+# For the measuring scripts here: the best time of nine runs, and the most memory that any took.
+measure() { # a name, the bytes that are read and written, and the command
+  local name=$1 bytes=$2
+  shift 2
+  python3 - "$name" "$bytes" "$@" <<'P'
+import resource, subprocess, sys, time
+name, count, command = sys.argv[1], int(sys.argv[2]), sys.argv[3:]
+times = []
+for _ in range(9):
+    began = time.perf_counter()
+    subprocess.run(command, check=True, stdout=subprocess.DEVNULL)
+    times.append(time.perf_counter() - began)
+best = min(times)
+peak = resource.getrusage(resource.RUSAGE_CHILDREN).ru_maxrss / 1024
+print(f"{name}: {best * 1000:.1f} ms, peak {peak:.1f} MB, {count / best / 1e6:.1f} MB/s read and written")
+P
+}
