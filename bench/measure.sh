@@ -1,4 +1,19 @@
-# For the measuring scripts here: the best time of nine runs, and the most memory that any took.
+# For the measuring scripts here.
+
+# Enters a repository of its own, in the folder `work`, for a program that is measured, over copies of these crates.
+repository() { # the folder of this repository, the program, and the crates
+  local top=$1 program=$2 crate
+  shift 2
+  mkdir -p "$work/repository/crates/$program/src"
+  cd "$work/repository"
+  for crate in "$@"; do
+    cp -r "$top/crates/$crate" "crates/$crate"
+    grep "^$crate:" "$top/crates.txt" >>crates.txt
+  done
+  echo "$program: $*" >>crates.txt
+}
+
+# The best time of nine runs, and the most memory that any took.
 measure() { # a name, the bytes that are read and written, and the command
   local name=$1 bytes=$2
   shift 2

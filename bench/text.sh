@@ -6,14 +6,7 @@ work=$(mktemp -d)
 trap 'rm -rf "$work"' EXIT
 . "$top/bench/measure.sh"
 
-# A repository of its own for the program, over copies of the crates here.
-mkdir -p "$work/repository/crates/text_bench/src"
-cd "$work/repository"
-for crate in cy_msg cy_text; do
-  cp -r "$top/crates/$crate" "crates/$crate"
-  grep "^$crate:" "$top/crates.txt" >>crates.txt
-done
-echo "text_bench: cy_text" >>crates.txt
+repository "$top" text_bench cy_msg cy_text
 cat >crates/text_bench/src/main.rt <<'P'
 //! Reads the text of a file, or the file alone where a second word is given, and says how many fields it has.
 #![tactic(auto)]

@@ -7,14 +7,7 @@ work=$(mktemp -d)
 trap 'rm -rf "$work"' EXIT
 . "$top/bench/measure.sh"
 
-# A repository of its own for the program, over copies of the crates here.
-mkdir -p "$work/repository/crates/write_bench/src"
-cd "$work/repository"
-for crate in cy_store cy_msg cy_wire cy_section cy_writer; do
-  cp -r "$top/crates/$crate" "crates/$crate"
-  grep "^$crate:" "$top/crates.txt" >>crates.txt
-done
-echo "write_bench: cy_store cy_writer" >>crates.txt
+repository "$top" write_bench cy_store cy_msg cy_wire cy_section cy_writer
 cat >crates/write_bench/src/main.rt <<'P'
 //! Writes a million messages to the record of the given name.
 #![tactic(auto)]
