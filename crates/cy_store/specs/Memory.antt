@@ -1,5 +1,6 @@
 -- Files in memory: what a contract sees of them, and what becomes of each call.
-use Rattle.std.specs.Prelude.{ℕ, ◌+◌, ◌-◌, ◌^◌, min, List, take, map, Bool, true, false, cond, refl, Option, Some, None, is_some, String, Vec, string_bytes}
+use Rattle.std.specs.Prelude.{ℕ, ◌+◌, ◌-◌, ◌^◌, min, List, take, map, Bool, true, false, cond, refl}
+use Rattle.std.specs.Prelude.{Option, Some, None, is_some, String, Vec, string_bytes}
 use Rattle.std.specs.Option.{option_or}
 use Rattle.std.specs.Ordering.{nat_cmp}
 use Rattle.std.specs.FinMap.{FinMap, empty, get, from_entries, code}
@@ -8,12 +9,13 @@ use Rattle.cy_store.specs.Files.{Files}
 use Rattle.cy_store.specs.Write.{Create, Put, after_write}
 use Rattle.cy_store.specs.Store.{StoreView}
 
--- Calls that are to fail, by their numbers: each with how many bytes of its piece it writes before, where it is a put.
+-- Calls that are to fail, by their numbers: each with how many bytes of its piece it writes before,
+-- where it is a put.
 abbrev pub Plans : Type 0
 Plans = FinMap nat_cmp ℕ
 
--- Files in memory, the counts of faults and of names that were not there, the counts of calls and of the puts among them,
--- and which calls and which puts are to fail.
+-- Files in memory, the counts of faults and of names that were not there, the counts of calls and
+-- of the puts among them, and which calls and which puts are to fail.
 pub record Memory : Type 0 where
   pub files : Files
   pub faults : ℕ
@@ -28,9 +30,18 @@ abbrev pub memory_code : Coded Memory
 memory_code =
     let plans = code coded_ℕ coded_ℕ in
     code_by (Files × (ℕ × (ℕ × (ℕ × (ℕ × (Plans × Plans))))))
-    (coded× (code (coded_list coded_ℕ) (coded_list coded_ℕ)) (coded× coded_ℕ (coded× coded_ℕ (coded× coded_ℕ (coded× coded_ℕ (coded× plans plans))))))
+    (coded× (code (coded_list coded_ℕ) (coded_list coded_ℕ))
+    (coded× coded_ℕ (coded× coded_ℕ (coded× coded_ℕ (coded× coded_ℕ (coded× plans plans))))))
     (λ m. (m.files, (m.faults, (m.misses, (m.calls, (m.puts, (m.failing_calls, m.failing_puts)))))))
-    (λ p. record { files = p.0; faults = p.1.0; misses = p.1.1.0; calls = p.1.1.1.0; puts = p.1.1.1.1.0; failing_calls = p.1.1.1.1.1.0; failing_puts = p.1.1.1.1.1.1 })
+    (λ p. record {
+      files = p.0;
+      faults = p.1.0;
+      misses = p.1.1.0;
+      calls = p.1.1.1.0;
+      puts = p.1.1.1.1.0;
+      failing_calls = p.1.1.1.1.1.0;
+      failing_puts = p.1.1.1.1.1.1;
+    })
     (λ _. refl)
 
 -- The files that the entries of a map stand for.
@@ -39,7 +50,16 @@ files_of es = from_entries (map (λ e. (string_bytes e.0, e.1.items)) es)
 
 -- No file, no call yet, and none that is to fail.
 abbrev pub new_memory : Memory
-new_memory = record { files = empty; faults = 0; misses = 0; calls = 0; puts = 0; failing_calls = empty; failing_puts = empty }
+new_memory = record {
+  files = empty;
+  faults = 0;
+  misses = 0;
+  calls = 0;
+  puts = 0;
+  failing_calls =
+      empty;
+  failing_puts = empty;
+}
 
 -- What it shows as a store.
 abbrev pub shows_of : Memory → StoreView
@@ -69,7 +89,8 @@ with_put m = record m { calls = next m.calls; puts = next m.puts }
 abbrev pub plan_of_call : Memory → Option ℕ
 plan_of_call m = get m.failing_calls (next m.calls)
 
--- The plan for the next call, if that is a put and is to fail: by its number among the calls, or else among the puts.
+-- The plan for the next call, if that is a put and is to fail: by its number among the calls, or
+-- else among the puts.
 abbrev pub plan_of_put : Memory → Option ℕ
 plan_of_put m = option_or (plan_of_call m) (get m.failing_puts (next m.puts))
 
@@ -97,7 +118,8 @@ turn_of_creation m = turn_by (plan_of_call m) true
 abbrev pub turn_of_put : Memory → List ℕ → Turn
 turn_of_put m name = turn_by (plan_of_put m) (is_some (get m.files name))
 
--- The counts after a turn: a fault is counted exactly where the call was to fail, a miss exactly where the name was missed.
+-- The counts after a turn: a fault is counted exactly where the call was to fail, a miss exactly
+-- where the name was missed.
 abbrev pub counted : Turn → Memory → Memory
 counted Works m = m
 counted Misses m = with_miss m
@@ -107,7 +129,8 @@ counted (Fails keep) m = with_fault m
 abbrev pub put_over : List ℕ → ℕ → List ℕ → Files → Files
 put_over name at bytes m = cond (is_some (get m name)) (after_write (Put name at bytes) m) m
 
--- The files after a put, by its turn: one that was to fail has written the first bytes of its piece.
+-- The files after a put, by its turn: one that was to fail has written the first bytes of its
+-- piece.
 abbrev pub files_after_put : Turn → List ℕ → ℕ → List ℕ → Files → Files
 files_after_put Works name at bytes m = put_over name at bytes m
 files_after_put Misses name at bytes m = m
@@ -125,8 +148,10 @@ files_after_creation (Fails keep) name m = m
 
 -- The memory after a call that makes a file, where there was memory for it.
 abbrev pub after_creation : Memory → List ℕ → Memory
-after_creation m name = counted (turn_of_creation m) (record (with_call m) { files = files_after_creation (turn_of_creation m) name m.files })
+after_creation m name = counted (turn_of_creation m)
+    (record (with_call m) { files = files_after_creation (turn_of_creation m) name m.files })
 
 -- The memory after a put, where there was memory for it.
 abbrev pub after_put : Memory → List ℕ → ℕ → List ℕ → Memory
-after_put m name at bytes = counted (turn_of_put m name) (record (with_put m) { files = files_after_put (turn_of_put m name) name at bytes m.files })
+after_put m name at bytes = counted (turn_of_put m name)
+    (record (with_put m) { files = files_after_put (turn_of_put m name) name at bytes m.files })

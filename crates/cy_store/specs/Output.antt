@@ -20,7 +20,8 @@ pub record Output : Type 0 where
 -- An output is stored as the tuple of its fields.
 abbrev pub output_code : Coded Output
 output_code =
-    code_by (List ℕ × (ℕ × (ℕ × Numbers))) (coded× (coded_list coded_ℕ) (coded× coded_ℕ (coded× coded_ℕ (set.code coded_ℕ))))
+    code_by (List ℕ × (ℕ × (ℕ × Numbers))) (coded× (coded_list coded_ℕ)
+    (coded× coded_ℕ (coded× coded_ℕ (set.code coded_ℕ))))
     (λ o. (o.bytes, (o.faults, (o.writes, o.failing))))
     (λ p. record { bytes = p.0; faults = p.1.0; writes = p.1.1.0; failing = p.1.1.1 })
     (λ _. refl)

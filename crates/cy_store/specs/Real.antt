@@ -1,4 +1,5 @@
--- Files and streams of the machine: they tell no content, so that a contract sees only their counts.
+-- Files and streams of the machine: they tell no content, so that a contract sees only their
+-- counts.
 use Rattle.std.specs.Prelude.{ℕ, List, Option, None}
 use Rattle.cy_store.specs.Store.{StoreView, SinkView}
 use Rattle.cy_store.specs.Memory.{next}
@@ -24,7 +25,8 @@ count_miss c = record c { misses = next c.misses }
 abbrev pub untold_store : Counts → StoreView
 untold_store c = record { files = None; faults = c.faults; misses = c.misses }
 
--- A stream of the machine: the count of faults, and what the writer behind it holds, where that tells it.
+-- A stream of the machine: the count of faults, and what the writer behind it holds, where that
+-- tells it.
 pub record Stream : Type 0 where
   pub faults : ℕ
   pub contents : Option (List ℕ)

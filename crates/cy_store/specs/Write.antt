@@ -1,5 +1,6 @@
 -- Writes: what they make of the files, and what stands where one of them failed.
-use Rattle.std.specs.Prelude.{ℕ, ◌≡◌, ◌≤◌, ◌+◌, max, List, [], ◌∷◌, ◌++◌, length, take, drop, Option, None, MatchOption, IsSomeAnd}
+use Rattle.std.specs.Prelude.{ℕ, ◌≡◌, ◌≤◌, ◌+◌, max, List, [], ◌∷◌, ◌++◌, length, take, drop}
+use Rattle.std.specs.Prelude.{Option, None, MatchOption, IsSomeAnd}
 use Rattle.std.specs.FinMap.{get, insert}
 use Rattle.cy_store.specs.Files.{Files, content}
 
@@ -26,15 +27,16 @@ abbrev pub after_writes : List Write → Files → Files
 after_writes [] m = m
 after_writes (w ∷ writes) m = after_writes writes (after_write w m)
 
--- A put of n bytes that failed: the range may hold anything, the file may end anywhere from its old end to the range's,
--- and all else stays.
+-- A put of n bytes that failed: the range may hold anything, the file may end anywhere from its old
+-- end to the range's, and all else stays.
 pub record IsTorn (at n : ℕ) (before after : List ℕ) : Type 0 where
   pub front : take at after ≡ take at before
   pub back : drop (at + n) after ≡ drop (at + n) before
   pub no_shorter : length before ≤ length after
   pub no_longer : length after ≤ max (length before) (at + n)
 
--- What a write that failed may leave: of a creation nothing, of a put a torn file. A name that isn't there stays so.
+-- What a write that failed may leave: of a creation nothing, of a put a torn file. A name that
+-- isn't there stays so.
 abbrev pub Leaves : Write → Files → Files → Type 0
 Leaves (Create name) m m' = m' ≡ m
 Leaves (Put name at bytes) m m' = MatchOption (get m name) (m' ≡ m) (λ before.

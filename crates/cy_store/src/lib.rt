@@ -1,10 +1,13 @@
-//! Files by name and streams of bytes: what the runtime needs of the world outside, in memory and on the machine.
+//! Files by name and streams of bytes: what the runtime needs of the world outside, in memory and
+//! on the machine.
 //!
-//! A store and a sink count their faults, so that a contract can say that a fault was answered only where there was one.
-//! `specs/Files` has the map from names to bytes, `specs/Write` what writes make of it, `specs/Store` the causes.
+//! A store and a sink count their faults, so that a contract can say that a fault was answered only
+//! where there was one. `specs/Files` has the map from names to bytes, `specs/Write` what writes
+//! make of it, `specs/Store` the causes.
 //!
-//! `MemStore` and `MemSink` tell all that they hold, and fail where they are told to: `specs/Memory` and `specs/Output`
-//! say what becomes of each call. `RealStore` and `RealSink` tell no content, since no clause knows what the machine holds.
+//! `MemStore` and `MemSink` tell all that they hold, and fail where they are told to:
+//! `specs/Memory` and `specs/Output` say what becomes of each call. `RealStore` and `RealSink` tell
+//! no content, since no clause knows what the machine holds.
 #![tactic(auto)]
 
 mod error;
@@ -22,6 +25,3 @@ pub use real::RealStore;
 pub use real_sink::RealSink;
 pub use sink::Sink;
 pub use store::Store;
-
-#[cfg(test)]
-mod tests;

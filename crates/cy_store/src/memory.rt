@@ -1,11 +1,15 @@
 // Files in memory.
-ghost use Rattle.std.specs.Prelude.{◌≡◌, ◌≢◌, ◌≤◌, ◌-◌, ◌++◌, ◌⊎◌, ⊤, min, length, take, drop, is_some, IfOk, OnOk, OnErr, IfErr, IfSome, IsErrOf, None, []};
+ghost use Rattle.std.specs.Prelude.{◌≡◌, ◌≢◌, ◌≤◌, ◌-◌, ◌++◌, ◌⊎◌, ⊤, min, length, take, drop};
+ghost use Rattle.std.specs.Prelude.{is_some, IfOk, OnOk, OnErr, IfErr, IfSome, IsErrOf, None, []};
 ghost use Rattle.std.specs.Option.{option_copied, option_map};
 ghost use Rattle.std.specs.FinMap.{get, insert};
 ghost use Rattle.cy_store.specs.Files.{Holds};
 ghost use Rattle.cy_store.specs.Write.{Create, Put, after_write, written_at, LeavesIn};
-ghost use Rattle.cy_store.specs.Store.{HasCause, HasFault};
-ghost use Rattle.cy_store.specs.Memory.{files_of, new_memory, shows_of, with_fault, with_miss, with_call, with_put, plan_of_call, plan_of_put, put_over, Works, turn_of_reading, turn_of_creation, turn_of_put, after_reading, after_creation, after_put};
+ghost use Rattle.cy_store.specs.Store.{SizeAnswer, ReadAnswer, CreateAnswer, PutAnswer};
+ghost use Rattle.cy_store.specs.Memory.{files_of, new_memory, shows_of, with_fault, with_miss};
+ghost use Rattle.cy_store.specs.Memory.{with_call, with_put, plan_of_call, plan_of_put, put_over};
+ghost use Rattle.cy_store.specs.Memory.{Works, turn_of_reading, turn_of_creation, turn_of_put};
+ghost use Rattle.cy_store.specs.Memory.{after_reading, after_creation, after_put};
 
 use crate::{Store, StoreError};
 use std::alloc::{AllocError, Global};
@@ -63,10 +67,15 @@ impl MemStore {
         }
     }
 
-    /// Makes the call of this number fail, counted from 1 over all methods of `Store`. If it is a `put_at`, it first writes
-    /// `keep` bytes of its piece, at most all of them. It answers no other error than `Memory`.
+    /// Makes the call of this number fail, counted from 1 over all methods of `Store`. If it is a
+    /// `put_at`, it first writes `keep` bytes of its piece, at most all of them. It answers no
+    /// other error than `Memory`.
     pub fn fail_at(&mut self, call: u64, keep: usize) -> Result<(), StoreError>
-        ensures ok { OnOk result (self.new ≡ record self.old { failing_calls = insert self.old.failing_calls call keep }) }
+        ensures ok { OnOk result
+            (self.new ≡ record self.old {
+              failing_calls =
+                  insert self.old.failing_calls call keep;
+            }) }
         ensures err { OnErr result (self.new ≡ self.old) }
         ensures kind { IfErr result (λ e. e ≡ StoreError.Memory) }
     {
@@ -74,10 +83,11 @@ impl MemStore {
         Ok(())
     }
 
-    /// Makes the `put_at` of this number fail, counted from 1 over `put_at` alone, after `keep` bytes of its piece, at most
-    /// all of them. It answers no other error than `Memory`.
+    /// Makes the `put_at` of this number fail, counted from 1 over `put_at` alone, after `keep`
+    /// bytes of its piece, at most all of them. It answers no other error than `Memory`.
     pub fn fail_put(&mut self, put: u64, keep: usize) -> Result<(), StoreError>
-        ensures ok { OnOk result (self.new ≡ record self.old { failing_puts = insert self.old.failing_puts put keep }) }
+        ensures ok { OnOk result
+            (self.new ≡ record self.old { failing_puts = insert self.old.failing_puts put keep }) }
         ensures err { OnErr result (self.new ≡ self.old) }
         ensures kind { IfErr result (λ e. e ≡ StoreError.Memory) }
     {
@@ -141,7 +151,8 @@ impl MemStore {
 
 // Makes a file of no bytes, also in place of one of that name.
 fn make(files: &mut BTreeMap<String, Vec<u8>>, alloc: Global, name: &str) -> Result<(), StoreError>
-    ensures ok { OnOk result (files_of files.new.entries ≡ insert (files_of files.old.entries) name.now []) }
+    ensures ok { OnOk result (files_of files.new.entries
+        ≡ insert (files_of files.old.entries) name.now []) }
     ensures err { OnErr result (files_of files.new.entries ≡ files_of files.old.entries) }
     ensures kind { IfErr result (λ e. e ≡ StoreError.Memory) }
 {
@@ -170,8 +181,10 @@ fn put(
     bytes: &[u8],
 ) -> Result<bool, AllocError>
     requires { IfSome (get (files_of files.old.entries) name.now) (λ before. at ≤ length before) }
-    ensures there { IfOk result (λ there. there ≡ is_some (get (files_of files.old.entries) name.now)) }
-    ensures put { OnOk result (files_of files.new.entries ≡ put_over name.now at bytes.now (files_of files.old.entries)) }
+    ensures there { IfOk result (λ there. there
+        ≡ is_some (get (files_of files.old.entries) name.now)) }
+    ensures put { OnOk result (files_of files.new.entries ≡ put_over name.now at bytes.now
+        (files_of files.old.entries)) }
     ensures err { OnErr result (files_of files.new.entries ≡ files_of files.old.entries) }
 {
     match files.get_mut(name) {
@@ -183,7 +196,8 @@ fn put(
     }
 }
 
-// Copies bytes of a file, from a place on, into the front of a buffer, and answers how many: as many as both have.
+// Copies bytes of a file, from a place on, into the front of a buffer, and answers how many: as
+// many as both have.
 fn copy_from(file: &[u8], at: u64, buf: &mut [u8]) -> usize
     ensures count { result ≡ min (length buf.old) (length file.now - at) }
     ensures copied { buf.new ≡ take result (drop at file.now) ++ drop result buf.old }
@@ -199,13 +213,12 @@ impl Store for MemStore {
 
     /// It misses a name that is not there, and fails where this call was to fail.
     fn size(&mut self, name: &str) -> Result<u64, StoreError>
-        ensures value { IfOk result (λ n. Holds (shows_of self.old).files name.now (λ bytes. n ≡ length bytes)) }
-        ensures same { (shows_of self.new).files ≡ (shows_of self.old).files }
-        ensures cause { HasCause (shows_of self.old) (shows_of self.new) name.now result }
+        ensures answer { SizeAnswer (shows_of self.old) (shows_of self.new) name.now result }
 
         ensures after { self.new ≡ after_reading self.old name.now }
         ensures ok { OnOk result (turn_of_reading self.old name.now ≡ Works) }
-        ensures err { IfErr result (λ e. (e ≡ StoreError.Failed) × (turn_of_reading self.old name.now ≢ Works)) }
+        ensures err { IfErr result (λ e. (e ≡ StoreError.Failed)
+            × (turn_of_reading self.old name.now ≢ Works)) }
     {
         if self.begin_call().is_some() {
             return Err(self.fault());
@@ -218,18 +231,15 @@ impl Store for MemStore {
 
     /// It reads as many bytes as the file and the buffer have.
     fn read_at(&mut self, name: &str, at: u64, buf: &mut [u8]) -> Result<usize, StoreError>
-        ensures within { IfOk result (λ n. n ≤ length buf.old) }
-        ensures value { IfOk result (λ n. Holds (shows_of self.old).files name.now (λ bytes.
-            buf.new ≡ take n (drop at bytes) ++ drop n buf.old)) }
-        ensures end { IfOk result (λ n. n ≡ 0 → Holds (shows_of self.old).files name.now (λ bytes.
-            (length buf.old ≡ 0) ⊎ (length bytes ≤ at))) }
-        ensures same { (shows_of self.new).files ≡ (shows_of self.old).files }
-        ensures cause { HasCause (shows_of self.old) (shows_of self.new) name.now result }
+        ensures answer { ReadAnswer (shows_of self.old) (shows_of self.new) name.now at buf.old
+            buf.new result }
 
-        ensures count { IfOk result (λ n. Holds (shows_of self.old).files name.now (λ bytes. n ≡ min (length buf.old) (length bytes - at))) }
+        ensures count { IfOk result (λ n. Holds (shows_of self.old).files name.now (λ bytes. n
+            ≡ min (length buf.old) (length bytes - at))) }
         ensures after { self.new ≡ after_reading self.old name.now }
         ensures ok { OnOk result (turn_of_reading self.old name.now ≡ Works) }
-        ensures err { IfErr result (λ e. (e ≡ StoreError.Failed) × (turn_of_reading self.old name.now ≢ Works)) }
+        ensures err { IfErr result (λ e. (e ≡ StoreError.Failed)
+            × (turn_of_reading self.old name.now ≢ Works)) }
     {
         if self.begin_call().is_some() {
             return Err(self.fault());
@@ -241,12 +251,12 @@ impl Store for MemStore {
     }
 
     fn create(&mut self, name: &str) -> Result<(), StoreError>
-        ensures made { OnOk result ((shows_of self.new).files ≡ option_map (after_write (Create name.now)) (shows_of self.old).files) }
-        ensures err { OnErr result ((shows_of self.new).files ≡ (shows_of self.old).files) }
-        ensures cause { HasFault (shows_of self.old) (shows_of self.new) result }
+        ensures answer { CreateAnswer (shows_of self.old) (shows_of self.new) name.now result }
 
-        ensures ok { OnOk result ((turn_of_creation self.old ≡ Works) × (self.new ≡ after_creation self.old name.now)) }
-        ensures failed { IsErrOf result StoreError.Failed → (turn_of_creation self.old ≢ Works) × (self.new ≡ after_creation self.old name.now) }
+        ensures ok { OnOk result ((turn_of_creation self.old ≡ Works)
+            × (self.new ≡ after_creation self.old name.now)) }
+        ensures failed { IsErrOf result StoreError.Failed → (turn_of_creation self.old ≢ Works)
+            × (self.new ≡ after_creation self.old name.now) }
         ensures memory { IsErrOf result StoreError.Memory → self.new ≡ with_call self.old }
     {
         if self.begin_call().is_some() {
@@ -257,14 +267,14 @@ impl Store for MemStore {
 
     fn put_at(&mut self, name: &str, at: u64, bytes: &[u8]) -> Result<(), StoreError>
         requires { IfSome (get self.old.files name.now) (λ before. at ≤ length before) }
-        ensures there { OnOk result (Holds (shows_of self.old).files name.now (λ _. ⊤)) }
-        ensures put { OnOk result ((shows_of self.new).files ≡ option_map (after_write (Put name.now at bytes.now)) (shows_of self.old).files) }
-        ensures torn { IsErrOf result StoreError.Failed → LeavesIn (Put name.now at bytes.now) (shows_of self.old).files (shows_of self.new).files }
-        ensures memory { IsErrOf result StoreError.Memory → self.new ≡ with_put self.old }
-        ensures cause { HasCause (shows_of self.old) (shows_of self.new) name.now result }
+        ensures answer { PutAnswer (shows_of self.old) (shows_of self.new) name.now at bytes.now
+            result }
 
-        ensures ok { OnOk result ((turn_of_put self.old name.now ≡ Works) × (self.new ≡ after_put self.old name.now at bytes.now)) }
-        ensures failed { IsErrOf result StoreError.Failed → (turn_of_put self.old name.now ≢ Works) × (self.new ≡ after_put self.old name.now at bytes.now) }
+        ensures ok { OnOk result ((turn_of_put self.old name.now ≡ Works)
+            × (self.new ≡ after_put self.old name.now at bytes.now)) }
+        ensures memory { IsErrOf result StoreError.Memory → self.new ≡ with_put self.old }
+        ensures failed { IsErrOf result StoreError.Failed → (turn_of_put self.old name.now ≢ Works)
+            × (self.new ≡ after_put self.old name.now at bytes.now) }
     {
         if let Some(keep) = self.begin_put() {
             let kept = keep.min(bytes.len());

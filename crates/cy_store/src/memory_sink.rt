@@ -1,9 +1,11 @@
 // A stream in memory.
-ghost use Rattle.std.specs.Prelude.{◌≡◌, ◌≤◌, ℕ, ◌++◌, take, true, false, OnOk, OnErr, IfErr, IsErrOf};
+ghost use Rattle.std.specs.Prelude.{◌≡◌, ◌≤◌, ℕ, ◌++◌, take, true, false, OnOk, OnErr, IfErr};
+ghost use Rattle.std.specs.Prelude.{IsErrOf};
 ghost use Rattle.std.specs.Option.{option_map};
 ghost use Rattle.std.specs.FinSet.{insert};
-ghost use Rattle.cy_store.specs.Store.{HasSinkFault};
-ghost use Rattle.cy_store.specs.Output.{new_output, sink_of, with_write, with_write_fault, fails_next};
+ghost use Rattle.cy_store.specs.Store.{WriteAnswer};
+ghost use Rattle.cy_store.specs.Output.{new_output, sink_of, with_write, with_write_fault};
+ghost use Rattle.cy_store.specs.Output.{fails_next};
 
 use crate::{Sink, SinkError};
 use std::alloc::Global;
@@ -29,7 +31,12 @@ impl Model for MemSink {
 
     ghost coded = { output_code };
 
-    ghost view = { λ s. record { bytes = s.bytes.items; faults = s.faults; writes = s.writes; failing = from_list s.failing.keys } };
+    ghost view = { λ s. record {
+      bytes = s.bytes.items;
+      faults = s.faults;
+      writes = s.writes;
+      failing = from_list s.failing.keys;
+    } };
 }
 
 impl MemSink {
@@ -45,9 +52,11 @@ impl MemSink {
         }
     }
 
-    /// Makes the write of this number fail, counted from 1: it appends nothing. It answers no other error than `Memory`.
+    /// Makes the write of this number fail, counted from 1: it appends nothing. It answers no other
+    /// error than `Memory`.
     pub fn fail_at(&mut self, write: u64) -> Result<(), SinkError>
-        ensures ok { OnOk result (self.new ≡ record self.old { failing = insert self.old.failing write }) }
+        ensures ok { OnOk result
+            (self.new ≡ record self.old { failing = insert self.old.failing write }) }
         ensures err { OnErr result (self.new ≡ self.old) }
         ensures kind { IfErr result (λ e. e ≡ SinkError.Memory) }
     {
@@ -87,13 +96,13 @@ impl Sink for MemSink {
     ghost shows = { sink_of };
 
     fn write(&mut self, bytes: &[u8]) -> Result<(), SinkError>
-        ensures written { OnOk result ((sink_of self.new).bytes ≡ option_map (λ b. b ++ bytes.now) (sink_of self.old).bytes) }
-        ensures front { IsErrOf result SinkError.Failed → ((n : ℕ) × ((sink_of self.new).bytes ≡ option_map (λ b. b ++ take n bytes.now) (sink_of self.old).bytes)) }
-        ensures memory { IsErrOf result SinkError.Memory → self.new ≡ with_write self.old }
-        ensures cause { HasSinkFault (sink_of self.old) (sink_of self.new) result }
+        ensures answer { WriteAnswer (sink_of self.old) (sink_of self.new) bytes.now result }
 
-        ensures ok { OnOk result ((fails_next self.old ≡ false) × (self.new ≡ record (with_write self.old) { bytes = self.old.bytes ++ bytes.now })) }
-        ensures failed { IsErrOf result SinkError.Failed → (fails_next self.old ≡ true) × (self.new ≡ with_write_fault (with_write self.old)) }
+        ensures ok { OnOk result ((fails_next self.old ≡ false)
+            × (self.new ≡ record (with_write self.old) { bytes = self.old.bytes ++ bytes.now })) }
+        ensures memory { IsErrOf result SinkError.Memory → self.new ≡ with_write self.old }
+        ensures failed { IsErrOf result SinkError.Failed → (fails_next self.old ≡ true)
+            × (self.new ≡ with_write_fault (with_write self.old)) }
     {
         if self.begin_write() {
             return Err(self.fault());

@@ -1,5 +1,6 @@
 // Files of the machine.
-ghost use Rattle.std.specs.Prelude.{◌≡◌, ◌≢◌, ◌≤◌, ◌<◌, ◌++◌, ◌⊎◌, ⊤, length, take, drop, IfOk, OnOk, OnErr, IsErrOf};
+ghost use Rattle.std.specs.Prelude.{◌≡◌, ◌≢◌, ◌≤◌, ◌<◌, ◌++◌, ◌⊎◌, ⊤, length, take, drop, IfOk};
+ghost use Rattle.std.specs.Prelude.{OnOk, OnErr, IsErrOf};
 ghost use Rattle.std.specs.Option.{option_map};
 ghost use Rattle.std.specs.IoError.{error_kind};
 ghost use Rattle.std.specs.Io.KnownBytes.{Consumes, IsAtEnd};
@@ -16,8 +17,8 @@ use std::marker::Model;
 
 /// Files of the machine, by their paths. It tells no content.
 ///
-/// A path that is not there counts as a miss, where it is to be read or written, and any other failure as a fault. Its
-/// counts are of 64 bits, and stay at their last value.
+/// A path that is not there counts as a miss, where it is to be read or written, and any other
+/// failure as a fault. Its counts are of 64 bits, and stay at their last value.
 #[derive(Drop)]
 pub struct RealStore<'a, R: Files> {
     rt: &'a R,
@@ -47,8 +48,10 @@ impl<'a, R: Files> RealStore<'a, R> {
 
     // Counts an error as a fault, unless it is want of memory, and says which.
     fn fault(&mut self, error: io::Error) -> StoreError
-        ensures memory { error_kind error ≡ ErrorKind.OutOfMemory → (result ≡ StoreError.Memory) × (self.new ≡ self.old) }
-        ensures failed { error_kind error ≢ ErrorKind.OutOfMemory → (result ≡ StoreError.Failed) × (self.new ≡ count_fault self.old) }
+        ensures memory { error_kind error ≡ ErrorKind.OutOfMemory → (result ≡ StoreError.Memory)
+            × (self.new ≡ self.old) }
+        ensures failed { error_kind error ≢ ErrorKind.OutOfMemory → (result ≡ StoreError.Failed)
+            × (self.new ≡ count_fault self.old) }
         ensures no_less { self.old.faults ≤ self.new.faults }
     {
         if error.kind() == ErrorKind::OutOfMemory {
@@ -60,9 +63,13 @@ impl<'a, R: Files> RealStore<'a, R> {
 
     // The same, where a path that is not there counts as a miss.
     fn fault_or_miss(&mut self, error: io::Error) -> StoreError
-        ensures missed { error_kind error ≡ ErrorKind.NotFound → (result ≡ StoreError.Failed) × (self.new ≡ count_miss self.old) }
-        ensures memory { error_kind error ≡ ErrorKind.OutOfMemory → (result ≡ StoreError.Memory) × (self.new ≡ self.old) }
-        ensures failed { error_kind error ≢ ErrorKind.NotFound → error_kind error ≢ ErrorKind.OutOfMemory → (result ≡ StoreError.Failed) × (self.new ≡ count_fault self.old) }
+        ensures missed { error_kind error ≡ ErrorKind.NotFound → (result ≡ StoreError.Failed)
+            × (self.new ≡ count_miss self.old) }
+        ensures memory { error_kind error ≡ ErrorKind.OutOfMemory → (result ≡ StoreError.Memory)
+            × (self.new ≡ self.old) }
+        ensures failed { error_kind error ≢ ErrorKind.NotFound → error_kind error
+            ≢ ErrorKind.OutOfMemory → (result ≡ StoreError.Failed)
+            × (self.new ≡ count_fault self.old) }
         ensures no_fewer_faults { self.old.faults ≤ self.new.faults }
         ensures no_fewer_misses { self.old.misses ≤ self.new.misses }
     {
@@ -77,7 +84,8 @@ impl<'a, R: Files> RealStore<'a, R> {
 // One read. One that was interrupted is made again.
 fn read_some<F: Read>(reader: &mut F, buf: &mut [u8]) -> io::Result<usize>
     ensures within { IfOk result (λ n. n ≤ length buf.old) }
-    ensures bytes { IfOk result (λ n. Consumes (F.remaining reader.old) (F.remaining reader.new) (take n buf.new)) }
+    ensures bytes { IfOk result (λ n. Consumes (F.remaining reader.old) (F.remaining reader.new)
+        (take n buf.new)) }
     ensures end { IfOk result (λ n. n ≡ 0 → 0 < length buf.old → IsAtEnd (F.remaining reader.new)) }
 {
     for _ in 0..u64::MAX {
@@ -92,7 +100,8 @@ fn read_some<F: Read>(reader: &mut F, buf: &mut [u8]) -> io::Result<usize>
 // Reads until the buffer is full or the reader ends, and answers how many bytes came.
 fn fill<F: Read>(reader: &mut F, buf: &mut [u8]) -> io::Result<usize>
     ensures within { IfOk result (λ n. n ≤ length buf.old) }
-    ensures bytes { IfOk result (λ n. Consumes (F.remaining reader.old) (F.remaining reader.new) (take n buf.new)) }
+    ensures bytes { IfOk result (λ n. Consumes (F.remaining reader.old) (F.remaining reader.new)
+        (take n buf.new)) }
     ensures end { IfOk result (λ n. n < length buf.old → IsAtEnd (F.remaining reader.new)) }
 {
     let mut filled = 0usize;
@@ -130,54 +139,28 @@ fn write_to<R: Files>(rt: &R, path: &str, at: u64, bytes: &[u8]) -> io::Result<(
 impl<R: Files> Store for RealStore<'_, R> {
     ghost shows = { untold_store };
 
-    fn size(&mut self, name: &str) -> Result<u64, StoreError>
-        ensures value { IfOk result (λ n. Holds (untold_store self.old).files name.now (λ bytes. n ≡ length bytes)) }
-        ensures same { (untold_store self.new).files ≡ (untold_store self.old).files }
-        ensures cause { HasCause (untold_store self.old) (untold_store self.new) name.now result }
-        ensures quiet { OnOk result (self.new ≡ self.old) }
-    {
+    fn size(&mut self, name: &str) -> Result<u64, StoreError> {
         match file_size(self.rt, name) {
             Ok(size) => Ok(size),
             Err(e) => Err(self.fault_or_miss(e)),
         }
     }
 
-    fn read_at(&mut self, name: &str, at: u64, buf: &mut [u8]) -> Result<usize, StoreError>
-        ensures within { IfOk result (λ n. n ≤ length buf.old) }
-        ensures value { IfOk result (λ n. Holds (untold_store self.old).files name.now (λ bytes.
-            buf.new ≡ take n (drop at bytes) ++ drop n buf.old)) }
-        ensures end { IfOk result (λ n. n ≡ 0 → Holds (untold_store self.old).files name.now (λ bytes.
-            (length buf.old ≡ 0) ⊎ (length bytes ≤ at))) }
-        ensures same { (untold_store self.new).files ≡ (untold_store self.old).files }
-        ensures cause { HasCause (untold_store self.old) (untold_store self.new) name.now result }
-        ensures quiet { OnOk result (self.new ≡ self.old) }
-    {
+    fn read_at(&mut self, name: &str, at: u64, buf: &mut [u8]) -> Result<usize, StoreError> {
         match read_from(self.rt, name, at, buf) {
             Ok(count) => Ok(count),
             Err(e) => Err(self.fault_or_miss(e)),
         }
     }
 
-    fn create(&mut self, name: &str) -> Result<(), StoreError>
-        ensures made { OnOk result ((untold_store self.new).files ≡ option_map (after_write (Create name.now)) (untold_store self.old).files) }
-        ensures err { OnErr result ((untold_store self.new).files ≡ (untold_store self.old).files) }
-        ensures cause { HasFault (untold_store self.old) (untold_store self.new) result }
-        ensures quiet { OnOk result (self.new ≡ self.old) }
-    {
+    fn create(&mut self, name: &str) -> Result<(), StoreError> {
         match File::create(self.rt, name) {
             Ok(_) => Ok(()),
             Err(e) => Err(self.fault(e)),
         }
     }
 
-    fn put_at(&mut self, name: &str, at: u64, bytes: &[u8]) -> Result<(), StoreError>
-        ensures there { OnOk result (Holds (untold_store self.old).files name.now (λ _. ⊤)) }
-        ensures put { OnOk result ((untold_store self.new).files ≡ option_map (after_write (Put name.now at bytes.now)) (untold_store self.old).files) }
-        ensures torn { IsErrOf result StoreError.Failed → LeavesIn (Put name.now at bytes.now) (untold_store self.old).files (untold_store self.new).files }
-        ensures memory { IsErrOf result StoreError.Memory → (untold_store self.new).files ≡ (untold_store self.old).files }
-        ensures cause { HasCause (untold_store self.old) (untold_store self.new) name.now result }
-        ensures quiet { OnOk result (self.new ≡ self.old) }
-    {
+    fn put_at(&mut self, name: &str, at: u64, bytes: &[u8]) -> Result<(), StoreError> {
         match write_to(self.rt, name, at, bytes) {
             Ok(()) => Ok(()),
             Err(e) => Err(self.fault_or_miss(e)),

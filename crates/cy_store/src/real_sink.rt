@@ -3,7 +3,7 @@ ghost use Rattle.std.specs.Prelude.{◌≡◌, ◌≢◌, ◌≤◌, ℕ, ◌++�
 ghost use Rattle.std.specs.Option.{option_map};
 ghost use Rattle.std.specs.Io.KnownBytes.{Appends};
 ghost use Rattle.std.specs.IoError.{error_kind};
-ghost use Rattle.cy_store.specs.Store.{HasSinkFault};
+ghost use Rattle.cy_store.specs.Store.{WriteAnswer};
 ghost use Rattle.cy_store.specs.Memory.{next};
 ghost use Rattle.cy_store.specs.Real.{untold_sink};
 
@@ -12,10 +12,11 @@ use std::io;
 use std::io::{ErrorKind, Write};
 use std::marker::Model;
 
-/// A stream of the machine, as standard output by `RealSink::new(rt.stdout())`. It tells no content.
+/// A stream of the machine, as standard output by `RealSink::new(rt.stdout())`. It tells no
+/// content.
 ///
-/// Each write is handed on whole before it returns, so that a device that is full is seen at once. Its count of faults is
-/// of 64 bits, and stays at its last value.
+/// Each write is handed on whole before it returns, so that a device that is full is seen at once.
+/// Its count of faults is of 64 bits, and stays at its last value.
 #[derive(Drop)]
 pub struct RealSink<W: Write> {
     stream: W,
@@ -40,8 +41,10 @@ impl<W: Write> RealSink<W> {
 
     // Counts an error as a fault, unless it is want of memory, and says which.
     fn fault(&mut self, error: io::Error) -> SinkError
-        ensures memory { error_kind error ≡ ErrorKind.OutOfMemory → (result ≡ SinkError.Memory) × (self.new ≡ self.old) }
-        ensures failed { error_kind error ≢ ErrorKind.OutOfMemory → (result ≡ SinkError.Failed) × (self.new ≡ record self.old { faults = next self.old.faults }) }
+        ensures memory { error_kind error ≡ ErrorKind.OutOfMemory → (result ≡ SinkError.Memory)
+            × (self.new ≡ self.old) }
+        ensures failed { error_kind error ≢ ErrorKind.OutOfMemory → (result ≡ SinkError.Failed)
+            × (self.new ≡ record self.old { faults = next self.old.faults }) }
         ensures no_less { self.old.faults ≤ self.new.faults }
     {
         if error.kind() == ErrorKind::OutOfMemory {
@@ -64,13 +67,9 @@ impl<W: Write> Sink for RealSink<W> {
     ghost shows = { untold_sink };
 
     fn write(&mut self, bytes: &[u8]) -> Result<(), SinkError>
-        ensures written { OnOk result ((untold_sink self.new).bytes ≡ option_map (λ b. b ++ bytes.now) (untold_sink self.old).bytes) }
-        ensures front { IsErrOf result SinkError.Failed → ((n : ℕ) × ((untold_sink self.new).bytes ≡ option_map (λ b. b ++ take n bytes.now) (untold_sink self.old).bytes)) }
-        ensures memory { IsErrOf result SinkError.Memory → (untold_sink self.new).bytes ≡ (untold_sink self.old).bytes }
-        ensures cause { HasSinkFault (untold_sink self.old) (untold_sink self.new) result }
-
+        ensures answer { WriteAnswer (untold_sink self.old)
+            (untold_sink self.new) bytes.now result }
         ensures handed { OnOk result (Appends self.old.contents self.new.contents bytes.now) }
-        ensures quiet { OnOk result (self.new.faults ≡ self.old.faults) }
     {
         match hand_on(&mut self.stream, bytes) {
             Ok(()) => Ok(()),

@@ -1,7 +1,5 @@
 // A stream of bytes.
-ghost use Rattle.std.specs.Prelude.{◌≡◌, ℕ, ◌++◌, take, OnOk, IsErrOf};
-ghost use Rattle.std.specs.Option.{option_map};
-ghost use Rattle.cy_store.specs.Store.{SinkView, HasSinkFault};
+ghost use Rattle.cy_store.specs.Store.{SinkView, WriteAnswer};
 
 use crate::SinkError;
 
@@ -10,10 +8,8 @@ pub trait Sink {
     /// What was written, where the sink tells it, and its count of faults.
     ghost shows: { Self → SinkView };
 
-    /// Appends all bytes. After `Failed` a front of them was appended; want of memory appends nothing.
+    /// Appends all bytes. After `Failed` a prefix of them was appended; want of memory appends
+    /// nothing.
     fn write(&mut self, bytes: &[u8]) -> Result<(), SinkError>
-        ensures written { OnOk result ((shows self.new).bytes ≡ option_map (λ b. b ++ bytes.now) (shows self.old).bytes) }
-        ensures front { IsErrOf result SinkError.Failed → ((n : ℕ) × ((shows self.new).bytes ≡ option_map (λ b. b ++ take n bytes.now) (shows self.old).bytes)) }
-        ensures memory { IsErrOf result SinkError.Memory → (shows self.new).bytes ≡ (shows self.old).bytes }
-        ensures cause { HasSinkFault (shows self.old) (shows self.new) result };
+        ensures { WriteAnswer (shows self.old) (shows self.new) bytes.now result };
 }

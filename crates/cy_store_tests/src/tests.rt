@@ -1,8 +1,9 @@
-// What no clause says: that calls succeed, and what files and streams of the machine hold.
-use crate::{MemSink, MemStore, RealSink, RealStore, Sink, SinkError, Store, StoreError};
+// Stores and sinks, in memory and on the machine.
+use cy_store::{MemSink, MemStore, RealSink, RealStore, Sink, SinkError, Store, StoreError};
 use std::alloc::Global;
 use std::fs;
 use std::fs::{File, OpenOptions};
+use std::io::BufWriter;
 use std::process::Abort;
 use std::test::Fail;
 
@@ -60,13 +61,13 @@ fn goes_round<S: Store>(
 }
 
 #[test]
-fn memory(rt: HostRuntime) -> Result<(), Fail> {
+fn goes_round_in_memory(rt: HostRuntime) -> Result<(), Fail> {
     goes_round(&rt, rt.alloc(), &mut MemStore::new(rt.alloc()), "a")?;
     Ok(())
 }
 
 #[test]
-fn machine(rt: HostRuntime) -> Result<(), Fail> {
+fn goes_round_on_the_machine(rt: HostRuntime) -> Result<(), Fail> {
     // an earlier run may have left it
     let _ = fs::remove_file(&rt, "a.bin");
     let mut store = RealStore::new(&rt);
@@ -111,7 +112,7 @@ fn fails_each_call(rt: HostRuntime) -> Result<(), Fail> {
 }
 
 #[test]
-fn keeps_the_front_of_a_put(rt: HostRuntime) -> Result<(), Fail> {
+fn keeps_the_prefix_of_a_put(rt: HostRuntime) -> Result<(), Fail> {
     for (keep, want) in [
         (0, b"abcd".as_slice()),
         (1, b"abXd".as_slice()),
@@ -145,6 +146,14 @@ fn writes_to_the_machine(rt: HostRuntime) -> Result<(), Fail> {
     sink.write(b"cd")?;
     assert_eq!(rt; fs::read(&rt, "out.bin")?.as_slice(), b"abcd".as_slice());
     fs::remove_file(&rt, "out.bin")?;
+    // What a stream gathers is handed on before the write returns.
+    let mut gathered = RealSink::new(BufWriter::new(
+        rt.alloc(),
+        File::create(&rt, "gathered.bin")?,
+    )?);
+    gathered.write(b"ab")?;
+    assert_eq!(rt; fs::read(&rt, "gathered.bin")?.as_slice(), b"ab".as_slice());
+    fs::remove_file(&rt, "gathered.bin")?;
     RealSink::new(rt.stdout()).write(b"")?;
     RealSink::new(rt.stderr()).write(b"")?;
     Ok(())
