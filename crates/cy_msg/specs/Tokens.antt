@@ -8,8 +8,10 @@ on_channel channel tokens = filter (λ t. t.channel == channel) tokens
 
 -- The tokens of each channel are numbered 1, 2, 3 and so on.
 abbrev pub IsNumbered : List Token → Type 0
-IsNumbered tokens = (n : ℕ) (t : Token) → slice_get tokens n ≡ Some t → t.seq ≡ length (on_channel t.channel (take n tokens)) + 1
+IsNumbered tokens = (n : ℕ) (t : Token) → slice_get tokens n ≡ Some t
+    → t.seq ≡ length (on_channel t.channel (take n tokens)) + 1
 
 -- The times of the tokens never fall.
 abbrev pub IsTimed : List Token → Type 0
-IsTimed tokens = (n : ℕ) (s t : Token) → slice_get tokens n ≡ Some s → slice_get tokens (n + 1) ≡ Some t → s.time ≤ t.time
+IsTimed tokens = (n : ℕ) (s t : Token) → slice_get tokens n ≡ Some s → slice_get tokens (n + 1)
+    ≡ Some t → s.time ≤ t.time

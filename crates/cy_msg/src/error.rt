@@ -5,7 +5,8 @@ ghost use Rattle.cy_msg.specs.declared.error.NamesError.TheVariants as names_err
 use std::alloc::{AllocError, AllocFailed};
 use thiserror::Error;
 
-/// What [`Names`](crate::Names), [`Text`](crate::Text) and [`Bytes`](crate::Bytes) may answer in place of a value.
+/// What [`Names`](crate::Names), [`Text`](crate::Text) and [`Bytes`](crate::Bytes) may answer in
+/// place of a value.
 #[derive(Clone, Copy, Debug, PartialEq, Eq, Error)]
 pub enum NamesError {
     /// There is no room for another name.

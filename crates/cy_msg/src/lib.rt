@@ -1,9 +1,9 @@
-//! The plain types that the layers hand to one another: texts, bytes and lists, messages as tokens and tuples, channel names,
-//! play lists and placements.
+//! The plain types that the layers hand to one another: texts, bytes and lists, messages as tokens
+//! and tuples, channel names, play lists and placements.
 //!
-//! `specs/Tokens` has what is said of lists of tokens, `specs/Tuple` the messages of a tuple, `specs/Quoted` texts in quotes,
-//! `specs/Names` that names keep their numbers, `specs/Placement` the components and processors of contexts, `specs/Once` that
-//! nothing stands twice in a list.
+//! `specs/Tokens` has what is said of lists of tokens, `specs/Tuple` the messages of a tuple,
+//! `specs/Quoted` texts in quotes, `specs/Names` that names keep their numbers, `specs/Placement`
+//! the components and processors of contexts, `specs/Once` that nothing stands twice in a list.
 #![tactic(auto)]
 
 mod error;
@@ -12,8 +12,6 @@ mod names;
 mod placement;
 mod play_list;
 mod quoted;
-#[cfg(test)]
-mod tests;
 mod text;
 mod token;
 

@@ -1,5 +1,6 @@
 // Channel names and their numbers.
-ghost use Rattle.std.specs.Prelude.{◌≡◌, ◌<◌, ◌≤◌, ◌++◌, ◌∷◌, ◌⊎◌, [], List, length, slice_get, IfOk, OnOk, OnErr, IsOk, IsErrOf, IfSome, IsNone, ◌↔◌};
+ghost use Rattle.std.specs.Prelude.{◌≡◌, ◌<◌, ◌≤◌, ◌++◌, ◌∷◌, ◌⊎◌, [], List, length, slice_get};
+ghost use Rattle.std.specs.Prelude.{IfOk, OnOk, OnErr, IsOk, IsErrOf, IfSome, IsNone, ◌↔◌};
 ghost use Rattle.std.specs.List.{Contains, position};
 ghost use Rattle.std.specs.Str.{bytes_eq};
 ghost use Rattle.cy_msg.specs.Names.{KeepsNumbers};
@@ -12,7 +13,8 @@ use std::marker::Model;
 /// The most names that [`Names`] keeps.
 pub const MOST_NAMES: usize = 1_024;
 
-/// Channel names, which contracts see as their list, in the order of their numbers from 0. No name stands twice.
+/// Channel names, which contracts see as their list, in the order of their numbers from 0. No name
+/// stands twice.
 #[derive(Debug, Drop)]
 pub struct Names {
     names: Vec<Text>,
@@ -40,15 +42,19 @@ impl Names {
         }
     }
 
-    /// The number of a name, which is kept from now on. A name that is kept already has the number that it had, and a new one
-    /// the next. `Full` says that there is no room for a new one; an error changes nothing.
+    /// The number of a name, which is kept from now on. A name that is kept already has the number
+    /// that it had, and a new one the next. `Full` says that there is no room for a new one; an
+    /// error changes nothing.
     pub fn add(&mut self, alloc: Global, name: &str) -> Result<u32, NamesError>
         ensures number { IfOk result (λ n. slice_get self.new n ≡ Some name.now) }
         ensures kept { KeepsNumbers self.old self.new }
-        ensures grown { IfOk result (λ n. (self.new ≡ self.old) ⊎ ((n ≡ length self.old) × (self.new ≡ self.old ++ name.now ∷ []))) }
+        ensures grown { IfOk result (λ n. (self.new ≡ self.old)
+            ⊎ ((n ≡ length self.old) × (self.new ≡ self.old ++ name.now ∷ []))) }
         ensures known { Contains self.old name.now → IsOk result × (self.new ≡ self.old) }
-        ensures fresh { ¬ (Contains self.old name.now) → IfOk result (λ n. (n ≡ length self.old) × (self.new ≡ self.old ++ name.now ∷ [])) }
-        ensures full { IsErrOf result NamesError.Full ↔ ((length self.old ≡ MOST_NAMES) × ¬ (Contains self.old name.now)) }
+        ensures fresh { ¬ (Contains self.old name.now) → IfOk result (λ n. (n ≡ length self.old)
+            × (self.new ≡ self.old ++ name.now ∷ [])) }
+        ensures full { IsErrOf result NamesError.Full ↔ ((length self.old ≡ MOST_NAMES)
+            × ¬ (Contains self.old name.now)) }
         ensures err { OnErr result (self.new ≡ self.old) }
     {
         if let Some(number) = self.number_of(name) {
@@ -88,7 +94,7 @@ impl Names {
     }
 }
 
-/// The first place of a name, by a look at each.
+// The first place of a name, by a look at each.
 fn place_of(names: &[Text], name: &str) -> Option<usize>
     ensures first { result ≡ position (λ kept. bytes_eq kept name.now) names.now }
     ensures none { IsNone result ↔ ¬ (Contains names.now name.now) }

@@ -21,8 +21,8 @@ pub struct ContextPlan {
     pub order: Items<u32>,
 }
 
-/// The contexts of a run. No component stands twice in their orders, and together they ask for at most
-/// [`MOST_PROCESSORS`] processors.
+/// The contexts of a run. No component stands twice in their orders, and together they ask for at
+/// most [`MOST_PROCESSORS`] processors.
 #[derive(Drop)]
 pub struct Placement {
     /// The contexts.

@@ -4,8 +4,9 @@ ghost use Rattle.cy_msg.specs.Quoted.{escaped, octal, quoted};
 
 use std::alloc::AllocError;
 
-/// Adds some bytes in quotes to `to`, escaped as in the text form of the Protocol Buffers. Bytes from 128 on stand as they are
-/// where `is_text` says that the bytes are a text in UTF-8. Its only error is want of memory, which leaves `to` as it was.
+/// Adds some bytes in quotes to `to`, escaped as in the text form of the Protocol Buffers. Bytes
+/// from 128 on stand as they are where `is_text` says that the bytes are a text in UTF-8. Its only
+/// error is want of memory, which leaves `to` as it was.
 pub fn push_quoted(to: &mut Vec<u8>, bytes: &[u8], is_text: bool) -> Result<(), AllocError>
     ensures ok { OnOk result (to.new.items ≡ to.old.items ++ quoted is_text bytes.now) }
     ensures err { OnErr result (to.new.items ≡ to.old.items) }

@@ -11,8 +11,8 @@ pub struct Token {
     pub time: u64,
     /// The whole number that its content stands for, where it stands for one.
     pub whole: Option<i64>,
-    /// The place in the play list of the message whose content this one has; none where the content is the written form of
-    /// `whole`.
+    /// The place in the play list of the message whose content this one has; none where the content
+    /// is the written form of `whole`.
     pub origin: Option<u32>,
 }
 
