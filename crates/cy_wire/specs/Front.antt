@@ -1,16 +1,20 @@
 -- Which number stands at the front of bytes, and how many of them it takes.
-use Rattle.std.specs.Prelude.{ℕ, zero, suc, ◌+◌, ◌*◌, ◌%◌, ◌^◌, nat_lt, if◌then◌else◌, List, [], ◌∷◌, Option, Some, None}
+use Rattle.std.specs.Prelude.{ℕ, zero, suc, ◌+◌, ◌*◌, ◌%◌, ◌^◌, nat_lt, if◌then◌else◌, List, []}
+use Rattle.std.specs.Prelude.{◌∷◌, Option, Some, None}
 
--- What is found behind so many bytes that stand for `lower`: the number counts in units of `scale` above it, and takes those bytes too.
+-- What is found behind so many bytes that stand for `lower`: the number counts in units of `scale`
+-- above it, and takes those bytes too.
 abbrev pub behind : ℕ → ℕ → ℕ → Option (ℕ × ℕ) → Option (ℕ × ℕ)
 behind lower scale bytes None = None
 behind lower scale bytes (Some found) = Some (lower + scale * found.0, bytes + found.1)
 
--- Seven bits a byte, the lowest first, up to the first byte below 128: none where that is not one of the first so many.
+-- Seven bits a byte, the lowest first, up to the first byte below 128: none where that is not one
+-- of the first so many.
 unfoldable pub number_within : ℕ → List ℕ → Option (ℕ × ℕ)
 number_within zero bytes = None
 number_within (suc more) [] = None
-number_within (suc more) (byte ∷ bytes) = if nat_lt byte 128 then Some (byte, 1) else behind (byte % 128) 128 1 (number_within more bytes)
+number_within (suc more) (byte ∷ bytes) = if nat_lt byte 128 then Some (byte, 1) else behind
+    (byte % 128) 128 1 (number_within more bytes)
 
 -- A number of 2 ^ 64 or more is none.
 abbrev pub within_64_bits : Option (ℕ × ℕ) → Option (ℕ × ℕ)

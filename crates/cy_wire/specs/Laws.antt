@@ -1,13 +1,16 @@
 -- What holds of the spelling of every number.
-use Rattle.std.specs.Prelude.{◌≡◌, ◌<◌, ◌≤◌, ◌^◌, ◌++◌, ℕ, ℤ, List, [], ◌∷◌, length, All, Some, FitsSigned}
+use Rattle.std.specs.Prelude.{◌≡◌, ◌<◌, ◌≤◌, ◌^◌, ◌++◌, ◌+◌, ◌-◌, ℕ, ℤ, List, [], ◌∷◌, length, All}
+use Rattle.std.specs.Prelude.{Some, FitsSigned}
 use Rattle.std.specs.Int.{w64}
-use Rattle.cy_wire.specs.Wire.{varint_bytes, zigzag}
+use Rattle.cy_wire.specs.Wire.{varint_bytes, zigzag, field_u64, field_bytes}
+use Rattle.cy_wire.specs.Field.{Varint, Bytes, with_field, fields_of}
 use Rattle.cy_wire.specs.Front.{front_number}
 use Rattle.cy_wire.specs.Zigzag.{unzigzag}
 
 -- A number that was written is the one that is read, whatever follows it.
 abbrev pub ReadsBack : Type 0
-ReadsBack = (n : ℕ) (rest : List ℕ) → n < 2 ^ 64 → front_number (varint_bytes n ++ rest) ≡ Some (n, length (varint_bytes n))
+ReadsBack = (n : ℕ) (rest : List ℕ) → n < 2 ^ 64 → front_number (varint_bytes n ++ rest)
+    ≡ Some (n, length (varint_bytes n))
 
 -- It takes a byte at least.
 abbrev pub TakesAByte : Type 0
@@ -32,3 +35,27 @@ UnzigzagUndoes = (value : ℤ) → unzigzag (zigzag value) ≡ value
 -- One of 64 bits is written as one of 64 bits.
 abbrev pub ZigzagFits : Type 0
 ZigzagFits = (value : ℤ) → FitsSigned w64 value → zigzag value < 2 ^ 64
+
+-- A field number, as the standard allows them.
+pub record IsFieldNumber (number : ℕ) : Type 0 where
+  pub low : 1 ≤ number
+  pub high : number ≤ 536870911
+
+-- A field with a number that was written is the one that is read, and the fields behind it follow.
+abbrev pub NumberReadsBack : Type 0
+NumberReadsBack = (at number value : ℕ) (rest : List ℕ) → IsFieldNumber number → value < 2 ^ 64
+    → fields_of at (field_u64 number value ++ rest)
+    ≡ with_field (record { number = number; at = at; value = Varint value })
+    (fields_of (at + length (field_u64 number value)) rest)
+
+-- And one with bytes, which end the field.
+abbrev pub BytesReadBack : Type 0
+BytesReadBack = (at number : ℕ) (bytes rest : List ℕ) → IsFieldNumber number → length bytes < 2 ^ 64
+    → let size = length (field_bytes number bytes) in
+    fields_of at (field_bytes number bytes ++ rest)
+    ≡ with_field (record {
+      number = number;
+      at = at;
+      value = Bytes
+          (at + (size - length bytes)) bytes;
+    }) (fields_of (at + size) rest)

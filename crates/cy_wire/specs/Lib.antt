@@ -1,4 +1,10 @@
 pub mod Wire
 pub mod Front
 pub mod Zigzag
+pub mod Varint
+pub mod Value
+pub mod Field
+pub mod Reader
+pub mod Message
+pub mod Whole
 pub mod Laws

@@ -1,10 +1,13 @@
 -- The wire form of Protocol Buffers (protobuf.dev, "Encoding"): how numbers and fields are spelled.
-use Rattle.std.specs.Prelude.{ℕ, ℤ, pos, negsuc, zero, suc, ◌+◌, ◌*◌, ◌/◌, ◌%◌, nat_lt, if◌then◌else◌, List, [], ◌∷◌, ◌++◌, length}
+use Rattle.std.specs.Prelude.{ℕ, ℤ, pos, negsuc, zero, suc, ◌+◌, ◌*◌, ◌/◌, ◌%◌, nat_lt}
+use Rattle.std.specs.Prelude.{if◌then◌else◌, List, [], ◌∷◌, ◌++◌, length}
 
--- Seven bits a byte, the lowest first, each byte but the last with its high bit set: at most this many bytes and one more.
+-- Seven bits a byte, the lowest first, each byte but the last with its high bit set: at most this
+-- many bytes and one more.
 unfoldable pub varint_within : ℕ → ℕ → List ℕ
 varint_within zero n = n ∷ []
-varint_within (suc more) n = if nat_lt n 128 then n ∷ [] else (n % 128 + 128) ∷ varint_within more (n / 128)
+varint_within (suc more) n = if nat_lt n 128 then n ∷ [] else (n % 128 + 128)
+    ∷ varint_within more (n / 128)
 
 -- A number below 2 ^ 64 as a varint, in the least number of bytes.
 unfoldable pub varint_bytes : ℕ → List ℕ

@@ -4,8 +4,9 @@ ghost use Rattle.cy_wire.specs.Front.{front_number};
 
 use crate::writer::LONGEST;
 
-/// The number at the front, a varint, and how many bytes it takes: `None` where the bytes end before its last one, where it
-/// takes more than ten, and where it is above `u64::MAX`. More bytes than a number needs are read too.
+/// The number at the front, a varint, and how many bytes it takes: `None` where the bytes end
+/// before its last one, where it takes more than ten, and where it is above `u64::MAX`. More bytes
+/// than a number needs are read too.
 pub fn front_varint(bytes: &[u8]) -> Option<(u64, usize)>
     ensures number { result ≡ front_number bytes.now }
     ensures there { IfSome result (λ found. found.1 ≤ length bytes.now) }

@@ -1,5 +1,7 @@
 // What holds of the spelling of every number: proved here, and nothing to run.
-ghost use Rattle.cy_wire.specs.Laws.{ReadsBack, TakesAByte, TakesTenBytesAtMost, SmallIsItsByte, BytesFit, UnzigzagUndoes, ZigzagFits};
+ghost use Rattle.cy_wire.specs.Laws.{ReadsBack, TakesAByte, TakesTenBytesAtMost, SmallIsItsByte};
+ghost use Rattle.cy_wire.specs.Laws.{BytesFit, UnzigzagUndoes, ZigzagFits, NumberReadsBack};
+ghost use Rattle.cy_wire.specs.Laws.{BytesReadBack};
 
 /// A number that was written is the one that is read, whatever follows it.
 pub fn reads_back()
@@ -18,4 +20,10 @@ pub fn takes_one_to_ten_bytes()
 pub fn unzigzag_undoes()
     ensures undoes { UnzigzagUndoes }
     ensures fits { ZigzagFits }
+{}
+
+/// A field that was written is the one that is read, whatever follows it.
+pub fn fields_read_back()
+    ensures number { NumberReadsBack }
+    ensures bytes { BytesReadBack }
 {}

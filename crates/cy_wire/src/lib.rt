@@ -1,22 +1,28 @@
-//! The wire form of Protocol Buffers: numbers and fields as bytes, exact to the standard's spelling.
+//! The wire form of Protocol Buffers: numbers and fields as bytes, exact to the standard's
+//! spelling.
 //!
-//! `specs/Wire` has the spelling, and `specs/Front` the reading of one number. A number is written in the least number of
-//! bytes. `specs/Laws` says what holds of every number.
+//! `specs/Wire` has the spelling, in which a number takes the least number of bytes. `specs/Varint`
+//! and `specs/Field` have the reading: the fields of a message with their places, up to its end or
+//! the first fault. `specs/Message` says once, for every message, how its values are found among
+//! its fields. `specs/Laws` says that what is written is read.
 #![tactic(auto)]
 
+mod decode;
 mod error;
+mod field;
 mod front;
 mod laws;
+mod reader;
+mod varint;
 mod whole;
 mod writer;
 mod zigzag;
 
 pub use error::WireError;
+pub use field::{Field, FieldValue, Span};
 pub use front::front_varint;
-pub use laws::{reads_back, takes_one_to_ten_bytes, unzigzag_undoes};
-pub use whole::{put_whole, whole_bytes};
+pub use laws::{fields_read_back, reads_back, takes_one_to_ten_bytes, unzigzag_undoes};
+pub use reader::Reader;
+pub use whole::{put_whole, whole_bytes, whole_of};
 pub use writer::{Writer, push_varint};
 pub use zigzag::{zigzag_number, zigzag_value};
-
-#[cfg(test)]
-mod tests;

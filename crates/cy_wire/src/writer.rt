@@ -1,5 +1,6 @@
 // Writes numbers and fields.
-ghost use Rattle.std.specs.Prelude.{◌≡◌, ◌++◌, ◌<◌, ◌≤◌, ◌^◌, ◌+◌, [], List, ℕ, length, IfOk, OnOk, OnErr, IsOkUnless, vec_len, vec_capacity};
+ghost use Rattle.std.specs.Prelude.{◌≡◌, ◌++◌, ◌<◌, ◌≤◌, ◌^◌, ◌+◌, [], List, ℕ, length, IfOk, OnOk};
+ghost use Rattle.std.specs.Prelude.{OnErr, IsOkUnless, vec_len, vec_capacity};
 ghost use Rattle.cy_wire.specs.Wire.{varint_bytes, field_u64, field_bytes};
 
 use crate::WireError;

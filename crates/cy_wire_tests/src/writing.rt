@@ -1,9 +1,12 @@
-// Vectors of the Protocol Buffers documentation ("Encoding"), and numbers at the ends of their ranges.
-use crate::{WireError, Writer, front_varint, put_whole, whole_bytes, zigzag_number, zigzag_value};
+// Vectors of the Protocol Buffers documentation ("Encoding"), and numbers at the ends of their
+// ranges.
+use cy_wire::{
+    WireError, Writer, front_varint, put_whole, whole_bytes, zigzag_number, zigzag_value,
+};
 use std::test::Fail;
 
 #[test]
-fn numbers(rt: HostRuntime) -> Result<(), Fail> {
+fn writes_numbers_as_the_documentation_does(rt: HostRuntime) -> Result<(), Fail> {
     for (number, bytes) in [
         (0, b"\x00".as_slice()),
         (1, b"\x01".as_slice()),
@@ -30,7 +33,7 @@ fn numbers(rt: HostRuntime) -> Result<(), Fail> {
 }
 
 #[test]
-fn fronts(rt: HostRuntime) {
+fn reads_the_number_at_the_front(rt: HostRuntime) {
     for (bytes, want) in [
         (b"".as_slice(), None),
         (b"\x80".as_slice(), None),
@@ -51,7 +54,7 @@ fn fronts(rt: HostRuntime) {
 }
 
 #[test]
-fn fields(rt: HostRuntime) -> Result<(), Fail> {
+fn writes_fields(rt: HostRuntime) -> Result<(), Fail> {
     let mut writer = Writer::new(rt.alloc());
     writer.field_u64(1, 150)?;
     assert_eq!(rt; writer.done(), b"\x08\x96\x01".as_slice());
@@ -61,7 +64,7 @@ fn fields(rt: HostRuntime) -> Result<(), Fail> {
 }
 
 #[test]
-fn signed_numbers(rt: HostRuntime) {
+fn pairs_signed_numbers_with_unsigned_ones(rt: HostRuntime) {
     for (value, number) in [
         (0, 0),
         (-1, 1),
@@ -78,7 +81,7 @@ fn signed_numbers(rt: HostRuntime) {
 }
 
 #[test]
-fn wholes(rt: HostRuntime) -> Result<(), Fail> {
+fn writes_whole_numbers(rt: HostRuntime) -> Result<(), Fail> {
     let mut writer = Writer::with_capacity(rt.alloc(), 11)?;
     for (value, bytes) in [
         (7, b"\x08\x0e".as_slice()),
@@ -101,7 +104,7 @@ fn wholes(rt: HostRuntime) -> Result<(), Fail> {
 }
 
 #[test]
-fn faults_in_words(rt: HostRuntime) -> Result<(), Fail> {
+fn says_each_fault_in_words(rt: HostRuntime) -> Result<(), Fail> {
     for (fault, words) in [
         (WireError::Cut { at: 3 }, "cut at 3"),
         (

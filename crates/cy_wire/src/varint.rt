@@ -1,0 +1,35 @@
+// Reads the number at the front of bytes.
+ghost use Rattle.std.specs.Prelude.{◌≡◌, ◌≢◌, ◌≤◌, ◌<◌, length, IfOk, IfErr};
+ghost use Rattle.cy_wire.specs.Varint.{varint_at};
+
+use crate::WireError;
+use crate::writer::LONGEST;
+
+// The number at the front of bytes that stand at a place, and how many bytes it takes.
+pub(crate) fn varint_at(bytes: &[u8], at: u64) -> Result<(u64, usize), WireError>
+    ensures number { result ≡ varint_at at bytes.now }
+    ensures some { IfOk result (λ x. 0 < x.1) }
+    ensures within { IfOk result (λ x. x.1 ≤ length bytes.now) }
+    ensures not_memory { IfErr result (λ e. e ≢ WireError.Memory) }
+{
+    let mut value = 0u64;
+    let mut scale = 1u64;
+    for place in 0..LONGEST - 1 {
+        let Some(&byte) = bytes.get(place) else {
+            return Err(WireError::Cut { at });
+        };
+        value += u64::from(byte % 128) * scale;
+        if byte < 128 {
+            return Ok((value, place + 1));
+        }
+        scale *= 128;
+    }
+    let Some(&last) = bytes.get(LONGEST - 1) else {
+        return Err(WireError::Cut { at });
+    };
+    if last >= 128 {
+        return Err(WireError::LongVarint { at });
+    }
+    // Of the tenth byte there is room for one bit: the others are dropped.
+    Ok((value + u64::from(last % 2) * scale, LONGEST))
+}
