@@ -4,7 +4,7 @@ use Rattle.cy_text.specs.Fields.{Fields, Held, Nothing, Quote, Message}
 use Rattle.cy_text.specs.Strings.{and_then}
 use Rattle.cy_text.specs.Tokens.{Tokens, Next, End, Faulty, tokens_of}
 use Rattle.cy_text.specs.Form.{Building, Reading, reading, begun, step, placed, opened, closed, same_bracket, at_field, at_message, at_value, after_name, after_colon, at_item, at_first_item, after_item, after_sign, after_value, after_string, all_closed, ends_value, finish, read, read_text, unread}
-use Rattle.cy_text.specs.Grammar.{on, followed, depth_of, whole, IsFields, none, message, IsFront, IsFirstFault, in_itself, out_of_place, too_deep, at_end}
+use Rattle.cy_text.specs.Grammar.{on, followed, depth_of, whole, IsFields, none, message, IsPrefix, IsFirstFault, in_itself, out_of_place, too_deep, at_end}
 use Rattle.cy_text.specs.Places.{with_place, error_of, fields_of_text}
 use Rattle.cy_text.specs.declared.token.Bracket.{Bracket}
 use Rattle.cy_text.specs.declared.token.Bracket.TheVariants.{Brace, Angle}
@@ -25,12 +25,12 @@ use Rattle.cy_text.specs.declared.fault.Fault.{Fault}
 use Rattle.cy_text.specs.declared.fault.Fault.TheVariants.{Bad, TooDeep}
 use Rattle.cy_text.proofs.Runs.{run, run_behind, settled, finish_settled, Leads, there, deep}
 use Rattle.cy_text.proofs.FormReads.{in_fields, fields_read, fields_end}
-use Rattle.cy_text.proofs.Fronts.{InList, Behind, Awaits, Inside, item_place, FrontOf, Front}
-use Rattle.cy_text.proofs.FrontSteps.{item_is, first_awaits, step_front}
+use Rattle.cy_text.proofs.Prefixes.{InList, Behind, Awaits, Inside, item_place, PrefixOf, Prefix}
+use Rattle.cy_text.proofs.PrefixSteps.{item_is, first_awaits, step_prefix}
 use Rattle.cy_text.proofs.FormOnly.{followed_more, run_more}
 
--- Tokens in front of the front of a text are one.
-shorter : (ts us : List Lexeme) → IsFront (ts ++ us) → IsFront ts
+-- Tokens in front of a prefix of a text are one.
+shorter : (ts us : List Lexeme) → IsPrefix (ts ++ us) → IsPrefix ts
 shorter ts us f = record { rest = us ++ f.rest; fields = f.fields; form = rw append_assoc at f.form }
 
 -- Where something stands that antt wants named.
@@ -38,67 +38,67 @@ nowhere : Span
 nowhere = record { start = 0; end = 0 }
 
 -- What is open can be closed.
-module _ (inside : Fields → List Lexeme → Type 0) (front : (fields : Fields) (ts : List Lexeme) → inside fields ts → IsFront ts) where
-  list_front : (colon : Bool) (name : List ℕ) (fields : Fields) (ts : List Lexeme) → InList inside colon name fields ts → IsFront ts
-  list_front colon name fields ts h =
+module _ (inside : Fields → List Lexeme → Type 0) (prefix : (fields : Fields) (ts : List Lexeme) → inside fields ts → IsPrefix ts) where
+  list_prefix : (colon : Bool) (name : List ℕ) (fields : Fields) (ts : List Lexeme) → InList inside colon name fields ts → IsPrefix ts
+  list_prefix colon name fields ts h =
       let closed_list = h.close h.items fields nowhere h.are in
-      subst IsFront (sym h.tokens) (shorter (h.front ++ h.items) (on nowhere token.ListClose ∷ []) (rw append_assoc (front fields _ closed_list.now)))
+      subst IsPrefix (sym h.tokens) (shorter (h.prefix ++ h.items) (on nowhere token.ListClose ∷ []) (rw append_assoc (prefix fields _ closed_list.now)))
 
-  at_place : (name : List ℕ) (start : ℕ) (p : Place) (fields : Fields) (ts : List Lexeme) → Behind inside (record { name = name; start = start; place = p }) fields ts → IsFront ts
-  at_place name start place.Field fields ts h = front fields ts h.now
-  at_place name start place.Item fields ts h = list_front true name fields ts h
-  at_place name start place.MessageItem fields ts h = list_front false name fields ts h
+  at_place : (name : List ℕ) (start : ℕ) (p : Place) (fields : Fields) (ts : List Lexeme) → Behind inside (record { name = name; start = start; place = p }) fields ts → IsPrefix ts
+  at_place name start place.Field fields ts h = prefix fields ts h.now
+  at_place name start place.Item fields ts h = list_prefix true name fields ts h
+  at_place name start place.MessageItem fields ts h = list_prefix false name fields ts h
 
-  behind_front : (slot : Slot) (fields : Fields) (ts : List Lexeme) → Behind inside slot fields ts → IsFront ts
-  behind_front slot fields ts h = at_place slot.name slot.start slot.place fields ts h
+  behind_prefix : (slot : Slot) (fields : Fields) (ts : List Lexeme) → Behind inside slot fields ts → IsPrefix ts
+  behind_prefix slot fields ts h = at_place slot.name slot.start slot.place fields ts h
 
   -- a message may follow
-  awaits_front : (colon : Bool) (slot : Slot) (fields : Fields) (ts : List Lexeme) (mark : Bracket) (s : Span) → Awaits inside colon slot fields ts → IsFront (ts ++ on s (token.Open mark) ∷ [])
-  awaits_front colon slot fields ts mark s h =
-      shorter (ts ++ on s (token.Open mark) ∷ []) (on nowhere (token.Close mark) ∷ []) (rw append_assoc (behind_front slot _ _
+  awaits_prefix : (colon : Bool) (slot : Slot) (fields : Fields) (ts : List Lexeme) (mark : Bracket) (s : Span) → Awaits inside colon slot fields ts → IsPrefix (ts ++ on s (token.Open mark) ∷ [])
+  awaits_prefix colon slot fields ts mark s h =
+      shorter (ts ++ on s (token.Open mark) ∷ []) (on nowhere (token.Close mark) ∷ []) (rw append_assoc (behind_prefix slot _ _
       (h (on s (token.Open mark) ∷ on nowhere (token.Close mark) ∷ []) (Message Nothing) (message mark s nowhere none))))
 
-inside_front : (frames : List Frame) (fields : Fields) (ts : List Lexeme) → Inside frames fields ts → IsFront ts
-inside_front [] fields ts f = record { rest = []; fields = fields; form = rw append-nil f }
-inside_front (frame ∷ frames) fields ts w =
+inside_prefix : (frames : List Frame) (fields : Fields) (ts : List Lexeme) → Inside frames fields ts → IsPrefix ts
+inside_prefix [] fields ts f = record { rest = []; fields = fields; form = rw append-nil f }
+inside_prefix (frame ∷ frames) fields ts w =
     let closed_message = w.close w.inner fields nowhere w.are in
-    subst IsFront (sym w.tokens) (shorter (w.front ++ w.inner) (on nowhere (token.Close frame.bracket) ∷ [])
-    (rw append_assoc (behind_front (Inside frames) (λ fs us h. inside_front frames fs us h) frame.slot _ _ closed_message)))
+    subst IsPrefix (sym w.tokens) (shorter (w.prefix ++ w.inner) (on nowhere (token.Close frame.bracket) ∷ [])
+    (rw append_assoc (behind_prefix (Inside frames) (λ fs us h. inside_prefix frames fs us h) frame.slot _ _ closed_message)))
 
 module _ (b : Building) (ts : List Lexeme) where
-  value_front : (colon : Bool) (slot : Slot) (mark : Bracket) (s : Span) → Awaits (Inside b.frames) colon slot b.fields ts → IsFront (ts ++ on s (token.Open mark) ∷ [])
-  value_front colon slot mark s h = awaits_front (Inside b.frames) (inside_front b.frames) colon slot b.fields ts mark s h
+  value_prefix : (colon : Bool) (slot : Slot) (mark : Bracket) (s : Span) → Awaits (Inside b.frames) colon slot b.fields ts → IsPrefix (ts ++ on s (token.Open mark) ∷ [])
+  value_prefix colon slot mark s h = awaits_prefix (Inside b.frames) (inside_prefix b.frames) colon slot b.fields ts mark s h
 
-  placed_front : (slot : Slot) (fields : Fields) (us : List Lexeme) → Behind (Inside b.frames) slot fields (ts ++ us) → IsFront ts
-  placed_front slot fields us h = shorter ts us (behind_front (Inside b.frames) (inside_front b.frames) slot fields (ts ++ us) h)
+  placed_prefix : (slot : Slot) (fields : Fields) (us : List Lexeme) → Behind (Inside b.frames) slot fields (ts ++ us) → IsPrefix ts
+  placed_prefix slot fields us h = shorter ts us (behind_prefix (Inside b.frames) (inside_prefix b.frames) slot fields (ts ++ us) h)
 
-  -- What was read is the front of a text of the form.
-  front_of : (next : Expected) → FrontOf b next ts → IsFront ts
-  front_of (expect.Field true) h = inside_front b.frames b.fields ts h.now
-  front_of (expect.Field false) h = inside_front b.frames b.fields ts h
-  front_of (expect.AfterName slot) h = shorter ts _ (value_front false slot Brace nowhere h.1.value)
-  front_of (expect.AfterColon slot) h = shorter ts _ (value_front true slot Brace nowhere h.1.value)
-  front_of (expect.FirstItem slot) h = shorter ts _ (value_front h.0 slot Brace nowhere (first_awaits b ts nowhere unread h.0 slot h.1 h.2))
-  front_of (expect.Item slot) h = shorter ts _ (value_front h.0 slot Brace nowhere h.2)
-  front_of (expect.AfterItem slot) h = list_front (Inside b.frames) (inside_front b.frames) h.0 slot.name b.fields ts h.2
-  front_of (expect.Signed slot) h = placed_front slot _ _ (h (token.Whole 0) _ nowhere whole)
-  front_of (expect.Strings slot bytes end) h =
-      subst IsFront (ap (λ us. h.front ++ us) (append-nil h.quotes) ∙ sym h.tokens) (behind_front (Inside b.frames) (inside_front b.frames) slot _ _ (h.value [] bytes (rw append-nil h.are)))
+  -- What was read is a prefix of a text of the form.
+  prefix_of : (next : Expected) → PrefixOf b next ts → IsPrefix ts
+  prefix_of (expect.Field true) h = inside_prefix b.frames b.fields ts h.now
+  prefix_of (expect.Field false) h = inside_prefix b.frames b.fields ts h
+  prefix_of (expect.AfterName slot) h = shorter ts _ (value_prefix false slot Brace nowhere h.1.value)
+  prefix_of (expect.AfterColon slot) h = shorter ts _ (value_prefix true slot Brace nowhere h.1.value)
+  prefix_of (expect.FirstItem slot) h = shorter ts _ (value_prefix h.0 slot Brace nowhere (first_awaits b ts nowhere unread h.0 slot h.1 h.2))
+  prefix_of (expect.Item slot) h = shorter ts _ (value_prefix h.0 slot Brace nowhere h.2)
+  prefix_of (expect.AfterItem slot) h = list_prefix (Inside b.frames) (inside_prefix b.frames) h.0 slot.name b.fields ts h.2
+  prefix_of (expect.Signed slot) h = placed_prefix slot _ _ (h (token.Whole 0) _ nowhere whole)
+  prefix_of (expect.Strings slot bytes end) h =
+      subst IsPrefix (ap (λ us. h.prefix ++ us) (append-nil h.quotes) ∙ sym h.tokens) (behind_prefix (Inside b.frames) (inside_prefix b.frames) slot _ _ (h.value [] bytes (rw append-nil h.are)))
 
   -- A token is refused for its place, or for its depth, where it may stand but for that.
   abbrev Refusal : Token → Span → Result Reading Fault → Type 0
   Refusal t s (Ok n) = Unit {0}
   Refusal t s (Err (Bad kind at)) = at ≡ s.start
-  Refusal t s (Err (TooDeep at)) = (at ≡ s.start) × IsFront (ts ++ on s t ∷ [])
+  Refusal t s (Err (TooDeep at)) = (at ≡ s.start) × IsPrefix (ts ++ on s t ∷ [])
 
   module _ (s : Span) where
-    room_refusal : (t : Token) (room : Bool) (n : Reading) → IsFront (ts ++ on s t ∷ []) → Refusal t s (cond room (Ok n) (Err (TooDeep s.start)))
+    room_refusal : (t : Token) (room : Bool) (n : Reading) → IsPrefix (ts ++ on s t ∷ []) → Refusal t s (cond room (Ok n) (Err (TooDeep s.start)))
     room_refusal t true n f = tt
     room_refusal t false n f = (refl, f)
 
     opened_refusal : (colon : Bool) (slot : Slot) (mark : Bracket) → Awaits (Inside b.frames) colon slot b.fields ts → Refusal (token.Open mark) s (opened b (begun slot s.start) mark s.start)
     unfolding opened
-    opened_refusal colon slot mark h = room_refusal (token.Open mark) (nat_lt (length b.frames) 64) _ (value_front colon slot mark s h)
+    opened_refusal colon slot mark h = room_refusal (token.Open mark) (nat_lt (length b.frames) 64) _ (value_prefix colon slot mark s h)
 
     message_refusal : (colon : Bool) (slot : Slot) (t : Token) → Awaits (Inside b.frames) colon slot b.fields ts → Refusal t s (at_message b slot (on s t))
     unfolding at_message
@@ -138,18 +138,18 @@ module _ (b : Building) (ts : List Lexeme) where
     field_refusal true token.Semicolon = tt
     field_refusal x t = refl
 
-    name_refusal : (slot : Slot) (t : Token) → FrontOf b (expect.AfterName slot) ts → Refusal t s (after_name b slot (on s t))
+    name_refusal : (slot : Slot) (t : Token) → PrefixOf b (expect.AfterName slot) ts → Refusal t s (after_name b slot (on s t))
     unfolding after_name
     name_refusal slot token.Colon h = tt
     name_refusal slot token.ListOpen h = tt
     name_refusal slot t h = message_refusal false slot t h.1.value
 
-    colon_refusal : (slot : Slot) (t : Token) → FrontOf b (expect.AfterColon slot) ts → Refusal t s (after_colon b slot (on s t))
+    colon_refusal : (slot : Slot) (t : Token) → PrefixOf b (expect.AfterColon slot) ts → Refusal t s (after_colon b slot (on s t))
     unfolding after_colon
     colon_refusal slot token.ListOpen h = tt
     colon_refusal slot t h = value_refusal slot t h.1.value
 
-    first_refusal : (slot : Slot) (t : Token) → FrontOf b (expect.FirstItem slot) ts → Refusal t s (at_first_item b slot (on s t))
+    first_refusal : (slot : Slot) (t : Token) → PrefixOf b (expect.FirstItem slot) ts → Refusal t s (at_first_item b slot (on s t))
     unfolding at_first_item
     first_refusal slot token.ListClose h = tt
     first_refusal slot t h = item_refusal h.0 slot t h.1 (first_awaits b ts s unread h.0 slot h.1 h.2)
@@ -179,7 +179,7 @@ module _ (b : Building) (ts : List Lexeme) (s : Span) where
   string_refusal slot bytes end (token.Quote other) = tt
   string_refusal slot bytes end t = behind_refusal slot.name slot.start end (Quote bytes) slot.place t
 
-  step_refusal : (next : Expected) (t : Token) → FrontOf b next ts → Refusal b ts t s (step (reading b next) (on s t))
+  step_refusal : (next : Expected) (t : Token) → PrefixOf b next ts → Refusal b ts t s (step (reading b next) (on s t))
   unfolding step
   step_refusal (expect.Field x) t h = field_refusal b ts s x t
   step_refusal (expect.AfterName slot) t h = name_refusal b ts s slot t h
@@ -222,7 +222,7 @@ no_way : {r s : Reading} {ts : List Lexeme} {d e at : ℕ} {kind : BadKind} → 
 no_way (there n ran settles below) f = cc
 no_way (deep at failed above) f = cc
 
-misplaced : (r : Reading) (ts : List Lexeme) (l : Lexeme) (kind : BadKind) (at : ℕ) → run unread ts ≡ Ok r → step r l ≡ Err (Bad kind at) → IsFront (ts ++ l ∷ []) → ⊥
+misplaced : (r : Reading) (ts : List Lexeme) (l : Lexeme) (kind : BadKind) (at : ℕ) → run unread ts ≡ Ok r → step r l ≡ Err (Bad kind at) → IsPrefix (ts ++ l ∷ []) → ⊥
 misplaced r ts l kind at ran e f =
     let here : IsFields (ts ++ l ∷ f.rest) f.fields = rw append_assoc at f.form in
     no_way (fields_read here []).leads (fails_on r ts l f.rest (Bad kind at) ran e)
@@ -244,23 +244,23 @@ ends_here r fields x at fault (there n ran settles below) f e =
 ends_here r fields x at fault (deep place failed above) f e = cc
 
 module _ (whole_text : Tokens) where
-  refused_at : (r : Reading) (ts : List Lexeme) (l : Lexeme) (more : Tokens) (fault : Fault) → whole_text ≡ followed ts (Next l more) → Front r ts → run unread ts ≡ Ok r → step r l ≡ Err fault
+  refused_at : (r : Reading) (ts : List Lexeme) (l : Lexeme) (more : Tokens) (fault : Fault) → whole_text ≡ followed ts (Next l more) → Prefix r ts → run unread ts ≡ Ok r → step r l ≡ Err fault
       → Refusal r.building ts l.token l.span (Err fault) → IsFirstFault whole_text fault
   refused_at r ts l more (Bad kind at) same h ran e place =
-      subst (λ (n : ℕ). IsFirstFault whole_text (Bad kind n)) (sym place) (out_of_place ts l more kind same (front_of r.building ts r.next h) (misplaced r ts l kind at ran e))
+      subst (λ (n : ℕ). IsFirstFault whole_text (Bad kind n)) (sym place) (out_of_place ts l more kind same (prefix_of r.building ts r.next h) (misplaced r ts l kind at ran e))
   refused_at r ts l more (TooDeep at) same h ran e place =
       subst (λ (n : ℕ). IsFirstFault whole_text (TooDeep n)) (sym place.0) (too_deep ts l more same place.1 (deep_in_all r ts l at ran e))
 
-  ended_at : (r : Reading) (ts : List Lexeme) (at : ℕ) (fault : Fault) → whole_text ≡ followed ts (End at) → Front r ts → run unread ts ≡ Ok r → finish r at ≡ Err fault → EndRefusal at (Err fault)
+  ended_at : (r : Reading) (ts : List Lexeme) (at : ℕ) (fault : Fault) → whole_text ≡ followed ts (End at) → Prefix r ts → run unread ts ≡ Ok r → finish r at ≡ Err fault → EndRefusal at (Err fault)
       → IsFirstFault whole_text fault
-  ended_at r ts at (Bad kind n) same h ran e place = subst (λ (m : ℕ). IsFirstFault whole_text (Bad kind m)) (sym place) (at_end ts at kind same (front_of r.building ts r.next h) (λ fields f.
+  ended_at r ts at (Bad kind n) same h ran e place = subst (λ (m : ℕ). IsFirstFault whole_text (Bad kind m)) (sym place) (at_end ts at kind same (prefix_of r.building ts r.next h) (λ fields f.
       ends_here r fields (fields_read f []).after_field at (Bad kind n) (fields_read f []).leads ran e))
   ended_at r ts at (TooDeep n) same h ran e place = absurd place
 
-  first_fault : (tokens : Tokens) (r : Reading) (ts : List Lexeme) (fault : Fault) → whole_text ≡ followed ts tokens → Front r ts → run unread ts ≡ Ok r → read r tokens ≡ Err fault → IsFirstFault whole_text fault
+  first_fault : (tokens : Tokens) (r : Reading) (ts : List Lexeme) (fault : Fault) → whole_text ≡ followed ts tokens → Prefix r ts → run unread ts ≡ Ok r → read r tokens ≡ Err fault → IsFirstFault whole_text fault
   unfolding read
   first_fault (Next l more) r ts fault same h ran e = elim (step r l) as (λ o. step r l ≡ o → and_then o (λ n. read n more) ≡ Err fault → IsFirstFault whole_text fault) [
-    | Ok n ↦ λ s d. first_fault more n (ts ++ l ∷ []) fault (same ∙ sym (followed_more ts l more)) (step_front r ts l n h s) (run_more unread r n ts l ran s) d
+    | Ok n ↦ λ s d. first_fault more n (ts ++ l ∷ []) fault (same ∙ sym (followed_more ts l more)) (step_prefix r ts l n h s) (run_more unread r n ts l ran s) d
     | Err f ↦ λ s d.
         let here : f ≡ fault = cc in
         subst (λ (g : Fault). IsFirstFault whole_text g) here (refused_at r ts l more f same h ran s (subst (Refusal r.building ts l.token l.span) s (step_refusal r.building ts l.span r.next l.token h)))
@@ -268,7 +268,7 @@ module _ (whole_text : Tokens) where
   first_fault (End at) r ts fault same h ran e = ended_at r ts at fault same h ran e (subst (EndRefusal at) e (end_refusal at r.building r.next))
   first_fault (Faulty f) r ts fault same h ran e =
       let here : f ≡ fault = cc in
-      subst (λ (g : Fault). IsFirstFault whole_text g) here (in_itself ts same (front_of r.building ts r.next h))
+      subst (λ (g : Fault). IsFirstFault whole_text g) here (in_itself ts same (prefix_of r.building ts r.next h))
 
 with_place_err : (text : List ℕ) (o : Result Fields Fault) (error : TextError) → with_place text o ≡ Err error → (fault : Fault) × (o ≡ Err fault) × (error ≡ error_of text fault)
 with_place_err text (Ok fields) error e = absurd (cc)

@@ -16,8 +16,8 @@ use Rattle.cy_text.specs.declared.error.TextError.{TextError}
 use Rattle.cy_text.specs.declared.fault.Fault.{Fault}
 use Rattle.cy_text.proofs.Runs.{run, run_one, run_behind}
 use Rattle.cy_text.proofs.FormReads.{read_low, form_read}
-use Rattle.cy_text.proofs.Fronts.{Inside, FrontOf, Front}
-use Rattle.cy_text.proofs.FrontSteps.{quote_placed, step_front}
+use Rattle.cy_text.proofs.Prefixes.{Inside, PrefixOf, Prefix}
+use Rattle.cy_text.proofs.PrefixSteps.{quote_placed, step_prefix}
 
 abbrev whole_form : Fields → Result Fields Fault
 whole_form fields = Ok fields
@@ -28,14 +28,14 @@ module _ (ts : List Lexeme) (at : ℕ) (all : Fields) where
   closed_form [] fields f e = let same : fields ≡ all = cc in subst (λ (fs : Fields). IsFields ts fs) same f
   closed_form (frame ∷ frames) fields f e = absurd (cc)
 
-  ends_form : (b : Building) (name : List ℕ) (start end : ℕ) (bytes : List ℕ) (p : Place) → Front (placed b (record { name = name; start = start; place = p }) end (Quote bytes)) ts
+  ends_form : (b : Building) (name : List ℕ) (start end : ℕ) (bytes : List ℕ) (p : Place) → Prefix (placed b (record { name = name; start = start; place = p }) end (Quote bytes)) ts
       → ends_value (placed b (record { name = name; start = start; place = p }) end (Quote bytes)) at ≡ Ok all → IsFields ts all
   unfolding ends_value placed
   ends_form b name start end bytes place.Field h e = closed_form b.frames _ h.now e
   ends_form b name start end bytes place.Item h e = absurd (cc)
   ends_form b name start end bytes place.MessageItem h e = absurd (cc)
 
-  finish_form : (b : Building) (next : Expected) → FrontOf b next ts → finish (reading b next) at ≡ Ok all → IsFields ts all
+  finish_form : (b : Building) (next : Expected) → PrefixOf b next ts → finish (reading b next) at ≡ Ok all → IsFields ts all
   unfolding finish
   finish_form b (expect.Field true) h e = closed_form b.frames b.fields h.now e
   finish_form b (expect.Field false) h e = closed_form b.frames b.fields h e
@@ -58,10 +58,10 @@ pub record Found (whole : Tokens) (fields : Fields) : Type 0 where
   pub form : IsFields tokens fields
   pub low : depth_of fields ≤ 64
 
-found : (whole : Tokens) (all : Fields) (tokens : Tokens) (r : Reading) (ts : List Lexeme) → whole ≡ followed ts tokens → Front r ts → run unread ts ≡ Ok r → read r tokens ≡ Ok all → Found whole all
+found : (whole : Tokens) (all : Fields) (tokens : Tokens) (r : Reading) (ts : List Lexeme) → whole ≡ followed ts tokens → Prefix r ts → run unread ts ≡ Ok r → read r tokens ≡ Ok all → Found whole all
 unfolding read
 found whole all (Next l more) r ts same h ran e = elim (step r l) as (λ o. step r l ≡ o → and_then o (λ n. read n more) ≡ Ok all → Found whole all) [
-  | Ok n ↦ λ s d. found whole all more n (ts ++ l ∷ []) (same ∙ sym (followed_more ts l more)) (step_front r ts l n h s) (run_more unread r n ts l ran s) d
+  | Ok n ↦ λ s d. found whole all more n (ts ++ l ∷ []) (same ∙ sym (followed_more ts l more)) (step_prefix r ts l n h s) (run_more unread r n ts l ran s) d
   | Err f ↦ λ s d. absurd (cc)
 ] refl e
 found whole all (End at) r ts same h ran e =

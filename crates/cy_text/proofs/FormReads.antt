@@ -174,13 +174,13 @@ mutual
     leads = as_item r frames before colon name start vs held (value_read v r (record { frames = frames; fields = before }) (item_slot colon name start) h);
   }
   items_read (next {colon = colon} {name = name} {ts = ts} {vs = vs} {before = before} {middle = middle} {held = held} i s v) r frames start h =
-      let front = items_read i r frames start h in
+      let prefix = items_read i r frames start h in
       let b : Building = record { frames = frames; fields = middle } in
       record {
         last = start_of vs;
-        leads = lead_on ts (on s token.Comma ∷ vs) _ (length frames + depth_of middle) _ front.leads (omega arith)
-            (lead_by (on s token.Comma ∷ []) vs _ _ (run_one _ _ _ (next_item b (item_slot colon name front.last) s))
-            (as_item _ frames middle colon name front.last vs held (value_read v _ b (item_slot colon name front.last) (awaits_item b colon name front.last)))) refl;
+        leads = lead_on ts (on s token.Comma ∷ vs) _ (length frames + depth_of middle) _ prefix.leads (omega arith)
+            (lead_by (on s token.Comma ∷ []) vs _ _ (run_one _ _ _ (next_item b (item_slot colon name prefix.last) s))
+            (as_item _ frames middle colon name prefix.last vs held (value_read v _ b (item_slot colon name prefix.last) (awaits_item b colon name prefix.last)))) refl;
       }
 
   pub field_read : {us : List Lexeme} {before after : Fields} → IsField us before after → (frames : List Frame) (x : Bool)

@@ -142,16 +142,16 @@ string_read : (b : Building) (slot : Slot) (s : Span) (bytes : List ℕ) → at_
 unfolding at_value
 string_read b slot s bytes = refl
 
-string_added : (b : Building) (slot : Slot) (front : List ℕ) (end : ℕ) (s : Span) (bytes : List ℕ)
-    → step (reading b (expect.Strings slot front end)) (on s (token.Quote bytes)) ≡ Ok (reading b (expect.Strings slot (front ++ bytes) s.end))
+string_added : (b : Building) (slot : Slot) (prefix : List ℕ) (end : ℕ) (s : Span) (bytes : List ℕ)
+    → step (reading b (expect.Strings slot prefix end)) (on s (token.Quote bytes)) ≡ Ok (reading b (expect.Strings slot (prefix ++ bytes) s.end))
 unfolding step after_string
-string_added b slot front end s bytes = refl
+string_added b slot prefix end s bytes = refl
 
 module _ (r : Reading) (b : Building) (slot : Slot) (h : Awaits r b slot true) where
   pub strings_read : {ts : List Lexeme} {bytes : List ℕ} → IsStrings ts bytes → run r ts ≡ Ok (reading b (expect.Strings (begun slot (start_of ts)) bytes (end_of 0 ts)))
   strings_read (one {bytes = bytes} s) = run_one r _ _ (h s (token.Quote bytes) refl ∙ string_read b slot s bytes)
-  strings_read (more {ts = ts} {front = front} f s bytes) =
+  strings_read (more {ts = ts} {prefix = prefix} f s bytes) =
       let q = on s (token.Quote bytes) in
       let start : start_of (ts ++ q ∷ []) ≡ start_of ts = strings_start f (q ∷ []) in
       let end : end_of 0 (ts ++ q ∷ []) ≡ s.end = end_last 0 ts q in
-      rw (start, end) (run_behind r _ ts (q ∷ []) (strings_read f) ∙ run_one _ _ q (string_added b (begun slot (start_of ts)) front (end_of 0 ts) s bytes))
+      rw (start, end) (run_behind r _ ts (q ∷ []) (strings_read f) ∙ run_one _ _ q (string_added b (begun slot (start_of ts)) prefix (end_of 0 ts) s bytes))

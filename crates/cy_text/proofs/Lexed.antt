@@ -16,7 +16,7 @@ use Rattle.cy_text.specs.declared.token.Bracket.TheVariants.{Brace}
 use Rattle.cy_text.specs.declared.token.Token.{Token}
 use Rattle.cy_text.specs.declared.token.Token.TheVariants as token
 use Rattle.cy_text.specs.declared.token.Lexeme.{Lexeme}
-use Rattle.cy_text.proofs.TokenSteps.{passed_over, with_token, token_front, blank_front}
+use Rattle.cy_text.proofs.TokenSteps.{passed_over, with_token, token_prefix, blank_prefix}
 
 -- The tokens of a text that stands at a place, before a rest.
 abbrev pub Lexes : ℕ → List ℕ → List ℕ → List Lexeme → Type 0
@@ -44,13 +44,13 @@ lexes_token at b bs rest t begins found =
     let passed : at + length (b ∷ bs) - (at + 1) ≡ length bs = omega arith in
     let short : length bs ≤ length (bs ++ rest) = omega (arith, length-append bs rest) in
     let end : at + 1 + length bs ≡ at + length (b ∷ bs) = omega arith in
-    token_front at b (bs ++ rest) begins ∙ rw found (ap (Next (lexeme t at (at + length (b ∷ bs)))) (
+    token_prefix at b (bs ++ rest) begins ∙ rw found (ap (Next (lexeme t at (at + length (b ∷ bs)))) (
     ap (λ (k : ℕ). tokens_from (at + 1) k (bs ++ rest)) passed ∙ passed_over (at + 1) (length bs) (bs ++ rest) short
     ∙ ap (tokens_from (at + 1 + length bs) 0) (drop-append_seam bs rest) ∙ ap (λ (k : ℕ). tokens_from k 0 rest) end))
 
 -- A blank.
 pub lexes_blank : (at b : ℕ) (rest : List ℕ) → is_blank b ≡ true → Lexes at (b ∷ []) rest []
-lexes_blank at b rest h = blank_front at b rest h
+lexes_blank at b rest h = blank_prefix at b rest h
 
 -- A run that a byte ends.
 pub passes : (b : Bool) (n m : ℕ) → cond b (1 + n) 0 ≡ suc m → (b ≡ true) × (n ≡ m)
@@ -69,9 +69,9 @@ run_ends test (x ∷ xs) rest h e =
 letter_begins : (b : ℕ) → is_letter b ≡ true → begins_token b ≡ true
 letter_begins b h = grind (arith, nat_tests, common_steps)
 
-word_at_front : (at b : ℕ) (bs rest : List ℕ) → prefix_len is_word (bs ++ rest) ≡ length bs → word_at at (b ∷ bs ++ rest) ≡ Ok (lexeme (token.Word (b ∷ bs)) at (at + length (b ∷ bs)))
+word_at_prefix : (at b : ℕ) (bs rest : List ℕ) → prefix_len is_word (bs ++ rest) ≡ length bs → word_at at (b ∷ bs ++ rest) ≡ Ok (lexeme (token.Word (b ∷ bs)) at (at + length (b ∷ bs)))
 unfolding word_at
-word_at_front at b bs rest n =
+word_at_prefix at b bs rest n =
     let len : 1 + length bs ≡ length (b ∷ bs) = omega arith in
     let word : take (length (b ∷ bs)) (b ∷ bs ++ rest) ≡ b ∷ bs = take-append_seam (b ∷ bs) rest in
     rw (n, len, word) refl
@@ -82,7 +82,7 @@ lexes_word at [] rest name h = absurd (false≢true name.letter)
 lexes_word at (b ∷ bs) rest name h =
     let p = passes (is_word b) (prefix_len is_word bs) (length bs) name.all in
     let n : prefix_len is_word (bs ++ rest) ≡ length bs = run_ends is_word bs rest p.1 h in
-    lexes_token at b bs rest (token.Word (b ∷ bs)) (letter_begins b name.letter) (rw name.letter (word_at_front at b bs rest n))
+    lexes_token at b bs rest (token.Word (b ∷ bs)) (letter_begins b name.letter) (rw name.letter (word_at_prefix at b bs rest n))
 
 -- A mark.
 pub lexes_colon : (at : ℕ) (rest : List ℕ) → Lexes at (58 ∷ []) rest (on (record { start = at; end = at + 1 }) token.Colon ∷ [])

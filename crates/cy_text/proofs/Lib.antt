@@ -9,8 +9,8 @@ pub mod Lines
 pub mod Runs
 pub mod FormRuns
 pub mod FormReads
-pub mod Fronts
-pub mod FrontSteps
+pub mod Prefixes
+pub mod PrefixSteps
 pub mod FormOnly
 pub mod FirstFaults
 pub mod Lexed

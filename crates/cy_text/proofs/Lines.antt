@@ -13,6 +13,6 @@ pub line_printed : (margin start o o₁ o₂ o₃ o₄ : List ℕ) (es : List En
     → o₁ ≡ o ++ margin → o₂ ≡ o₁ ++ e.name → o₃ ≡ o₂ ++ held_text margin (held_of e.value) → o₄ ≡ o₃ ++ codes "\n"
     → o₄ ≡ start ++ fields_text margin (fields_of (take (k + 1) es))
 line_printed margin start o o₁ o₂ o₃ o₄ es k e there here before p q r s =
-    let front : take (k + 1) es ≡ take k es ++ e ∷ [] = take_more es k e there ∙ ap (λ (x : Entry). take k es ++ x ∷ []) (sym here) in
-    let fields : fields_of (take (k + 1) es) ≡ And (fields_of (take k es)) e.name e.span (held_of e.value) = ap fields_of front ∙ fields_of_push (take k es) e in
+    let prefix : take (k + 1) es ≡ take k es ++ e ∷ [] = take_more es k e there ∙ ap (λ (x : Entry). take k es ++ x ∷ []) (sym here) in
+    let fields : fields_of (take (k + 1) es) ≡ And (fields_of (take k es)) e.name e.span (held_of e.value) = ap fields_of prefix ∙ fields_of_push (take k es) e in
     rw (fields, s, r, q, p, before) (simp append_assoc)

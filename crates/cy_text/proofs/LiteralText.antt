@@ -34,11 +34,11 @@ cond_text true n bs h = h refl
 cond_text false n bs h = IsUtf8-nil
 
 module _ (test : ℕ → Bool) (ascii : (b : ℕ) → test b ≡ true → b < 128) where
-  front_text : (bs : List ℕ) → IsUtf8 (take (prefix_len test bs) bs)
-  front_text [] = IsUtf8-nil
-  front_text (b ∷ bs) = cond_text (test b) (1 + prefix_len test bs) (b ∷ bs) (λ yes.
+  prefix_text : (bs : List ℕ) → IsUtf8 (take (prefix_len test bs) bs)
+  prefix_text [] = IsUtf8-nil
+  prefix_text (b ∷ bs) = cond_text (test b) (1 + prefix_len test bs) (b ∷ bs) (λ yes.
       let counted : 1 + prefix_len test bs ≡ suc (prefix_len test bs) = one-add (prefix_len test bs) in
-      rw counted (cons_text b (take (prefix_len test bs) bs) (ascii b yes) (front_text bs)))
+      rw counted (cons_text b (take (prefix_len test bs) bs) (ascii b yes) (prefix_text bs)))
 
   start_text : (bs : List ℕ) → starts test bs ≡ true → IsUtf8 (take 1 bs)
   start_text [] h = IsUtf8-nil
@@ -58,7 +58,7 @@ either_ascii x y p q b h = grind (arith, nat_tests, common_steps)
 
 -- A word.
 pub word_text : (b : ℕ) (bs : List ℕ) → is_letter b ≡ true → IsUtf8 (take (1 + prefix_len is_word bs) (b ∷ bs))
-word_text b bs h = joined 1 (prefix_len is_word bs) (b ∷ bs) (cons_text b [] (letter_ascii b h) IsUtf8-nil) (front_text is_word word_ascii bs)
+word_text b bs h = joined 1 (prefix_len is_word bs) (b ∷ bs) (cons_text b [] (letter_ascii b h) IsUtf8-nil) (prefix_text is_word word_ascii bs)
 
 exponent_text : (bs : List ℕ) → IsUtf8 (take (exponent_len bs) bs)
 unfolding exponent_len
@@ -70,7 +70,7 @@ exponent_text bs =
     cond_text (starts is_digit (drop (1 + s) bs)) _ bs (λ d.
     joined (1 + s) (prefix_len is_digit (drop (1 + s) bs)) bs
     (joined 1 s bs (start_text (either 101 69) (either_ascii 101 69 (omega arith) (omega arith)) bs e) sign)
-    (front_text is_digit digit_ascii (drop (1 + s) bs))))
+    (prefix_text is_digit digit_ascii (drop (1 + s) bs))))
 
 tail_text : (bs : List ℕ) → IsUtf8 (take (tail_len bs) bs)
 unfolding tail_len
@@ -93,19 +93,19 @@ sized_is_whole : (o : Option ℕ) (len n : ℕ) (bs : List ℕ) → sized o len 
 sized_is_whole None len n bs h = none-some (Literal, n) h
 sized_is_whole (Some size) len n bs h = let e : Whole size ≡ Literal = (ended_len (Whole size) len n bs h).0 in cc
 
-whole_is_whole : (base front count n : ℕ) (bs : List ℕ) → whole_at base front count bs ≡ Some (Literal, n) → ⊥
+whole_is_whole : (base prefix count n : ℕ) (bs : List ℕ) → whole_at base prefix count bs ≡ Some (Literal, n) → ⊥
 unfolding whole_at
-whole_is_whole base front count n bs h = sized_is_whole (value_of base (take count (drop front bs))) (front + count) n bs h
+whole_is_whole base prefix count n bs h = sized_is_whole (value_of base (take count (drop prefix bs))) (prefix + count) n bs h
 
 pointed_text : (count n : ℕ) (bs : List ℕ) → IsUtf8 (take count bs) → starts (either 46 46) (drop count bs) ≡ true → pointed_at count bs ≡ Some (Literal, n) → IsUtf8 (take n bs)
 unfolding pointed_at
 pointed_text count n bs digits point h =
     let e = count + 1 + prefix_len is_digit (drop (count + 1) bs) in
-    let front : IsUtf8 (take e bs) = joined (count + 1) _ bs
+    let prefix : IsUtf8 (take e bs) = joined (count + 1) _ bs
     (joined count 1 bs digits (start_text (either 46 46) (either_ascii 46 46 (omega arith) (omega arith)) (drop count bs) point))
-    (front_text is_digit digit_ascii (drop (count + 1) bs)) in
+    (prefix_text is_digit digit_ascii (drop (count + 1) bs)) in
     let len : e + tail_len (drop e bs) ≡ n = (ended_len Literal (e + tail_len (drop e bs)) n bs h).1 in
-    rw (← len) (joined e (tail_len (drop e bs)) bs front (tail_text (drop e bs)))
+    rw (← len) (joined e (tail_len (drop e bs)) bs prefix (tail_text (drop e bs)))
 
 decimal_text : (count n : ℕ) (bs : List ℕ) → IsUtf8 (take count bs) → decimal_at count bs ≡ Some (Literal, n) → IsUtf8 (take n bs)
 unfolding decimal_at
@@ -145,17 +145,17 @@ literal_text b n bs ascii h =
       | inr e ↦ elim (chosen (b == 48) _ _ (Some (Literal, n)) e.1) [
         | inl f ↦ zero_text n (b ∷ bs) first f.1
         | inr f ↦ decimal_text (1 + prefix_len is_digit bs) n (b ∷ bs)
-            (joined 1 (prefix_len is_digit bs) (b ∷ bs) first (front_text is_digit digit_ascii bs)) f.1
+            (joined 1 (prefix_len is_digit bs) (b ∷ bs) first (prefix_text is_digit digit_ascii bs)) f.1
       ]
     ]
 
-pub front_word : (bs : List ℕ) → starts is_letter bs ≡ true → IsUtf8 (take (1 + prefix_len is_word (drop 1 bs)) bs)
-front_word [] h = absurd (false≢true h)
-front_word (b ∷ bs) h = word_text b bs h
+pub prefix_word : (bs : List ℕ) → starts is_letter bs ≡ true → IsUtf8 (take (1 + prefix_len is_word (drop 1 bs)) bs)
+prefix_word [] h = absurd (false≢true h)
+prefix_word (b ∷ bs) h = word_text b bs h
 
 begins_ascii : (b : ℕ) → begins_number b ≡ true → b < 128
 begins_ascii b h = grind (arith, nat_tests, common_steps)
 
-pub front_literal : (n : ℕ) (bs : List ℕ) → starts begins_number bs ≡ true → number_at bs ≡ Some (Literal, n) → IsUtf8 (take n bs)
-front_literal n [] h e = absurd (false≢true h)
-front_literal n (b ∷ bs) h e = literal_text b n bs (begins_ascii b h) e
+pub prefix_literal : (n : ℕ) (bs : List ℕ) → starts begins_number bs ≡ true → number_at bs ≡ Some (Literal, n) → IsUtf8 (take n bs)
+prefix_literal n [] h e = absurd (false≢true h)
+prefix_literal n (b ∷ bs) h e = literal_text b n bs (begins_ascii b h) e

@@ -24,9 +24,9 @@ sized_fits : (size : Option ℕ) (len : ℕ) (xs : List ℕ) → 0 < len → len
 sized_fits None len xs some h = tt
 sized_fits (Some size) len xs some h = ended_fits (Whole size) len xs some h
 
-whole_fits : (base front count : ℕ) (xs : List ℕ) → 0 < count → front + count ≤ length xs → Fits xs (whole_at base front count xs)
+whole_fits : (base prefix count : ℕ) (xs : List ℕ) → 0 < count → prefix + count ≤ length xs → Fits xs (whole_at base prefix count xs)
 unfolding whole_at
-whole_fits base front count xs some h = sized_fits _ (front + count) xs (omega arith) h
+whole_fits base prefix count xs some h = sized_fits _ (prefix + count) xs (omega arith) h
 
 pointed_fits : (count : ℕ) (xs : List ℕ) → count + 1 ≤ length xs → Fits xs (pointed_at count xs)
 unfolding pointed_at

@@ -87,11 +87,11 @@ module _ (rest : List ℕ) where
       rw (drop-append-le (count + 1) xs (10 ∷ rest) h, prefix_before is_digit refl (drop (count + 1) xs), drop-append-le e xs (10 ∷ rest) fits, tail_before (drop e xs))
       (ended_before Literal (e + tail_len (drop e xs)) xs all)
 
-  whole_before : (base front count : ℕ) (xs : List ℕ) → front + count ≤ length xs → whole_at base front count (xs ++ 10 ∷ rest) ≡ whole_at base front count xs
+  whole_before : (base prefix count : ℕ) (xs : List ℕ) → prefix + count ≤ length xs → whole_at base prefix count (xs ++ 10 ∷ rest) ≡ whole_at base prefix count xs
   unfolding whole_at
-  whole_before base front count xs h =
-      let fits : count ≤ length (drop front xs) = omega (arith, length-drop front xs) in
-      rw (drop-append-le front xs (10 ∷ rest) (omega arith), take-append-le count (drop front xs) (10 ∷ rest) fits) (sized_before (value_of base (take count (drop front xs))) (front + count) xs h)
+  whole_before base prefix count xs h =
+      let fits : count ≤ length (drop prefix xs) = omega (arith, length-drop prefix xs) in
+      rw (drop-append-le prefix xs (10 ∷ rest) (omega arith), take-append-le count (drop prefix xs) (10 ∷ rest) fits) (sized_before (value_of base (take count (drop prefix xs))) (prefix + count) xs h)
 
   decimal_before : (count : ℕ) (xs : List ℕ) → count ≤ length xs → decimal_at count (xs ++ 10 ∷ rest) ≡ decimal_at count xs
   unfolding decimal_at
@@ -117,7 +117,7 @@ module _ (rest : List ℕ) where
   zero_of : (b : ℕ) (bs : List ℕ) → b ≡ 48 → zero_at (b ∷ bs ++ 10 ∷ rest) ≡ zero_at (b ∷ bs)
   zero_of b bs e = rw e (zero_before bs)
 
-  -- The number at the front is the same.
+  -- The number at the start is the same.
   pub number_before : (xs : List ℕ) → 0 < length xs → number_at (xs ++ 10 ∷ rest) ≡ number_at xs
   unfolding number_at
   number_before [] h = absurd (omega arith)

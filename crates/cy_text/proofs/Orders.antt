@@ -81,28 +81,28 @@ mutual
       widen fields o.end p.0 s.start s.end (fields_order f o.end p.0 p.1) (omega (arith, h.0, h.1)) (omega (arith, last, p.2.0, p.2.1))
 
   items_order : {colon : Bool} {name : List ℕ} {ts : List Lexeme} {before after : Fields} → IsItems colon name ts before after → (least low high : ℕ) → AreInOrder least low before → InRow low high ts → AreInOrder least high after
-  items_order (first {vs = vs} {before = before} v) least low high front h =
+  items_order (first {vs = vs} {before = before} v) least low high prefix h =
       let p = bounds low high vs (value_some v) h in
-      (widen before least low least (start_of vs) front (omega arith) p.0, p.1, p.2, value_order v (start_of vs) high (tight low high vs (value_some v) h) (span_of vs) (omega arith) (omega arith))
-  items_order (next {ts = ts} {vs = vs} {middle = middle} i s v) least low high front h =
+      (widen before least low least (start_of vs) prefix (omega arith) p.0, p.1, p.2, value_order v (start_of vs) high (tight low high vs (value_some v) h) (span_of vs) (omega arith) (omega arith))
+  items_order (next {ts = ts} {vs = vs} {middle = middle} i s v) least low high prefix h =
       let p = split low high ts (on s token.Comma ∷ vs) h in
       let q = bounds s.end high vs (value_some v) p.2.2 in (
-        widen middle least p.0 least (start_of vs) (items_order i least low p.0 front p.1) (omega arith) (omega (arith, p.2.0, p.2.1, q.0)),
+        widen middle least p.0 least (start_of vs) (items_order i least low p.0 prefix p.1) (omega arith) (omega (arith, p.2.0, p.2.1, q.0)),
         q.1,
         q.2,
         value_order v (start_of vs) high (tight s.end high vs (value_some v) p.2.2) (span_of vs) (omega arith) (omega arith),
       )
 
   field_order : {us : List Lexeme} {before after : Fields} → IsField us before after → (least low high : ℕ) → AreInOrder least low before → InRow low high us → AreInOrder least high after
-  field_order (single {label = label} {vs = vs} {before = before} l v) least low high front h =
+  field_order (single {label = label} {vs = vs} {before = before} l v) least low high prefix h =
       let p = bounds low high (label ++ vs) (single_some l vs) h in
       let q = behind_label l v low high h in
-      (widen before least low least (start_of (label ++ vs)) front (omega arith) p.0, p.1, p.2, value_order v q.0 high q.2 (span_of (label ++ vs)) q.1 (omega (arith, q.3)))
-  field_order (empty {before = before} l o c) least low high front h = widen before least low least high front (omega arith) (row_fits low high _ h)
-  field_order (list {label = label} {ts = ts} {before = before} {after = after} l o c i) least low high front h =
+      (widen before least low least (start_of (label ++ vs)) prefix (omega arith) p.0, p.1, p.2, value_order v q.0 high q.2 (span_of (label ++ vs)) q.1 (omega (arith, q.3)))
+  field_order (empty {before = before} l o c) least low high prefix h = widen before least low least high prefix (omega arith) (row_fits low high _ h)
+  field_order (list {label = label} {ts = ts} {before = before} {after = after} l o c i) least low high prefix h =
       let p = split low high label (on o token.ListOpen ∷ ts ++ on c token.ListClose ∷ []) h in
       let q = split o.end high ts (on c token.ListClose ∷ []) p.2.2 in
-      let items = items_order i least o.end q.0 (widen before least low least o.end front (omega arith) (omega (arith, row_fits low p.0 label p.1, p.2.0, p.2.1))) q.1 in
+      let items = items_order i least o.end q.0 (widen before least low least o.end prefix (omega arith) (omega (arith, row_fits low p.0 label p.1, p.2.0, p.2.1))) q.1 in
       widen after least q.0 least high items (omega arith) (row_fits q.0 high (on c token.ListClose ∷ []) q.2)
 
   pub fields_order : {ts : List Lexeme} {fields : Fields} → IsFields ts fields → (low high : ℕ) → InRow low high ts → AreInOrder low high fields

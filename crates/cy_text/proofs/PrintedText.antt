@@ -136,10 +136,10 @@ mutual
   held_read (Quote bytes) h margin blank at = behind_colon at _ _ (quote_value (at + 2) (is_utf8 bytes) bytes h)
   held_read (Message fields) h margin blank at =
       let inner = fields_read fields h (margin ++ codes "  ") (wider margin blank) (at + length (codes " {\n")) in
-      let front = codes " {\n" in
+      let prefix = codes " {\n" in
       let text = fields_text (margin ++ codes "  ") fields in
       let o : Span = record { start = at + 1; end = at + 1 + 1 } in
-      let place = at + length (front ++ text ++ margin) in
+      let place = at + length (prefix ++ text ++ margin) in
       let c : Span = record { start = place; end = place + 1 } in
       record {
         colon = false;
@@ -150,28 +150,28 @@ mutual
         form = message Brace o c inner.form;
         same = ap Message inner.same;
         ends = λ rest. refl;
-        lexes = λ rest. lexes_on at (front ++ text ++ margin) (125 ∷ []) (10 ∷ rest) (on o (token.Open Brace) ∷ inner.tokens) (on c (token.Close Brace) ∷ [])
-            (lexes_gap at (front ++ text) margin (125 ∷ 10 ∷ rest) (on o (token.Open Brace) ∷ inner.tokens)
-            (lexes_on at front text (margin ++ 125 ∷ 10 ∷ rest) (on o (token.Open Brace) ∷ []) inner.tokens (opening at (text ++ (margin ++ 125 ∷ 10 ∷ rest))) (inner.lexes (margin ++ 125 ∷ 10 ∷ rest)))
-            (lexes_margin (at + length (front ++ text)) margin (125 ∷ 10 ∷ rest) blank))
+        lexes = λ rest. lexes_on at (prefix ++ text ++ margin) (125 ∷ []) (10 ∷ rest) (on o (token.Open Brace) ∷ inner.tokens) (on c (token.Close Brace) ∷ [])
+            (lexes_gap at (prefix ++ text) margin (125 ∷ 10 ∷ rest) (on o (token.Open Brace) ∷ inner.tokens)
+            (lexes_on at prefix text (margin ++ 125 ∷ 10 ∷ rest) (on o (token.Open Brace) ∷ []) inner.tokens (opening at (text ++ (margin ++ 125 ∷ 10 ∷ rest))) (inner.lexes (margin ++ 125 ∷ 10 ∷ rest)))
+            (lexes_margin (at + length (prefix ++ text)) margin (125 ∷ 10 ∷ rest) blank))
             (lexes_close place (10 ∷ rest));
       }
 
   fields_read : (fields : Fields) → IsPrintable fields → (margin : List ℕ) → AreBlanks margin → (at : ℕ) → FieldsRead at (fields_text margin fields) fields
   fields_read Nothing h margin blank at = record { tokens = []; others = Nothing; form = none; same = refl; lexes = λ rest. lexes_nothing at rest }
   fields_read (And before name span held) h margin blank at =
-      let front = fields_read before h.0 margin blank at in
+      let prefix = fields_read before h.0 margin blank at in
       let line = at + length (fields_text margin before) in
       let value = held_read held h.2 margin blank (line + length (margin ++ name)) in
       let s : Span = to (line + length margin) name in
       let text = held_text margin held in
       record {
-        tokens = front.tokens ++ ((on s (token.Word name) ∷ value.marks) ++ value.values);
-        others = And front.others name _ value.other;
-        form = field front.form (single (value.label name s) value.form);
-        same = rw (front.same, value.same) refl;
-        lexes = λ rest. lexes_on at (fields_text margin before) (margin ++ name ++ text ++ 10 ∷ []) rest front.tokens ((on s (token.Word name) ∷ value.marks) ++ value.values)
-            (front.lexes (margin ++ name ++ text ++ 10 ∷ [] ++ rest))
+        tokens = prefix.tokens ++ ((on s (token.Word name) ∷ value.marks) ++ value.values);
+        others = And prefix.others name _ value.other;
+        form = field prefix.form (single (value.label name s) value.form);
+        same = rw (prefix.same, value.same) refl;
+        lexes = λ rest. lexes_on at (fields_text margin before) (margin ++ name ++ text ++ 10 ∷ []) rest prefix.tokens ((on s (token.Word name) ∷ value.marks) ++ value.values)
+            (prefix.lexes (margin ++ name ++ text ++ 10 ∷ [] ++ rest))
             (lexes_gap line (margin ++ name ++ text) (10 ∷ []) rest ((on s (token.Word name) ∷ value.marks) ++ value.values)
             (lexes_on line (margin ++ name) text (10 ∷ rest) (on s (token.Word name) ∷ []) (value.marks ++ value.values)
             (lexes_on line margin name (text ++ 10 ∷ rest) [] (on s (token.Word name) ∷ []) (lexes_margin line margin (name ++ (text ++ 10 ∷ rest)) blank)

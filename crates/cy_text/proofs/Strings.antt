@@ -4,7 +4,7 @@ use Rattle.std.proofs.lemmas.Grind.{common_steps}
 use Rattle.std.proofs.lemmas.List.{drop_more}
 use Rattle.std.proofs.Math.ListN.{drop_of_length-le}
 use Rattle.cy_text.specs.Strings.{string_from, string_at, escaped, and_then}
-use Rattle.cy_text.specs.Gives.{Fails}
+use Rattle.cy_text.specs.Agrees.{FailsAlike}
 use Rattle.cy_text.specs.declared.fault.Failure.{Failure}
 use Rattle.cy_text.specs.declared.fault.Failure.TheVariants as failures
 use Rattle.cy_text.specs.declared.fault.Fault.{Fault}
@@ -29,8 +29,8 @@ string_starts start [] h = absurd (omega arith)
 string_starts start (b ∷ bytes) h = refl
 
 -- a step at a byte
-front : (place : ℕ) (bytes : List ℕ) → place < length bytes → drop place bytes ≡ get_or bytes place 0 ∷ drop (place + 1) bytes
-front place bytes h = drop_more bytes place 0 h
+prefix : (place : ℕ) (bytes : List ℕ) → place < length bytes → drop place bytes ≡ get_or bytes place 0 ∷ drop (place + 1) bytes
+prefix place bytes h = drop_more bytes place 0 h
 
 module _ (start quote : ℕ) (out : List ℕ) (place : ℕ) (bytes : List ℕ) (whole : Result (List ℕ × ℕ) Fault)
     (reading : string_from start quote out (start + place) 0 (drop place bytes) ≡ whole) where
@@ -40,7 +40,7 @@ module _ (start quote : ℕ) (out : List ℕ) (place : ℕ) (bytes : List ℕ) (
   ends h = sym (rw (drop_of_length-le bytes h) at reading)
 
   pub at_byte : place < length bytes → string_from start quote out (start + place) 0 (get_or bytes place 0 ∷ drop (place + 1) bytes) ≡ whole
-  at_byte there = rw (front place bytes there) at reading
+  at_byte there = rw (prefix place bytes there) at reading
 
   -- the string ends
   pub closes : place < length bytes → get_or bytes place 0 ≡ quote → whole ≡ Ok (out, start + place + 1)
@@ -80,6 +80,6 @@ module _ (start quote : ℕ) (out : List ℕ) (place : ℕ) (bytes : List ℕ) (
 
   -- an escape that isn't one is the fault
   pub escape_fails : (failure : Failure) → place < length bytes → (get_or bytes place 0 ≡ quote → ⊥) → get_or bytes place 0 ≡ 92
-      → Fails failure (escaped out (start + place) (drop (place + 1) bytes)) → Fails failure whole
+      → FailsAlike failure (escaped out (start + place) (drop (place + 1) bytes)) → FailsAlike failure whole
   escape_fails failures.Memory there other backslash found = tt
   escape_fails (failures.Fault f) there other backslash found = sym (rw found at (at_escape there other backslash))

@@ -51,7 +51,7 @@ unfolding string_at
 string_starts at [] = tt
 string_starts at (quote ∷ bytes) = string_more at (length bytes) _ (string_fits bytes at quote [] (at + 1) 0)
 
--- A token stands at the front of the bytes.
+-- A token stands at the start of the bytes.
 abbrev TokenFits : ℕ → List ℕ → Result Lexeme Fault → Type 0
 TokenFits at bytes (Ok found) = IsThere at bytes found
 TokenFits at bytes (Err fault) = Unit {0}

@@ -7,7 +7,7 @@ use Rattle.std.specs.List.{prefix_len}
 use Rattle.cy_text.specs.Letters.{is_blank}
 use Rattle.cy_text.specs.Fields.{Fields}
 use Rattle.cy_text.specs.Form.{Reading, read, step, finish, read_text, unread}
-use Rattle.cy_text.specs.Gives.{Fails}
+use Rattle.cy_text.specs.Agrees.{FailsAlike}
 use Rattle.cy_text.specs.Tokens.{IsThere, begins_token, token_at, Tokens, Next, End, Faulty, tokens_from}
 use Rattle.cy_text.specs.declared.token.Lexeme.{Lexeme}
 use Rattle.cy_text.specs.declared.fault.Fault.{Fault}
@@ -25,23 +25,23 @@ passed_over at (suc passed) (b ∷ bytes) h =
     passed_over (at + 1) passed bytes (omega arith) ∙ ap (λ (n : ℕ). tokens_from n 0 (drop passed bytes)) moved
 
 -- the first byte, at a place of the text
-front : (place : ℕ) (bytes : List ℕ) → place < length bytes → drop place bytes ≡ get_or bytes place 0 ∷ drop (place + 1) bytes
-front place bytes h = drop_more bytes place 0 h
+prefix : (place : ℕ) (bytes : List ℕ) → place < length bytes → drop place bytes ≡ get_or bytes place 0 ∷ drop (place + 1) bytes
+prefix place bytes h = drop_more bytes place 0 h
 
-pub blank_front : (at b : ℕ) (bytes : List ℕ) → is_blank b ≡ true → tokens_from at 0 (b ∷ bytes) ≡ tokens_from (at + 1) 0 bytes
+pub blank_prefix : (at b : ℕ) (bytes : List ℕ) → is_blank b ≡ true → tokens_from at 0 (b ∷ bytes) ≡ tokens_from (at + 1) 0 bytes
 unfolding tokens_from
-blank_front at b bytes h = rw h refl
+blank_prefix at b bytes h = rw h refl
 
-comment_front : (at : ℕ) (bytes : List ℕ) → tokens_from at 0 (35 ∷ bytes) ≡ tokens_from (at + 1) (prefix_len (λ byte. not (byte == 10)) bytes) bytes
+comment_prefix : (at : ℕ) (bytes : List ℕ) → tokens_from at 0 (35 ∷ bytes) ≡ tokens_from (at + 1) (prefix_len (λ byte. not (byte == 10)) bytes) bytes
 unfolding tokens_from
-comment_front at bytes = refl
+comment_prefix at bytes = refl
 
 -- a blank stands for nothing
 pub after_blank : (at place : ℕ) (bytes : List ℕ) → place < length bytes → is_blank (get_or bytes place 0) ≡ true
     → tokens_from (at + (place + 1)) 0 (drop (place + 1) bytes) ≡ tokens_from (at + place) 0 (drop place bytes)
 after_blank at place bytes there h =
     let moved : at + (place + 1) ≡ at + place + 1 = omega arith in
-    rw (moved, front place bytes there) (sym (blank_front (at + place) (get_or bytes place 0) (drop (place + 1) bytes) h))
+    rw (moved, prefix place bytes there) (sym (blank_prefix (at + place) (get_or bytes place 0) (drop (place + 1) bytes) h))
 
 -- nor does a comment
 pub after_comment : (at place len : ℕ) (bytes : List ℕ) → place < length bytes → get_or bytes place 0 ≡ 35
@@ -54,9 +54,9 @@ after_comment at place len bytes there mark counted fits =
     ∙ ap (tokens_from (at + place + 1 + len) 0) (ap (λ (n : ℕ). drop n bytes) more ∙ sym (drop-drop len (place + 1) bytes))
     ∙ sym (passed_over (at + place + 1) len (drop (place + 1) bytes) fits)
     ∙ ap (λ (n : ℕ). tokens_from (at + place + 1) n (drop (place + 1) bytes)) counted
-    ∙ sym (comment_front (at + place) (drop (place + 1) bytes))
+    ∙ sym (comment_prefix (at + place) (drop (place + 1) bytes))
     ∙ ap (λ (b : ℕ). tokens_from (at + place) 0 (b ∷ drop (place + 1) bytes)) (sym mark)
-    ∙ ap (tokens_from (at + place) 0) (sym (front place bytes there))
+    ∙ ap (tokens_from (at + place) 0) (sym (prefix place bytes there))
 
 -- What the tokens at a byte are, by the token there.
 unfoldable pub with_token : ℕ → List ℕ → Result Lexeme Fault → Tokens
@@ -68,9 +68,9 @@ not_either false false h = (refl, refl)
 not_either false true h = absurd (false≢true h)
 not_either true y h = absurd (false≢true h)
 
-pub token_front : (at b : ℕ) (bytes : List ℕ) → begins_token b ≡ true → tokens_from at 0 (b ∷ bytes) ≡ with_token at bytes (token_at at (b ∷ bytes))
+pub token_prefix : (at b : ℕ) (bytes : List ℕ) → begins_token b ≡ true → tokens_from at 0 (b ∷ bytes) ≡ with_token at bytes (token_at at (b ∷ bytes))
 unfolding tokens_from with_token
-token_front at b bytes h =
+token_prefix at b bytes h =
     let neither = not_either (is_blank b) (b == 35) h in
     rw (neither.0, neither.1) refl
 
@@ -84,12 +84,12 @@ module _ (r : Reading) (place : ℕ) (text : List ℕ) (whole : Result Fields Fa
       sym (rw (drop_of_length-le text all) at reading)
 
   -- the token is faulty
-  pub token_fails : (failure : Failure) → place < length text → begins_token (get_or text place 0) ≡ true → Fails failure (token_at place (drop place text)) → Fails failure whole
+  pub token_fails : (failure : Failure) → place < length text → begins_token (get_or text place 0) ≡ true → FailsAlike failure (token_at place (drop place text)) → FailsAlike failure whole
   unfolding read with_token
   token_fails failures.Memory there h found = tt
   token_fails (failures.Fault f) there h found =
       let tokens : tokens_from place 0 (drop place text) ≡ with_token place (drop (place + 1) text) (token_at place (drop place text)) =
-      rw (front place text there) (token_front place (get_or text place 0) (drop (place + 1) text) h) in
+      rw (prefix place text there) (token_prefix place (get_or text place 0) (drop (place + 1) text) h) in
       sym (rw (tokens, found) at reading)
 
   module _ (lexeme : Lexeme) (there : place < length text) (h : begins_token (get_or text place 0) ≡ true)
@@ -102,7 +102,7 @@ module _ (r : Reading) (place : ℕ) (text : List ℕ) (whole : Result Fields Fa
         let short : n ≤ length (drop (place + 1) text) = omega (arith, fits.some, length-drop (place + 1) text) in
         let end : place + 1 + n ≡ lexeme.span.end = omega (arith, fits.some) in
         let tokens : tokens_from place 0 (drop place text) ≡ with_token place (drop (place + 1) text) (token_at place (drop place text)) =
-        rw (front place text there) (token_front place (get_or text place 0) (drop (place + 1) text) h) in
+        rw (prefix place text there) (token_prefix place (get_or text place 0) (drop (place + 1) text) h) in
         tokens ∙ rw found (ap (Next lexeme) (
         passed_over (place + 1) n (drop (place + 1) text) short
         ∙ ap (tokens_from (place + 1 + n) 0) (drop-drop n (place + 1) text)
@@ -112,7 +112,7 @@ module _ (r : Reading) (place : ℕ) (text : List ℕ) (whole : Result Fields Fa
     next_read = rw tokens_next at reading
 
     -- the token may not stand there
-    pub step_fails : (failure : Failure) → Fails failure (step r lexeme) → Fails failure whole
+    pub step_fails : (failure : Failure) → FailsAlike failure (step r lexeme) → FailsAlike failure whole
     unfolding read
     step_fails failures.Memory failed = tt
     step_fails (failures.Fault f) failed = sym (rw failed at next_read)

@@ -9,9 +9,11 @@ use Rattle.cy_text.specs.declared.tree.Value.{Value}
 use Rattle.cy_text.specs.declared.tree.Value.TheVariants.{Whole, Literal, Word, Quote, Message}
 use Rattle.cy_text.specs.declared.tree.Tree.TheDeep.{deep-Entry, deep-Value}
 
-pub more_entries : (fields : Fields) (es : List Entry) → size_of fields ≤ size_of (and_entries fields es)
+pub more_entries : (fields : Fields) (es : List Entry) → size_of fields
+    ≤ size_of (and_entries fields es)
 more_entries fields [] = omega arith
-more_entries fields (e ∷ es) = omega (arith, more_entries (And fields e.name e.span (held_of e.value)) es)
+more_entries fields (e ∷ es) = omega
+    (arith, more_entries (And fields e.name e.span (held_of e.value)) es)
 
 pub value_falls : (v : Value) → deep-Value v ≤ size_held (held_of v) + 1
 value_falls (Whole negative size) = omega arith
@@ -23,10 +25,16 @@ value_falls (Message fields) = omega arith
 pub entry_falls : (e : Entry) → deep-Entry e ≤ size_held (held_of e.value) + 1
 entry_falls e = omega (arith, value_falls e.value)
 
-pub entries_fall : (fields : Fields) (es : List Entry) → most deep-Entry es ≤ size_of (and_entries fields es)
+pub entries_fall : (fields : Fields) (es : List Entry) → most deep-Entry es
+    ≤ size_of (and_entries fields es)
 entries_fall fields [] = omega arith
 entries_fall fields (e ∷ es) =
-    omega (arith, entry_falls e, more_entries (And fields e.name e.span (held_of e.value)) es, entries_fall (And fields e.name e.span (held_of e.value)) es)
+    omega (
+      arith,
+      entry_falls e,
+      more_entries (And fields e.name e.span (held_of e.value)) es,
+      entries_fall (And fields e.name e.span (held_of e.value)) es,
+    )
 
 pub tree_falls : (es : List Entry) → max (most deep-Entry es) 0 ≤ size_of (fields_of es)
 tree_falls es = omega (arith, entries_fall Nothing es)

@@ -42,7 +42,8 @@ kind (gcons (gcons a c) b) = 2
 abbrev mutual
   pub code_fields : Fields → Gv
   code_fields Nothing = gnil
-  code_fields (And before name span held) = gcons (gnum 0) (gcons (code_fields before) (gcons (label_code.code (label_of name span)) (code_held held)))
+  code_fields (And before name span held) = gcons (gnum 0) (gcons (code_fields before)
+      (gcons (label_code.code (label_of name span)) (code_held held)))
 
   pub code_held : Held → Gv
   code_held (Whole negative size) = gcons (gnum 0) (number_code.code (negative, size))
@@ -51,7 +52,8 @@ abbrev mutual
   code_held (Quote bytes) = gcons (gnum 3) (text_code.code bytes)
   code_held (Message fields) = gcons (gnum 4) (code_fields fields)
 
-pub inj_label : (n m : List ℕ) (s t : Span) → label_code.code (label_of n s) ≡ label_code.code (label_of m t) → label_of n s ≡ label_of m t
+pub inj_label : (n m : List ℕ) (s t : Span) → label_code.code (label_of n s) ≡ label_code.code
+    (label_of m t) → label_of n s ≡ label_of m t
 inj_label n m s t p = label_code.inj (label_of n s) (label_of m t) p
 
 mutual
@@ -60,15 +62,20 @@ mutual
   inj_fields (And b n s h) (And c m t k) p = λ i.
       And (inj_fields b c (ap (λ g. first (second g)) p) i)
       ((inj_label n m s t (ap (λ g. first (second (second g))) p) i).0)
-      (record { start = (inj_label n m s t (ap (λ g. first (second (second g))) p) i).1.0; end = (inj_label n m s t (ap (λ g. first (second (second g))) p) i).1.1 })
+      (record {
+        start = (inj_label n m s t (ap (λ g. first (second (second g))) p) i).1.0;
+        end = (inj_label n m s t (ap (λ g. first (second (second g))) p) i).1.1;
+      })
       (inj_held h k (ap (λ g. second (second (second g))) p) i)
   inj_fields Nothing (And c m t k) p = absurd (omega (arith, ap kind p))
   inj_fields (And b n s h) Nothing p = absurd (omega (arith, ap kind p))
 
   pub inj_held : (x y : Held) → code_held x ≡ code_held y → x ≡ y
-  inj_held (Whole n s) (Whole m t) p = ap (λ (e : Bool × ℕ). Whole e.0 e.1) (number_code.inj (n, s) (m, t) (ap second p))
+  inj_held (Whole n s) (Whole m t) p = ap (λ (e : Bool × ℕ). Whole e.0 e.1)
+      (number_code.inj (n, s) (m, t) (ap second p))
   inj_held (Literal a) (Literal b) p = ap Literal (text_code.inj a b (ap second p))
-  inj_held (Word n a) (Word m b) p = ap (λ (e : Bool × List ℕ). Word e.0 e.1) (word_code.inj (n, a) (m, b) (ap second p))
+  inj_held (Word n a) (Word m b) p = ap (λ (e : Bool × List ℕ). Word e.0 e.1)
+      (word_code.inj (n, a) (m, b) (ap second p))
   inj_held (Quote a) (Quote b) p = ap Quote (text_code.inj a b (ap second p))
   inj_held (Message a) (Message b) p = ap Message (inj_fields a b (ap second p))
   inj_held x y p = absurd (omega (arith, ap kind p))

@@ -1,6 +1,8 @@
--- Which tokens are a text of the form, and the fields that it says. The tokens are read from the first on: after some of them it
--- is settled what may stand next, and a token that may not is the text's fault.
-use Rattle.std.specs.Prelude.{ℕ, nat_lt, List, [], ◌∷◌, ◌++◌, length, Bool, true, false, Result, Ok, Err, if◌then◌else◌}
+-- Which tokens are a text of the form, and the fields that it says. The tokens are read from the
+-- first on: after some of them it is settled what may stand next, and a token that may not is the
+-- text's fault.
+use Rattle.std.specs.Prelude.{ℕ, nat_lt, List, [], ◌∷◌, ◌++◌, length, Bool, true, false, Result, Ok}
+use Rattle.std.specs.Prelude.{Err, if◌then◌else◌}
 use Rattle.cy_text.specs.Fields.{Fields, Held, Nothing, And, Whole, Literal, Word, Quote, Message}
 use Rattle.cy_text.specs.Strings.{and_then}
 use Rattle.cy_text.specs.Tokens.{Tokens, Next, End, Faulty, tokens_of}
@@ -18,7 +20,8 @@ use Rattle.cy_text.specs.declared.error.BadKind.TheVariants as kind
 use Rattle.cy_text.specs.declared.fault.Fault.{Fault}
 use Rattle.cy_text.specs.declared.fault.Fault.TheVariants.{Bad, TooDeep}
 
--- The messages that are open, the innermost first, each with the fields before it, and the fields of the innermost so far.
+-- The messages that are open, the innermost first, each with the fields before it, and the fields
+-- of the innermost so far.
 pub record Building : Type 0 where
   pub frames : List Frame
   pub fields : Fields
@@ -38,7 +41,12 @@ start_of place.Item start at = at
 start_of place.MessageItem start at = at
 
 abbrev pub begun : Slot → ℕ → Slot
-begun slot at = record { name = slot.name; start = start_of slot.place slot.start at; place = slot.place }
+begun slot at = record {
+  name = slot.name;
+  start = start_of slot.place slot.start at;
+  place =
+      slot.place;
+}
 
 -- The items of a list behind a name, with or without a colon.
 abbrev pub items_of : Slot → Place → Slot
@@ -53,7 +61,11 @@ after place.MessageItem slot = expect.AfterItem slot
 -- A value is an entry under its field's name.
 unfoldable pub placed : Building → Slot → ℕ → Held → Reading
 placed b slot end held = record {
-  building = record { frames = b.frames; fields = And b.fields slot.name (record { start = slot.start; end = end }) held };
+  building = record {
+    frames = b.frames;
+    fields = And b.fields slot.name
+        (record { start = slot.start; end = end }) held;
+  };
   next = after slot.place slot;
 }
 
@@ -61,7 +73,17 @@ placed b slot end held = record {
 unfoldable pub opened : Building → Slot → Bracket → ℕ → Result Reading Fault
 opened b slot bracket at =
     if nat_lt (length b.frames) 64
-    then Ok (record { building = record { frames = record { fields = b.fields; slot = slot; bracket = bracket } ∷ b.frames; fields = Nothing }; next = expect.Field false })
+    then Ok (record {
+      building = record {
+        frames = record {
+          fields = b.fields;
+          slot = slot;
+          bracket = bracket;
+        } ∷ b.frames;
+        fields = Nothing;
+      };
+      next = expect.Field false;
+    })
     else Err (TooDeep at)
 
 abbrev pub same_bracket : Bracket → Bracket → Bool
@@ -76,17 +98,26 @@ closed b bracket at end = elim b.frames [
   | [] ↦ Err (Bad kind.Close at)
   | frame ∷ frames ↦
       if same_bracket frame.bracket bracket
-      then Ok (placed (record { frames = frames; fields = frame.fields }) frame.slot end (Message b.fields))
+      then Ok (placed (record { frames = frames; fields = frame.fields }) frame.slot end
+      (Message b.fields))
       else Err (Bad kind.Close at)
 ]
 
 -- Where a field's name may stand. A separator may stand behind a field, once.
 unfoldable pub at_field : Building → Bool → Lexeme → Result Reading Fault
 at_field b after_field lexeme = elim lexeme.token [
-  | token.Word text ↦ Ok (reading b (expect.AfterName (record { name = text; start = lexeme.span.start; place = place.Field })))
+  | token.Word text ↦ Ok
+      (reading b (expect.AfterName (record {
+        name = text;
+        start = lexeme.span.start;
+        place =
+            place.Field;
+      })))
   | token.Close mark ↦ closed b mark lexeme.span.start lexeme.span.end
-  | token.Comma ↦ if after_field then Ok (reading b (expect.Field false)) else Err (Bad kind.Close lexeme.span.start)
-  | token.Semicolon ↦ if after_field then Ok (reading b (expect.Field false)) else Err (Bad kind.Close lexeme.span.start)
+  | token.Comma ↦ if after_field then Ok (reading b (expect.Field false)) else Err
+      (Bad kind.Close lexeme.span.start)
+  | token.Semicolon ↦ if after_field then Ok (reading b (expect.Field false)) else Err
+      (Bad kind.Close lexeme.span.start)
   | token.ListClose ↦ Err (Bad kind.Close lexeme.span.start)
   | token.ListOpen ↦ Err (Bad kind.Extension lexeme.span.start)
   | token.Open _ ↦ Err (Bad kind.Name lexeme.span.start)
@@ -119,10 +150,12 @@ unfoldable pub at_value : Building → Slot → Lexeme → Result Reading Fault
 at_value b slot lexeme = elim lexeme.token [
   | token.Open mark ↦ opened b (begun slot lexeme.span.start) mark lexeme.span.start
   | token.Minus ↦ Ok (reading b (expect.Signed (begun slot lexeme.span.start)))
-  | token.Whole size ↦ Ok (placed b (begun slot lexeme.span.start) lexeme.span.end (Whole false size))
+  | token.Whole size ↦ Ok (placed b (begun slot lexeme.span.start) lexeme.span.end
+      (Whole false size))
   | token.Literal text ↦ Ok (placed b (begun slot lexeme.span.start) lexeme.span.end (Literal text))
   | token.Word text ↦ Ok (placed b (begun slot lexeme.span.start) lexeme.span.end (Word false text))
-  | token.Quote bytes ↦ Ok (reading b (expect.Strings (begun slot lexeme.span.start) bytes lexeme.span.end))
+  | token.Quote bytes ↦ Ok
+      (reading b (expect.Strings (begun slot lexeme.span.start) bytes lexeme.span.end))
   | token.Close _ ↦ Err (Bad kind.Value lexeme.span.start)
   | token.ListOpen ↦ Err (Bad kind.Value lexeme.span.start)
   | token.ListClose ↦ Err (Bad kind.Value lexeme.span.start)

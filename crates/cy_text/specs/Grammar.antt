@@ -1,4 +1,5 @@
--- The text form as a grammar: which tokens are fields, a field, a list's items or a value, and what they say.
+-- The text form as a grammar: which tokens are fields, a field, a list's items or a value, and what
+-- they say.
 use Rattle.std.specs.Prelude.{ℕ, suc, ◌≡◌, ◌≤◌, ◌<◌, max, List, [], ◌∷◌, ◌++◌, Bool, true, false}
 use Rattle.cy_text.specs.Fields.{Fields, Held, Nothing, And, Whole, Literal, Word, Quote, Message}
 use Rattle.cy_text.specs.Tokens.{Tokens, Next, End, Faulty, tokens_of}
@@ -37,12 +38,14 @@ pub data IsSeparator : Token → Type 0 where
 -- A field's name, and a colon behind it or none.
 pub data IsLabel : (colon : Bool) (name : List ℕ) → List Lexeme → Type 0 where
   plain : {name : List ℕ} (s : Span) → IsLabel false name (on s (token.Word name) ∷ [])
-  with_colon : {name : List ℕ} (s c : Span) → IsLabel true name (on s (token.Word name) ∷ on c token.Colon ∷ [])
+  with_colon : {name : List ℕ} (s c : Span) → IsLabel true name (on s (token.Word name)
+      ∷ on c token.Colon ∷ [])
 
 -- A string, or strings in a row.
 pub data IsStrings : List Lexeme → List ℕ → Type 0 where
   one : {bytes : List ℕ} (s : Span) → IsStrings (on s (token.Quote bytes) ∷ []) bytes
-  more : {ts : List Lexeme} {front : List ℕ} → IsStrings ts front → (s : Span) (bytes : List ℕ) → IsStrings (ts ++ on s (token.Quote bytes) ∷ []) (front ++ bytes)
+  more : {ts : List Lexeme} {prefix : List ℕ} → IsStrings ts prefix → (s : Span) (bytes : List ℕ)
+      → IsStrings (ts ++ on s (token.Quote bytes) ∷ []) (prefix ++ bytes)
 
 -- A number or a word, and what it says with or without a sign.
 pub data IsPlain : Token → (negative : Bool) → Held → Type 0 where
@@ -55,33 +58,49 @@ mutual
   -- Fields in their order, each with at most one separator behind it.
   pub data IsFields : List Lexeme → Fields → Type 0 where
     none : IsFields [] Nothing
-    field : {ts us : List Lexeme} {before after : Fields} → IsFields ts before → IsField us before after → IsFields (ts ++ us) after
-    separated : {ts us : List Lexeme} {before after : Fields} {mark : Token} → IsFields ts before → IsField us before after → IsSeparator mark → (s : Span)
+    field : {ts us : List Lexeme} {before after : Fields} → IsFields ts before
+        → IsField us before after → IsFields (ts ++ us) after
+    separated : {ts us : List Lexeme} {before after : Fields} {mark : Token} → IsFields ts before
+        → IsField us before after → IsSeparator mark → (s : Span)
         → IsFields (ts ++ (us ++ on s mark ∷ [])) after
 
-  -- A field behind others, and all of them with it. A list gives a field for each of its items, an empty one none.
+  -- A field behind others, and all of them with it. A list gives a field for each of its items, an
+  -- empty one none.
   pub data IsField : List Lexeme → (before after : Fields) → Type 0 where
-    single : {colon : Bool} {name : List ℕ} {label vs : List Lexeme} {before : Fields} {held : Held} → IsLabel colon name label → IsValue colon vs held
+    single : {colon : Bool} {name : List ℕ} {label vs : List Lexeme} {before : Fields} {held : Held}
+        → IsLabel colon name label → IsValue colon vs held
         → IsField (label ++ vs) before (And before name (span_of (label ++ vs)) held)
-    empty : {colon : Bool} {name : List ℕ} {label : List Lexeme} {before : Fields} → IsLabel colon name label → (o c : Span)
+    empty : {colon : Bool} {name : List ℕ} {label : List Lexeme} {before : Fields}
+        → IsLabel colon name label → (o c : Span)
         → IsField (label ++ on o token.ListOpen ∷ on c token.ListClose ∷ []) before before
-    list : {colon : Bool} {name : List ℕ} {label ts : List Lexeme} {before after : Fields} → IsLabel colon name label → (o c : Span) → IsItems colon name ts before after
+    list : {colon : Bool} {name : List ℕ} {label ts : List Lexeme} {before after : Fields}
+        → IsLabel colon name label → (o c : Span) → IsItems colon name ts before after
         → IsField (label ++ (on o token.ListOpen ∷ ts ++ on c token.ListClose ∷ [])) before after
 
   -- The items of a list, with commas between them, as fields of one name behind others.
-  pub data IsItems : (colon : Bool) (name : List ℕ) → List Lexeme → (before after : Fields) → Type 0 where
-    first : {colon : Bool} {name : List ℕ} {vs : List Lexeme} {before : Fields} {held : Held} → IsValue colon vs held
+  pub data IsItems : (colon : Bool) (name : List ℕ) → List Lexeme → (before after : Fields)
+      → Type 0 where
+    first : {colon : Bool} {name : List ℕ} {vs : List Lexeme} {before : Fields} {held : Held}
+        → IsValue colon vs held
         → IsItems colon name vs before (And before name (span_of vs) held)
-    next : {colon : Bool} {name : List ℕ} {ts vs : List Lexeme} {before middle : Fields} {held : Held} → IsItems colon name ts before middle → (s : Span) → IsValue colon vs held
-        → IsItems colon name (ts ++ on s token.Comma ∷ vs) before (And middle name (span_of vs) held)
+    next : {colon : Bool} {name : List ℕ} {ts vs : List Lexeme} {before middle : Fields}
+        {held : Held} → IsItems colon name ts before middle → (s : Span) → IsValue colon vs held
+        → IsItems colon name (ts ++ on s token.Comma ∷ vs) before
+        (And middle name (span_of vs) held)
 
-  -- A value: a message, or, behind a colon alone, a number, a word or strings. A message ends with the bracket that it begins with.
+  -- A value: a message, or, behind a colon alone, a number, a word or strings. A message ends with
+  -- the bracket that it begins with.
   pub data IsValue : (colon : Bool) → List Lexeme → Held → Type 0 where
-    unsigned : {kind : Token} {held : Held} (s : Span) → IsPlain kind false held → IsValue true (on s kind ∷ []) held
-    signed : {kind : Token} {held : Held} (m s : Span) → IsPlain kind true held → IsValue true (on m token.Minus ∷ on s kind ∷ []) held
-    strings : {ts : List Lexeme} {bytes : List ℕ} → IsStrings ts bytes → IsValue true ts (Quote bytes)
-    message : {colon : Bool} {ts : List Lexeme} {fields : Fields} (mark : Bracket) (o c : Span) → IsFields ts fields
-        → IsValue colon (on o (token.Open mark) ∷ ts ++ on c (token.Close mark) ∷ []) (Message fields)
+    unsigned : {kind : Token} {held : Held} (s : Span) → IsPlain kind false held
+        → IsValue true (on s kind ∷ []) held
+    signed : {kind : Token} {held : Held} (m s : Span) → IsPlain kind true held
+        → IsValue true (on m token.Minus ∷ on s kind ∷ []) held
+    strings : {ts : List Lexeme} {bytes : List ℕ} → IsStrings ts bytes
+        → IsValue true ts (Quote bytes)
+    message : {colon : Bool} {ts : List Lexeme} {fields : Fields} (mark : Bracket) (o c : Span)
+        → IsFields ts fields
+        → IsValue colon (on o (token.Open mark) ∷ ts ++ on c (token.Close mark) ∷ [])
+        (Message fields)
 
 -- How deep messages stand in one another: 0 where there are none.
 abbrev mutual
@@ -101,7 +120,8 @@ abbrev pub followed : List Lexeme → Tokens → Tokens
 followed [] rest = rest
 followed (t ∷ ts) rest = Next t (followed ts rest)
 
--- A text of the form, and the fields that it says: its tokens up to its end are these fields, and messages stand at most 64 deep.
+-- A text of the form, and the fields that it says: its tokens up to its end are these fields, and
+-- messages stand at most 64 deep.
 pub record IsTextOf (text : List ℕ) (fields : Fields) : Type 0 where
   pub tokens : List Lexeme
   pub end : ℕ
@@ -109,21 +129,28 @@ pub record IsTextOf (text : List ℕ) (fields : Fields) : Type 0 where
   pub form : IsFields tokens fields
   pub depth : depth_of fields ≤ 64
 
--- Tokens that are the front of a text of the form, of whatever depth.
-pub record IsFront (ts : List Lexeme) : Type 0 where
+-- Tokens that are a prefix of a text of the form, of whatever depth.
+pub record IsPrefix (ts : List Lexeme) : Type 0 where
   pub rest : List Lexeme
   pub fields : Fields
   pub form : IsFields (ts ++ rest) fields
 
--- The first fault of a text, by its tokens: the tokens before it are the front of a text of the form, and
+-- The first fault of a text, by its tokens: the tokens before it are a prefix of a text of the
+-- form, and
 pub data IsFirstFault (tokens : Tokens) : Fault → Type 0 where
   -- the next one is faulty in itself,
-  in_itself : {fault : Fault} (ts : List Lexeme) → tokens ≡ followed ts (Faulty fault) → IsFront ts → IsFirstFault tokens fault
-  -- or they are the front of none with it,
-  out_of_place : (ts : List Lexeme) (l : Lexeme) (rest : Tokens) (kind : BadKind) → tokens ≡ followed ts (Next l rest) → IsFront ts → (IsFront (ts ++ l ∷ []) → ⊥)
+  in_itself : {fault : Fault} (ts : List Lexeme) → tokens ≡ followed ts (Faulty fault) → IsPrefix ts
+      → IsFirstFault tokens fault
+  -- or they are a prefix of none with it,
+  out_of_place : (ts : List Lexeme) (l : Lexeme) (rest : Tokens) (kind : BadKind)
+      → tokens ≡ followed ts (Next l rest) → IsPrefix ts → (IsPrefix (ts ++ l ∷ []) → ⊥)
       → IsFirstFault tokens (Bad kind l.span.start)
-  -- or they are the front of texts with it in which a message stands too deep alone,
-  too_deep : (ts : List Lexeme) (l : Lexeme) (rest : Tokens) → tokens ≡ followed ts (Next l rest) → IsFront (ts ++ l ∷ [])
-      → ((more : List Lexeme) (fields : Fields) → IsFields (ts ++ l ∷ more) fields → 64 < depth_of fields) → IsFirstFault tokens (TooDeep l.span.start)
+  -- or they are a prefix of texts with it in which a message stands too deep alone,
+  too_deep : (ts : List Lexeme) (l : Lexeme) (rest : Tokens) → tokens ≡ followed ts (Next l rest)
+      → IsPrefix (ts ++ l ∷ [])
+      → ((more : List Lexeme) (fields : Fields) → IsFields (ts ++ l ∷ more) fields
+      → 64 < depth_of fields) → IsFirstFault tokens (TooDeep l.span.start)
   -- or the text ends, and they are no text of the form.
-  at_end : (ts : List Lexeme) (end : ℕ) (kind : BadKind) → tokens ≡ followed ts (End end) → IsFront ts → ((fields : Fields) → IsFields ts fields → ⊥) → IsFirstFault tokens (Bad kind end)
+  at_end : (ts : List Lexeme) (end : ℕ) (kind : BadKind) → tokens ≡ followed ts (End end)
+      → IsPrefix ts → ((fields : Fields) → IsFields ts fields → ⊥)
+      → IsFirstFault tokens (Bad kind end)

@@ -14,29 +14,37 @@ use Rattle.cy_text.specs.declared.token.Lexeme.{Lexeme}
 
 -- Each text of the form is read to the fields that it says.
 abbrev pub FormIsRead : Type 0
-FormIsRead = (text : List ℕ) (fields : Fields) → IsTextOf text fields → fields_of_text text ≡ Ok fields
+FormIsRead = (text : List ℕ) (fields : Fields) → IsTextOf text fields → fields_of_text text
+    ≡ Ok fields
 
 -- What is read of a text is the fields that the form has it say.
 abbrev pub ReadIsForm : Type 0
-ReadIsForm = (text : List ℕ) (fields : Fields) → fields_of_text text ≡ Ok fields → IsTextOf text fields
+ReadIsForm = (text : List ℕ) (fields : Fields) → fields_of_text text ≡ Ok fields
+    → IsTextOf text fields
 
 -- A text that is refused is no text of the form.
 abbrev pub RefusedIsNoForm : Type 0
-RefusedIsNoForm = (text : List ℕ) (error : TextError) → fields_of_text text ≡ Err error → (fields : Fields) → IsTextOf text fields → ⊥
+RefusedIsNoForm = (text : List ℕ) (error : TextError) → fields_of_text text ≡ Err error
+    → (fields : Fields) → IsTextOf text fields → ⊥
 
 -- It is refused at its first fault.
 abbrev pub RefusedAtFirstFault : Type 0
-RefusedAtFirstFault = (text : List ℕ) (error : TextError) → fields_of_text text ≡ Err error → (fault : Fault) × (error ≡ error_of text fault) × IsFirstFault (tokens_of text) fault
+RefusedAtFirstFault = (text : List ℕ) (error : TextError) → fields_of_text text ≡ Err error
+    → (fault : Fault) × (error ≡ error_of text fault) × IsFirstFault (tokens_of text) fault
 
--- What was printed is read as the same fields but for where they stand, if messages stand at most 64 deep.
+-- What was printed is read as the same fields but for where they stand, if messages stand at most
+-- 64 deep.
 abbrev pub PrintedIsRead : Type 0
-PrintedIsRead = (fields : Fields) → IsPrintable fields → depth_of fields ≤ 64 → (others : Fields) × (fields_of_text (printed fields) ≡ Ok others) × SameButSpans fields others
+PrintedIsRead = (fields : Fields) → IsPrintable fields → depth_of fields ≤ 64 → (others : Fields)
+    × (fields_of_text (printed fields) ≡ Ok others) × SameButSpans fields others
 
 -- The fields that are read stand in their order within the text.
 abbrev pub SpansAreInOrder : Type 0
-SpansAreInOrder = (text : List ℕ) (fields : Fields) → fields_of_text text ≡ Ok fields → AreInOrder 0 (length text) fields
+SpansAreInOrder = (text : List ℕ) (fields : Fields) → fields_of_text text ≡ Ok fields
+    → AreInOrder 0 (length text) fields
 
 -- Each token is the one that begins at its place in the text.
 abbrev pub TokensAreThere : Type 0
-TokensAreThere = (text : List ℕ) (tokens : List Lexeme) (end : ℕ) → tokens_of text ≡ followed tokens (End end)
+TokensAreThere = (text : List ℕ) (tokens : List Lexeme) (end : ℕ) → tokens_of text ≡ followed tokens
+    (End end)
     → AllByRecursion (λ t. token_at t.span.start (drop t.span.start text) ≡ Ok t) tokens

@@ -1,5 +1,6 @@
 -- What single bytes may be.
-use Rattle.std.specs.Prelude.{ℕ, ◌-◌, ◌==◌, nat_le, ◌||◌, ◌&&◌, Bool, false, List, [], ◌∷◌, if◌then◌else◌}
+use Rattle.std.specs.Prelude.{ℕ, ◌-◌, ◌==◌, nat_le, ◌||◌, ◌&&◌, Bool, false, List, [], ◌∷◌}
+use Rattle.std.specs.Prelude.{if◌then◌else◌}
 
 abbrev pub is_between : ℕ → ℕ → ℕ → Bool
 is_between low high b = nat_le low b && nat_le b high
@@ -27,7 +28,8 @@ is_word b = is_letter b || is_digit b
 
 -- The number that a digit, or a hexadecimal digit, stands for.
 abbrev pub digit_of : ℕ → ℕ
-digit_of b = if is_digit b then b - 48 else (if is_between 65 70 b then b - 55 else (if is_between 97 102 b then b - 87 else 0))
+digit_of b = if is_digit b then b - 48 else (if is_between 65 70 b then b - 55 else
+    (if is_between 97 102 b then b - 87 else 0))
 
 -- Whether the first byte is of a kind.
 abbrev pub starts : (ℕ → Bool) → List ℕ → Bool

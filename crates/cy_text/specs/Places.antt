@@ -1,5 +1,6 @@
 -- The fields of a text, or its first fault with its line and column.
-use Rattle.std.specs.Prelude.{ℕ, ◌+◌, ◌==◌, List, [], ◌∷◌, take, count_by, Result, Ok, Err, if◌then◌else◌}
+use Rattle.std.specs.Prelude.{ℕ, ◌+◌, ◌==◌, List, [], ◌∷◌, take, count_by, Result, Ok, Err}
+use Rattle.std.specs.Prelude.{if◌then◌else◌}
 use Rattle.cy_text.specs.Fields.{Fields}
 use Rattle.cy_text.specs.Form.{read_text}
 use Rattle.cy_text.specs.declared.fault.Fault.{Fault}
@@ -14,7 +15,8 @@ line_of text at = count_by (λ byte. byte == 10) (take at text) + 1
 -- The column behind bytes that begin at a column.
 abbrev pub column_behind : ℕ → List ℕ → ℕ
 column_behind column [] = column
-column_behind column (byte ∷ bytes) = if byte == 10 then column_behind 1 bytes else column_behind (column + 1) bytes
+column_behind column (byte ∷ bytes) = if byte == 10 then column_behind 1 bytes else column_behind
+    (column + 1) bytes
 
 -- The column of a byte, from 1.
 abbrev pub column_of : List ℕ → ℕ → ℕ

@@ -12,7 +12,8 @@ pub record IsName (text : List ℕ) : Type 0 where
   pub letter : starts is_letter text ≡ true
   pub all : prefix_len is_word text ≡ length text
 
--- A float literal without a sign: a number begins with its first byte, which is no whole one and goes to its end.
+-- A float literal without a sign: a number begins with its first byte, which is no whole one and
+-- goes to its end.
 pub record IsUnsigned (text : List ℕ) : Type 0 where
   pub begins : starts begins_number text ≡ true
   pub all : number_at text ≡ Some (number.Literal, length text)
@@ -35,10 +36,11 @@ abbrev mutual
   IsPrintableHeld (Message fields) = IsPrintable fields
 
 abbrev mutual
-  -- Fields as if each stood at the front of its text.
+  -- Fields as if each stood at the start of its text.
   pub without_spans : Fields → Fields
   without_spans Nothing = Nothing
-  without_spans (And before name span held) = And (without_spans before) name (record { start = 0; end = 0 }) (held_without_spans held)
+  without_spans (And before name span held) = And (without_spans before) name
+      (record { start = 0; end = 0 }) (held_without_spans held)
 
   pub held_without_spans : Held → Held
   held_without_spans (Whole negative size) = Whole negative size

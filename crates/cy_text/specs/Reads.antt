@@ -1,5 +1,6 @@
 -- What values stand for.
-use Rattle.std.specs.Prelude.{ℕ, zero, suc, ℤ, pos, negsuc, Bool, true, false, List, codes, ◌||◌, Option, Some, None, if◌then◌else◌}
+use Rattle.std.specs.Prelude.{ℕ, zero, suc, ℤ, pos, negsuc, Bool, true, false, List, codes, ◌||◌}
+use Rattle.std.specs.Prelude.{Option, Some, None, if◌then◌else◌}
 use Rattle.std.specs.Str.{bytes_eq, is_utf8}
 use Rattle.cy_text.specs.declared.tree.Value.{Value}
 use Rattle.cy_text.specs.declared.tree.Value.TheVariants.{Whole, Literal, Word, Quote, Message}

@@ -4,10 +4,12 @@ use Rattle.cy_text.specs.Fields.{Fields, Held, Nothing, And, Whole, Literal, Wor
 use Rattle.cy_text.specs.declared.tree.Span.{Span}
 
 abbrev mutual
-  -- Between two places fields stand in their order: none begins before the one before it ends, and each takes a byte at least.
+  -- Between two places fields stand in their order: none begins before the one before it ends, and
+  -- each takes a byte at least.
   pub AreInOrder : ℕ → ℕ → Fields → Type 0
   AreInOrder low high Nothing = low ≤ high
-  AreInOrder low high (And before name span held) = AreInOrder low span.start before × (span.start < span.end) × (span.end ≤ high) × IsInOrder span held
+  AreInOrder low high (And before name span held) = AreInOrder low span.start before
+      × (span.start < span.end) × (span.end ≤ high) × IsInOrder span held
 
   -- The fields of a message do so within its span.
   pub IsInOrder : Span → Held → Type 0

@@ -1,8 +1,11 @@
 // The messages that are open, with their fields so far.
 ghost use Rattle.std.specs.Prelude.{◌≡◌, ◌∷◌, Ok};
 ghost use Rattle.cy_text.specs.Entries.{held_of};
-ghost use Rattle.cy_text.specs.Form.{after_item, after_colon, after_name, after_sign, after_string, after_value, all_closed, at_field, at_first_item, at_item, at_message, at_value, begun, closed, ends_value, finish, items_of, opened, placed, step, start_of};
-ghost use Rattle.cy_text.specs.Gives.{Gives};
+ghost use Rattle.cy_text.specs.Form.{after_item, after_colon, after_name, after_sign, after_string};
+ghost use Rattle.cy_text.specs.Form.{after_value, all_closed, at_field, at_first_item, at_item};
+ghost use Rattle.cy_text.specs.Form.{at_message, at_value, begun, closed, ends_value, finish};
+ghost use Rattle.cy_text.specs.Form.{items_of, opened, placed, step, start_of};
+ghost use Rattle.cy_text.specs.Agrees.{Agrees};
 ghost use Rattle.cy_text.specs.Views.{view_building, view_reading};
 ghost use Rattle.cy_text.specs.declared.fault.Failure.TheVariants as failures;
 ghost use Rattle.cy_text.specs.declared.fault.Fault.TheVariants as faults;
@@ -14,7 +17,7 @@ use crate::{BadKind, Entry, Span, Tree, Value};
 use cy_msg::Text;
 use std::alloc::Global;
 
-/// How many messages a message may stand in.
+// How many messages a message may stand in.
 const MOST_OPEN: usize = 64;
 
 /// The messages that are open, the outermost first, and the fields of the innermost so far.
@@ -74,7 +77,8 @@ impl Building {
         end: u32,
         value: Value,
     ) -> Result<Reading, Failure>
-        ensures { Gives view_reading result (Ok (placed (view_building self) slot end (held_of value))) }
+        ensures { Agrees view_reading result
+            (Ok (placed (view_building self) slot end (held_of value))) }
     {
         let Building { frames, mut fields } = self;
         let span = Span {
@@ -105,7 +109,7 @@ impl Building {
         bracket: Bracket,
         at: u32,
     ) -> Result<Reading, Failure>
-        ensures { Gives view_reading result (opened (view_building self) slot bracket at) }
+        ensures { Agrees view_reading result (opened (view_building self) slot bracket at) }
     {
         let Building { mut frames, fields } = self;
         if frames.len() >= MOST_OPEN {
@@ -133,7 +137,8 @@ impl Building {
         bracket: Bracket,
         span: Span,
     ) -> Result<Reading, Failure>
-        ensures { Gives view_reading result (closed (view_building self) bracket span.start span.end) }
+        ensures { Agrees view_reading result
+            (closed (view_building self) bracket span.start span.end) }
     {
         let Building { mut frames, fields } = self;
         let Some(frame) = frames.pop() else {

@@ -25,11 +25,13 @@ pub enum BadKind {
     Colon,
     /// A token that is no value where a value has to stand, or the end of the text there.
     Value,
-    /// Any other token that may not stand where it does, or the end of the text where a bracket is open.
+    /// Any other token that may not stand where it does, or the end of the text where a bracket is
+    /// open.
     Close,
 }
 
-/// The first fault of a text, with its place: the line and the column from 1, the column in bytes. Or want of memory.
+/// The first fault of a text, with its place: the line and the column from 1, the column in bytes.
+/// Or want of memory.
 #[derive(Clone, Copy, Debug, PartialEq, Eq, Error)]
 pub enum TextError {
     /// The text isn't in the form.

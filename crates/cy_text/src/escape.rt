@@ -1,6 +1,7 @@
 // Escapes in strings.
 ghost use Rattle.std.specs.Prelude.{◌≡◌, ◌<◌, ◌≤◌, ◌++◌, length, IfSome, OnOk, ◌+◌};
-ghost use Rattle.cy_text.specs.Strings.{simple_escape, octal_escape, hex_escape, char_escape, escape_at, escape_bytes};
+ghost use Rattle.cy_text.specs.Strings.{simple_escape, octal_escape, hex_escape, char_escape};
+ghost use Rattle.cy_text.specs.Strings.{escape_at, escape_bytes};
 
 use crate::letters::{hex_len, octal_len};
 use crate::number::value_of;
@@ -13,7 +14,7 @@ pub(crate) enum Escape {
     Char(char),
 }
 
-/// The byte that a letter or a mark behind a backslash stands for.
+// The byte that a letter or a mark behind a backslash stands for.
 #[tactic(auto, unfolding(crate::specs::Strings::simple_escape))]
 fn simple_escape(byte: u8) -> Option<u8>
     ensures { result ≡ simple_escape byte }
@@ -31,7 +32,7 @@ fn simple_escape(byte: u8) -> Option<u8>
     }
 }
 
-/// One to three octal digits, of value at most 255.
+// One to three octal digits, of value at most 255.
 #[tactic(auto, unfolding(crate::specs::Strings::octal_escape))]
 fn octal_escape(bytes: &[u8]) -> Option<(Escape, usize)>
     ensures value { result ≡ octal_escape bytes.now }
@@ -47,7 +48,7 @@ fn octal_escape(bytes: &[u8]) -> Option<(Escape, usize)>
     }
 }
 
-/// One or two hexadecimal digits behind an `x`.
+// One or two hexadecimal digits behind an `x`.
 #[tactic(auto, unfolding(crate::specs::Strings::hex_escape))]
 fn hex_escape(bytes: &[u8]) -> Option<(Escape, usize)>
     ensures value { result ≡ hex_escape bytes.now }
@@ -66,7 +67,7 @@ fn hex_escape(bytes: &[u8]) -> Option<(Escape, usize)>
     }
 }
 
-/// So many hexadecimal digits behind a `u`, which stand for a character.
+// So many hexadecimal digits behind a `u`, which stand for a character.
 #[tactic(auto, unfolding(crate::specs::Strings::char_escape))]
 fn char_escape(count: usize, bytes: &[u8]) -> Option<(Escape, usize)>
     requires { count ≤ 8 }

@@ -6,9 +6,11 @@ use crate::letters::{is_blank, line_len, rest_from};
 
 /// How many bytes of blanks and comments stand in front.
 pub(crate) fn gap_len(bytes: &[u8]) -> usize
-    ensures same { (at : ℕ) → tokens_from (at + result) 0 (drop result bytes.now) ≡ tokens_from at 0 bytes.now }
+    ensures same { (at : ℕ) → tokens_from (at + result) 0 (drop result bytes.now)
+        ≡ tokens_from at 0 bytes.now }
     ensures within { result ≤ length bytes.now }
-    ensures token { result < length bytes.now → IsTrue (begins_token (slice_index bytes.now result)) }
+    ensures token { result < length bytes.now
+        → IsTrue (begins_token (slice_index bytes.now result)) }
 {
     let mut place = 0;
     while place < bytes.len() {

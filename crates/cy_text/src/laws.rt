@@ -1,5 +1,6 @@
 // What holds of every text: proved here, and nothing to run.
-ghost use Rattle.cy_text.specs.Laws.{FormIsRead, PrintedIsRead, ReadIsForm, RefusedAtFirstFault, RefusedIsNoForm, SpansAreInOrder, TokensAreThere};
+ghost use Rattle.cy_text.specs.Laws.{FormIsRead, PrintedIsRead, ReadIsForm, RefusedAtFirstFault};
+ghost use Rattle.cy_text.specs.Laws.{RefusedIsNoForm, SpansAreInOrder, TokensAreThere};
 
 /// Each text of the form is read to the fields that it says.
 pub fn form_is_read()
@@ -17,14 +18,14 @@ pub fn refused_at_first_fault()
     ensures first_fault { RefusedAtFirstFault }
 {}
 
-/// Fields that were printed are read back, but for where they stand, if their names, words and literals have the form of such and
-/// messages stand at most 64 deep.
+/// Fields that were printed are read back, but for where they stand, if their names, words and
+/// literals have the form of such and messages stand at most 64 deep.
 pub fn printed_is_read()
     ensures { PrintedIsRead }
 {}
 
-/// The fields that are read stand in their order within the text, and those of a message within it. Their spans are made of the
-/// tokens' ones, and a token stands where its span says.
+/// The fields that are read stand in their order within the text, and those of a message within it.
+/// Their spans are made of the tokens' ones, and a token stands where its span says.
 pub fn spans_are_in_order()
     ensures order { SpansAreInOrder }
     ensures tokens { TokensAreThere }

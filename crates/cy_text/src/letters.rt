@@ -2,7 +2,8 @@
 ghost use Rattle.std.specs.Prelude.{◌≡◌, ◌≤◌, ◌==◌, ◌<◌, not, length, drop, ◌+◌};
 ghost use Rattle.std.specs.List.{prefix_len};
 ghost use Rattle.cy_text.specs.Numbers.{either};
-ghost use Rattle.cy_text.specs.Letters.{is_blank, is_digit, is_octal, is_hex, is_letter, is_word, digit_of, starts};
+ghost use Rattle.cy_text.specs.Letters.{is_blank, is_digit, is_octal, is_hex, is_letter, is_word};
+ghost use Rattle.cy_text.specs.Letters.{digit_of, starts};
 
 pub(crate) fn is_blank(byte: u8) -> bool
     ensures { result ≡ is_blank byte }

@@ -1,7 +1,8 @@
 //! The text form of Protocol Buffers: a text as a tree of fields, and a tree as a text.
 //!
-//! `specs/Grammar` says which texts are of the form and which fields they say, `specs/Form` how that is read token by token,
-//! `specs/Tokens` what the tokens are, `specs/Printed` what is printed, and `specs/Laws` what holds of all texts.
+//! `specs/Grammar` says which texts are of the form and which fields they say, `specs/Form` how
+//! that is read token by token, `specs/Tokens` what the tokens are, `specs/Printed` what is
+//! printed, and `specs/Laws` what holds of all texts.
 #![tactic(auto)]
 
 mod building;
@@ -28,6 +29,3 @@ pub use laws::{
 pub use printing::print;
 pub use text::parse;
 pub use tree::{Entry, Span, Tree, Value};
-
-#[cfg(test)]
-mod tests;

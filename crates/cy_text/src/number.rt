@@ -1,8 +1,9 @@
-// Numbers, as they begin at the front of some bytes.
+// Numbers, as they begin at the start of some bytes.
 ghost use Rattle.std.specs.Prelude.{◌≡◌, ◌<◌, ◌≤◌, ◌+◌, ◌==◌, length, drop, IfSome};
 ghost use Rattle.std.specs.List.{prefix_len};
 ghost use Rattle.cy_text.specs.Letters.{is_digit, starts};
-ghost use Rattle.cy_text.specs.Numbers.{either, value_of, exponent_len, tail_len, ended, sized, whole_at, pointed_at, decimal_at, zero_at, number_at};
+ghost use Rattle.cy_text.specs.Numbers.{either, value_of, exponent_len, tail_len, ended, sized};
+ghost use Rattle.cy_text.specs.Numbers.{whole_at, pointed_at, decimal_at, zero_at, number_at};
 
 use crate::letters::{
     digit_of, digits_len, hex_len, octal_len, starts_digit, starts_either, starts_octal,
@@ -31,7 +32,7 @@ pub(crate) fn value_of(base: u64, digits: &[u8]) -> Option<u64>
     Some(value)
 }
 
-/// How many bytes an exponent in front takes.
+// How many bytes an exponent in front takes.
 #[tactic(auto, unfolding(crate::specs::Numbers::exponent_len))]
 fn exponent_len(bytes: &[u8]) -> usize
     ensures count { result ≡ exponent_len bytes.now }
@@ -49,7 +50,7 @@ fn exponent_len(bytes: &[u8]) -> usize
     }
 }
 
-/// How many bytes an exponent and an `f` in front take.
+// How many bytes an exponent and an `f` in front take.
 #[tactic(auto, unfolding(crate::specs::Numbers::tail_len))]
 fn tail_len(bytes: &[u8]) -> usize
     ensures count { result ≡ tail_len bytes.now }
@@ -59,7 +60,7 @@ fn tail_len(bytes: &[u8]) -> usize
     exponent + usize::from(starts_either(&bytes[exponent..], b'f', b'F'))
 }
 
-/// A number of so many bytes, unless a letter, a digit or `_` follows.
+// A number of so many bytes, unless a letter, a digit or `_` follows.
 fn ended(number: Number, len: usize, bytes: &[u8]) -> Option<(Number, usize)>
     requires some { 0 < len }
     requires within { len ≤ length bytes.now }
@@ -73,20 +74,20 @@ fn ended(number: Number, len: usize, bytes: &[u8]) -> Option<(Number, usize)>
     }
 }
 
-/// A whole number whose digits stand behind some other bytes.
+// A whole number whose digits stand behind some other bytes.
 #[tactic(auto, unfolding(crate::specs::Numbers::whole_at))]
-fn whole_at(base: u64, front: usize, count: usize, bytes: &[u8]) -> Option<(Number, usize)>
+fn whole_at(base: u64, prefix: usize, count: usize, bytes: &[u8]) -> Option<(Number, usize)>
     requires positive { 0 < base }
     requires some { 0 < count }
-    requires within { front + count ≤ length bytes.now }
-    ensures value { result ≡ whole_at base front count bytes.now }
+    requires within { prefix + count ≤ length bytes.now }
+    ensures value { result ≡ whole_at base prefix count bytes.now }
     ensures there { IfSome result (λ found. (0 < found.1) × (found.1 ≤ length bytes.now)) }
 {
-    let size = value_of(base, &bytes[front..front + count])?;
-    ended(Number::Whole(size), front + count, bytes)
+    let size = value_of(base, &bytes[prefix..prefix + count])?;
+    ended(Number::Whole(size), prefix + count, bytes)
 }
 
-/// A literal with its point behind `count` digits.
+// A literal with its point behind `count` digits.
 #[tactic(auto, unfolding(crate::specs::Numbers::pointed_at))]
 fn pointed_at(count: usize, bytes: &[u8]) -> Option<(Number, usize)>
     requires { count < length bytes.now }
@@ -98,7 +99,7 @@ fn pointed_at(count: usize, bytes: &[u8]) -> Option<(Number, usize)>
     ended(Number::Literal, digits_end + tail, bytes)
 }
 
-/// A number that begins with a decimal of `count` digits.
+// A number that begins with a decimal of `count` digits.
 #[tactic(auto, unfolding(crate::specs::Numbers::decimal_at))]
 fn decimal_at(count: usize, bytes: &[u8]) -> Option<(Number, usize)>
     requires some { 0 < count }
@@ -116,7 +117,7 @@ fn decimal_at(count: usize, bytes: &[u8]) -> Option<(Number, usize)>
     }
 }
 
-/// A number that begins with 0.
+// A number that begins with 0.
 #[tactic(auto, unfolding(crate::specs::Numbers::zero_at))]
 fn zero_at(bytes: &[u8]) -> Option<(Number, usize)>
     requires { 0 < length bytes.now }
@@ -137,8 +138,8 @@ fn zero_at(bytes: &[u8]) -> Option<(Number, usize)>
     }
 }
 
-/// The number that begins with the first byte, a digit or a point, and how many bytes it takes: none where it is outside the
-/// form or too large.
+/// The number that begins with the first byte, a digit or a point, and how many bytes it takes:
+/// none where it is outside the form or too large.
 #[tactic(auto, unfolding(crate::specs::Numbers::number_at))]
 pub(crate) fn number_at(bytes: &[u8]) -> Option<(Number, usize)>
     ensures value { result ≡ number_at bytes.now }

@@ -10,7 +10,7 @@ use cy_msg::{Bytes, push_quoted};
 use std::alloc::{AllocError, Global};
 use std::str;
 
-/// Whether bytes are a text in UTF-8.
+// Whether bytes are a text in UTF-8.
 #[tactic(auto, using(crate::proofs::Utf8::is_a_text, crate::proofs::Utf8::is_no_text))]
 fn is_text(bytes: &[u8]) -> bool
     ensures { result ≡ is_utf8 bytes.now }
@@ -21,7 +21,7 @@ fn is_text(bytes: &[u8]) -> bool
     }
 }
 
-/// Adds a `-` where there is one.
+// Adds a `-` where there is one.
 fn push_sign(out: &mut Vec<u8>, negative: bool) -> Result<(), AllocError>
     ensures { OnOk result (out.new.items ≡ out.old.items ++ sign_text negative) }
 {
@@ -32,9 +32,10 @@ fn push_sign(out: &mut Vec<u8>, negative: bool) -> Result<(), AllocError>
     }
 }
 
-/// Adds a whole number.
+// Adds a whole number.
 fn push_whole(out: &mut Vec<u8>, alloc: Global, negative: bool, size: u64) -> Result<(), AllocError>
-    ensures { OnOk result (out.new.items ≡ out.old.items ++ (codes ": " ++ sign_text negative ++ decimal size)) }
+    ensures { OnOk result (out.new.items ≡ out.old.items ++ (codes ": " ++ sign_text negative
+        ++ decimal size)) }
 {
     let digits = format!(in alloc; "{size}")?;
     out.extend_from_slice(b": ")?;
@@ -42,7 +43,7 @@ fn push_whole(out: &mut Vec<u8>, alloc: Global, negative: bool, size: u64) -> Re
     out.extend_from_slice(digits.as_bytes())
 }
 
-/// Adds the fields, each on a line behind the margin.
+// Adds the fields, each on a line behind the margin.
 #[cycle(print)]
 fn push_fields(
     out: &mut Vec<u8>,
@@ -50,7 +51,8 @@ fn push_fields(
     margin: &mut Vec<u8>,
     tree: &Tree,
 ) -> Result<(), AllocError>
-    ensures text { OnOk result (out.new.items ≡ out.old.items ++ fields_text margin.old.items tree.now) }
+    ensures text { OnOk result (out.new.items ≡ out.old.items
+        ++ fields_text margin.old.items tree.now) }
     ensures margin { OnOk result (margin.new.items ≡ margin.old.items) }
 {
     for entry in &tree.entries {
@@ -62,7 +64,7 @@ fn push_fields(
     Ok(())
 }
 
-/// Adds what stands behind a name.
+// Adds what stands behind a name.
 #[cycle(print)]
 fn push_value(
     out: &mut Vec<u8>,
@@ -70,7 +72,8 @@ fn push_value(
     margin: &mut Vec<u8>,
     value: &Value,
 ) -> Result<(), AllocError>
-    ensures text { OnOk result (out.new.items ≡ out.old.items ++ held_text margin.old.items (held_of value.now)) }
+    ensures text { OnOk result (out.new.items ≡ out.old.items ++ held_text margin.old.items
+        (held_of value.now)) }
     ensures margin { OnOk result (margin.new.items ≡ margin.old.items) }
 {
     match value {
@@ -100,8 +103,9 @@ fn push_value(
     }
 }
 
-/// The printed form of fields. Its only error is want of memory. It calls itself as deep as messages stand in one another: in a tree
-/// that `parse` gave at most 64 times, and in any other as deep as its maker made it.
+/// The printed form of fields. Its only error is want of memory. It calls itself as deep as
+/// messages stand in one another: in a tree that `parse` gave at most 64 times, and in any other as
+/// deep as its maker made it.
 pub fn print(alloc: Global, tree: &Tree) -> Result<Bytes, TextError>
     ensures text { IfOk result (λ bytes. bytes ≡ printed tree.now) }
     ensures only_memory { IsOkUnless result text_error.Memory }

@@ -1,6 +1,6 @@
 // Strings in quotes.
 ghost use Rattle.std.specs.Prelude.{◌≡◌, ◌<◌, ◌≤◌, ◌+◌, ◌^◌, length, IfOk};
-ghost use Rattle.cy_text.specs.Gives.{Gives};
+ghost use Rattle.cy_text.specs.Agrees.{Agrees};
 ghost use Rattle.cy_text.specs.Strings.{string_at, escaped};
 
 use crate::BadKind;
@@ -9,10 +9,12 @@ use crate::fault::{Failure, Fault};
 use crate::letters::rest_from;
 use std::alloc::Global;
 
-/// Adds what the escape stands for whose backslash stands at `at`, before `rest`, and answers how many bytes of it there are.
+// Adds what the escape stands for whose backslash stands at `at`, before `rest`, and answers how
+// many bytes of it there are.
 #[tactic(auto, unfolding(crate::specs::Strings::escaped))]
 fn read_escape(out: &mut Vec<u8>, at: u32, rest: &[u8]) -> Result<usize, Failure>
-    ensures value { Gives (λ len. (out.new.items, len)) result (escaped out.old.items at rest.now) }
+    ensures value { Agrees (λ len. (out.new.items, len)) result
+        (escaped out.old.items at rest.now) }
     ensures there { IfOk result (λ len. len ≤ length rest.now) }
 {
     let Some((escape, len)) = escape_at(rest) else {
@@ -22,11 +24,12 @@ fn read_escape(out: &mut Vec<u8>, at: u32, rest: &[u8]) -> Result<usize, Failure
     Ok(len)
 }
 
-/// The bytes of the string that begins at `start`, which these are the text's bytes from, and the place behind it.
+/// The bytes of the string that begins at `start`, which these are the text's bytes from, and the
+/// place behind it.
 pub(crate) fn string_at(alloc: Global, start: u32, bytes: &[u8]) -> Result<(Vec<u8>, u32), Failure>
     requires some { 0 < length bytes.now }
     requires within { start + length bytes.now < 2 ^ 32 }
-    ensures value { Gives (λ found. (found.0.items, found.1)) result (string_at start bytes.now) }
+    ensures value { Agrees (λ found. (found.0.items, found.1)) result (string_at start bytes.now) }
     ensures behind { IfOk result (λ found. start < found.1) }
     ensures there { IfOk result (λ found. found.1 ≤ start + length bytes.now) }
 {

@@ -1,7 +1,10 @@
 // One more token, by what may stand next.
 ghost use Rattle.std.specs.Prelude.{◌≡◌, Ok};
-ghost use Rattle.cy_text.specs.Form.{after_item, after_colon, after_name, after_sign, after_string, after_value, all_closed, at_field, at_first_item, at_item, at_message, at_value, ends_value, finish, placed, step, unread};
-ghost use Rattle.cy_text.specs.Gives.{Gives};
+ghost use Rattle.cy_text.specs.Form.{after_item, after_colon, after_name, after_sign, after_string};
+ghost use Rattle.cy_text.specs.Form.{after_value, all_closed, at_field, at_first_item, at_item};
+ghost use Rattle.cy_text.specs.Form.{at_message, at_value, ends_value, finish, placed, step};
+ghost use Rattle.cy_text.specs.Form.{unread};
+ghost use Rattle.cy_text.specs.Agrees.{Agrees};
 ghost use Rattle.cy_text.specs.Views.{view_building, view_reading};
 
 use crate::building::{Building, Reading, bad};
@@ -13,7 +16,7 @@ use cy_msg::{Bytes, Text};
 use std::alloc::Global;
 
 impl Building {
-    /// The same messages, with what may stand next.
+    // The same messages, with what may stand next.
     fn expecting(self, next: Expected) -> Reading
         ensures { view_reading result ≡ record { building = view_building self; next = next } }
     {
@@ -23,10 +26,10 @@ impl Building {
         }
     }
 
-    /// Where a field's name may stand.
+    // Where a field's name may stand.
     #[tactic(auto, unfolding(crate::specs::Form::at_field))]
     fn at_field(self, alloc: Global, after_field: bool, lexeme: Lexeme) -> Result<Reading, Failure>
-        ensures { Gives view_reading result (at_field (view_building self) after_field lexeme) }
+        ensures { Agrees view_reading result (at_field (view_building self) after_field lexeme) }
     {
         let Lexeme { token, span } = lexeme;
         match token {
@@ -47,10 +50,10 @@ impl Building {
         }
     }
 
-    /// Where a message has to stand, since there is no colon.
+    // Where a message has to stand, since there is no colon.
     #[tactic(auto, unfolding(crate::specs::Form::at_message))]
     fn at_message(self, alloc: Global, slot: Slot, lexeme: Lexeme) -> Result<Reading, Failure>
-        ensures { Gives view_reading result (at_message (view_building self) slot lexeme) }
+        ensures { Agrees view_reading result (at_message (view_building self) slot lexeme) }
     {
         let Lexeme { token, span } = lexeme;
         match token {
@@ -63,10 +66,10 @@ impl Building {
         }
     }
 
-    /// Where a value has to stand, which may be a message.
+    // Where a value has to stand, which may be a message.
     #[tactic(auto, unfolding(crate::specs::Form::at_value))]
     fn at_value(self, alloc: Global, slot: Slot, lexeme: Lexeme) -> Result<Reading, Failure>
-        ensures { Gives view_reading result (at_value (view_building self) slot lexeme) }
+        ensures { Agrees view_reading result (at_value (view_building self) slot lexeme) }
     {
         let Lexeme { token, span } = lexeme;
         let slot = slot.begun(span.start);
@@ -90,10 +93,10 @@ impl Building {
         self.placed(alloc, slot, span.end, value)
     }
 
-    /// Behind a name: a colon, a message, or a list of messages.
+    // Behind a name: a colon, a message, or a list of messages.
     #[tactic(auto, unfolding(crate::specs::Form::after_name))]
     fn after_name(self, alloc: Global, slot: Slot, lexeme: Lexeme) -> Result<Reading, Failure>
-        ensures { Gives view_reading result (after_name (view_building self) slot lexeme) }
+        ensures { Agrees view_reading result (after_name (view_building self) slot lexeme) }
     {
         match lexeme.token {
             Token::Colon => Ok(self.expecting(Expected::AfterColon(slot))),
@@ -104,10 +107,10 @@ impl Building {
         }
     }
 
-    /// Behind a colon: a list or any other value.
+    // Behind a colon: a list or any other value.
     #[tactic(auto, unfolding(crate::specs::Form::after_colon))]
     fn after_colon(self, alloc: Global, slot: Slot, lexeme: Lexeme) -> Result<Reading, Failure>
-        ensures { Gives view_reading result (after_colon (view_building self) slot lexeme) }
+        ensures { Agrees view_reading result (after_colon (view_building self) slot lexeme) }
     {
         match lexeme.token {
             Token::ListOpen => Ok(self.expecting(Expected::FirstItem(slot.items(Place::Item)))),
@@ -115,10 +118,10 @@ impl Building {
         }
     }
 
-    /// Where an item of a list has to stand.
+    // Where an item of a list has to stand.
     #[tactic(auto, unfolding(crate::specs::Form::at_item))]
     fn at_item(self, alloc: Global, slot: Slot, lexeme: Lexeme) -> Result<Reading, Failure>
-        ensures { Gives view_reading result (at_item (view_building self) slot lexeme) }
+        ensures { Agrees view_reading result (at_item (view_building self) slot lexeme) }
     {
         match slot.place {
             Place::MessageItem => self.at_message(alloc, slot, lexeme),
@@ -126,10 +129,10 @@ impl Building {
         }
     }
 
-    /// Behind the bracket of a list: its end, or an item.
+    // Behind the bracket of a list: its end, or an item.
     #[tactic(auto, unfolding(crate::specs::Form::at_first_item))]
     fn at_first_item(self, alloc: Global, slot: Slot, lexeme: Lexeme) -> Result<Reading, Failure>
-        ensures { Gives view_reading result (at_first_item (view_building self) slot lexeme) }
+        ensures { Agrees view_reading result (at_first_item (view_building self) slot lexeme) }
     {
         match lexeme.token {
             Token::ListClose => Ok(self.expecting(Expected::Field(true))),
@@ -137,10 +140,10 @@ impl Building {
         }
     }
 
-    /// Behind an item: a comma, or the list's end.
+    // Behind an item: a comma, or the list's end.
     #[tactic(auto, unfolding(crate::specs::Form::after_item))]
     fn after_item(self, slot: Slot, lexeme: Lexeme) -> Result<Reading, Failure>
-        ensures { Gives view_reading result (after_item (view_building self) slot lexeme) }
+        ensures { Agrees view_reading result (after_item (view_building self) slot lexeme) }
     {
         match lexeme.token {
             Token::Comma => Ok(self.expecting(Expected::Item(slot))),
@@ -149,10 +152,10 @@ impl Building {
         }
     }
 
-    /// Behind a sign: a number or a word.
+    // Behind a sign: a number or a word.
     #[tactic(auto, unfolding(crate::specs::Form::after_sign))]
     fn after_sign(self, alloc: Global, slot: Slot, lexeme: Lexeme) -> Result<Reading, Failure>
-        ensures { Gives view_reading result (after_sign (view_building self) slot lexeme) }
+        ensures { Agrees view_reading result (after_sign (view_building self) slot lexeme) }
     {
         let Lexeme { token, span } = lexeme;
         let value = match token {
@@ -174,7 +177,7 @@ impl Building {
         self.placed(alloc, slot, span.end, value)
     }
 
-    /// Behind a string: more of it, or what may follow a value.
+    // Behind a string: more of it, or what may follow a value.
     #[tactic(auto, unfolding(crate::specs::Form::after_string))]
     fn after_string(
         self,
@@ -184,7 +187,8 @@ impl Building {
         end: u32,
         lexeme: Lexeme,
     ) -> Result<Reading, Failure>
-        ensures { Gives view_reading result (after_string (view_building self) slot bytes end lexeme) }
+        ensures { Agrees view_reading result
+            (after_string (view_building self) slot bytes end lexeme) }
     {
         let Lexeme { token, span } = lexeme;
         match token {
@@ -200,10 +204,10 @@ impl Building {
         }
     }
 
-    /// The fields, where no message is open.
+    // The fields, where no message is open.
     #[tactic(auto, unfolding(crate::specs::Form::all_closed))]
     fn all_closed(self, at: u32) -> Result<Tree, Failure>
-        ensures { Gives (λ tree. tree) result (all_closed (view_building self) at) }
+        ensures { Agrees (λ tree. tree) result (all_closed (view_building self) at) }
     {
         let Building { frames, fields } = self;
         if frames.is_empty() {
@@ -228,10 +232,10 @@ impl Reading {
         }
     }
 
-    /// Behind a value that is placed.
+    // Behind a value that is placed.
     #[tactic(auto, unfolding(crate::specs::Form::after_value))]
     fn after_value(self, alloc: Global, lexeme: Lexeme) -> Result<Reading, Failure>
-        ensures { Gives view_reading result (after_value (view_reading self) lexeme) }
+        ensures { Agrees view_reading result (after_value (view_reading self) lexeme) }
     {
         let Reading { building, next } = self;
         match next {
@@ -243,7 +247,7 @@ impl Reading {
     /// One more token.
     #[tactic(auto, unfolding(crate::specs::Form::step))]
     pub(crate) fn step(self, alloc: Global, lexeme: Lexeme) -> Result<Reading, Failure>
-        ensures { Gives view_reading result (step (view_reading self) lexeme) }
+        ensures { Agrees view_reading result (step (view_reading self) lexeme) }
     {
         let Reading { building, next } = self;
         match next {
@@ -260,10 +264,10 @@ impl Reading {
         }
     }
 
-    /// The end of the text behind a value.
+    // The end of the text behind a value.
     #[tactic(auto, unfolding(crate::specs::Form::ends_value))]
     fn ends_value(self, at: u32) -> Result<Tree, Failure>
-        ensures { Gives (λ tree. tree) result (ends_value (view_reading self) at) }
+        ensures { Agrees (λ tree. tree) result (ends_value (view_reading self) at) }
     {
         let Reading { building, next } = self;
         match next {
@@ -275,7 +279,7 @@ impl Reading {
     /// The end of the text.
     #[tactic(auto, unfolding(crate::specs::Form::finish))]
     pub(crate) fn finish(self, alloc: Global, at: u32) -> Result<Tree, Failure>
-        ensures { Gives (λ tree. tree) result (finish (view_reading self) at) }
+        ensures { Agrees (λ tree. tree) result (finish (view_reading self) at) }
     {
         let Reading { building, next } = self;
         match next {

@@ -1,7 +1,7 @@
 // Reads a text.
 ghost use Rattle.std.specs.Prelude.{◌≡◌, ◌≤◌, ◌<◌, ◌^◌, ◌+◌, ◌⊎◌, length, IfOk, IfErr, Ok, Err};
 ghost use Rattle.cy_text.specs.Form.{read_text};
-ghost use Rattle.cy_text.specs.Gives.{Gives};
+ghost use Rattle.cy_text.specs.Agrees.{Agrees};
 ghost use Rattle.cy_text.specs.Places.{line_of, column_of, error_of, fields_of_text};
 ghost use Rattle.cy_text.specs.declared.error.TextError.TheVariants as text_error;
 
@@ -13,10 +13,10 @@ use crate::token::token_at;
 use crate::{TextError, Tree};
 use std::alloc::Global;
 
-/// The fields of a text, or its first fault, in one pass with one token in hand.
+// The fields of a text, or its first fault, in one pass with one token in hand.
 fn read_text(alloc: Global, text: &[u8]) -> Result<Tree, Failure>
     requires { length text.now + 1 < 2 ^ 32 }
-    ensures { Gives (λ tree. tree) result (read_text text.now) }
+    ensures { Agrees (λ tree. tree) result (read_text text.now) }
 {
     let mut reading = Reading::new(alloc);
     let mut place = gap_len(text);
@@ -29,7 +29,7 @@ fn read_text(alloc: Global, text: &[u8]) -> Result<Tree, Failure>
     reading.finish(alloc, place as u32)
 }
 
-/// The line and the column of the byte at a place, or of the end of the text.
+// The line and the column of the byte at a place, or of the end of the text.
 #[tactic(auto, using(crate::proofs::Columns::next_column, crate::proofs::Columns::last_column))]
 fn place_of(text: &[u8], at: u32) -> (u32, u32)
     requires { length text.now + 1 < 2 ^ 32 }
@@ -50,7 +50,7 @@ fn place_of(text: &[u8], at: u32) -> (u32, u32)
     (line, column)
 }
 
-/// A fault with its line and column.
+// A fault with its line and column.
 fn error_of(text: &[u8], fault: Fault) -> TextError
     requires { length text.now + 1 < 2 ^ 32 }
     ensures { result ≡ error_of text.now fault }
@@ -67,11 +67,13 @@ fn error_of(text: &[u8], fault: Fault) -> TextError
     }
 }
 
-/// The fields that a text says, or its first fault. The text has at most 4,294,967,294 bytes. `Memory` alone is free.
+/// The fields that a text says, or its first fault. The text has at most 4,294,967,294 bytes.
+/// `Memory` alone is free.
 pub fn parse(alloc: Global, bytes: &[u8]) -> Result<Tree, TextError>
     requires { length bytes.now ≤ 4294967294 }
     ensures tree { IfOk result (λ tree. fields_of_text bytes.now ≡ Ok tree) }
-    ensures fault { IfErr result (λ error. (error ≡ text_error.Memory) ⊎ (fields_of_text bytes.now ≡ Err error)) }
+    ensures fault { IfErr result (λ error. (error ≡ text_error.Memory)
+        ⊎ (fields_of_text bytes.now ≡ Err error)) }
 {
     match read_text(alloc, bytes) {
         Ok(tree) => Ok(tree),

@@ -1,8 +1,9 @@
 // The tokens of a text.
 ghost use Rattle.std.specs.Prelude.{◌≡◌, ◌<◌, ◌≤◌, ◌+◌, ◌^◌, length, IfOk, IsOkUnless, IsTrue};
 ghost use Rattle.std.specs.Str.{IsUtf8};
-ghost use Rattle.cy_text.specs.Gives.{Gives};
-ghost use Rattle.cy_text.specs.Tokens.{IsThere, begins_number, mark_of, numbered, token_at, word_at};
+ghost use Rattle.cy_text.specs.Agrees.{Agrees};
+ghost use Rattle.cy_text.specs.Tokens.{IsThere, begins_number, mark_of, numbered, token_at};
+ghost use Rattle.cy_text.specs.Tokens.{word_at};
 ghost use Rattle.cy_text.specs.Letters.{is_letter, starts};
 ghost use Rattle.cy_text.specs.Numbers.{number_at};
 ghost use Rattle.cy_text.specs.declared.fault.Failure.TheVariants as failures;
@@ -49,7 +50,7 @@ pub(crate) struct Lexeme {
     pub(crate) span: Span,
 }
 
-/// The token that a mark is.
+// The token that a mark is.
 #[tactic(auto, unfolding(crate::specs::Tokens::mark_of))]
 fn mark_of(byte: u8) -> Option<Token>
     ensures { result ≡ mark_of byte }
@@ -69,7 +70,7 @@ fn mark_of(byte: u8) -> Option<Token>
     }
 }
 
-/// A copy of bytes that are a text.
+// A copy of bytes that are a text.
 fn text_of(alloc: Global, bytes: &[u8]) -> Result<Text, Failure>
     requires { IsUtf8 bytes.now }
     ensures copy { IfOk result (λ text. text ≡ bytes.now) }
@@ -81,12 +82,12 @@ fn text_of(alloc: Global, bytes: &[u8]) -> Result<Text, Failure>
     }
 }
 
-/// The word that begins with the first byte, a letter.
-#[tactic(auto, using(crate::proofs::LiteralText::front_word), unfolding(crate::specs::Tokens::word_at))]
+// The word that begins with the first byte, a letter.
+#[tactic(auto, using(crate::proofs::LiteralText::prefix_word), unfolding(crate::specs::Tokens::word_at))]
 fn word_at(alloc: Global, at: u32, bytes: &[u8]) -> Result<Lexeme, Failure>
     requires some { IsTrue (starts is_letter bytes.now) }
     requires within { at + length bytes.now < 2 ^ 32 }
-    ensures value { Gives (λ found. found) result (word_at at bytes.now) }
+    ensures value { Agrees (λ found. found) result (word_at at bytes.now) }
     ensures there { IfOk result (λ found. IsThere at bytes.now found) }
 {
     let len = 1 + word_len(rest_from(bytes, 1));
@@ -101,12 +102,12 @@ fn word_at(alloc: Global, at: u32, bytes: &[u8]) -> Result<Lexeme, Failure>
     })
 }
 
-/// The number that begins with the first byte, a digit or a point.
-#[tactic(auto, using(crate::proofs::LiteralText::front_literal))]
+// The number that begins with the first byte, a digit or a point.
+#[tactic(auto, using(crate::proofs::LiteralText::prefix_literal))]
 fn number_token(alloc: Global, at: u32, bytes: &[u8]) -> Result<Lexeme, Failure>
     requires some { IsTrue (starts begins_number bytes.now) }
     requires within { at + length bytes.now < 2 ^ 32 }
-    ensures value { Gives (λ found. found) result (numbered at bytes.now (number_at bytes.now)) }
+    ensures value { Agrees (λ found. found) result (numbered at bytes.now (number_at bytes.now)) }
     ensures there { IfOk result (λ found. IsThere at bytes.now found) }
 {
     let Some((number, len)) = number_at(bytes) else {
@@ -128,7 +129,7 @@ fn number_token(alloc: Global, at: u32, bytes: &[u8]) -> Result<Lexeme, Failure>
 pub(crate) fn token_at(alloc: Global, at: u32, bytes: &[u8]) -> Result<Lexeme, Failure>
     requires some { 0 < length bytes.now }
     requires within { at + length bytes.now < 2 ^ 32 }
-    ensures value { Gives (λ found. found) result (token_at at bytes.now) }
+    ensures value { Agrees (λ found. found) result (token_at at bytes.now) }
     ensures there { IfOk result (λ found. IsThere at bytes.now found) }
 {
     let first = bytes[0];

@@ -110,7 +110,8 @@ impl Tree {
     /// Adds a field at the end. Its only error is want of memory, which changes nothing.
     #[tactic(auto, using(crate::proofs::Pushes::fields_of_push))]
     pub fn push(&mut self, entry: Entry) -> Result<(), AllocError>
-        ensures ok { OnOk result (self.new ≡ And self.old entry.name entry.span (held_of entry.value)) }
+        ensures ok { OnOk result (self.new ≡ And self.old entry.name entry.span
+            (held_of entry.value)) }
         ensures err { OnErr result (self.new ≡ self.old) }
     {
         self.entries.push(entry)?;

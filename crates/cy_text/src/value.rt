@@ -19,8 +19,8 @@ impl Value {
         }
     }
 
-    /// The truth value: a word `true`, `True`, `t`, `false`, `False` or `f`, or a whole number 1 or 0, each without a sign.
-    /// None for any other value.
+    /// The truth value: a word `true`, `True`, `t`, `false`, `False` or `f`, or a whole number 1 or
+    /// 0, each without a sign. None for any other value.
     pub fn truth(&self) -> Option<bool>
         ensures { result ≡ truth_of self.now }
     {

@@ -1,9 +1,10 @@
-// Each kind of fault at its place, and what the forms of the text give.
-use super::*;
-use std::alloc::Global;
+// What texts give: their fields with places and values, and what is printed of them.
+use cy_msg::Text;
+use cy_text::{Entry, Span, TextError, Tree, Value, parse, print};
 use std::process::Abort;
-use std::test::*;
+use std::test::Fail;
 
+// A scheduler file as Cyber RT has them.
 const CLASSIC: &[u8] = b"scheduler_conf {
   policy: \"classic\"
   process_level_cpuset: \"0-7,16-23\" # all threads are in the cpuset
@@ -25,8 +26,8 @@ const CLASSIC: &[u8] = b"scheduler_conf {
 }
 ";
 
-// The tree of a text, all of which are short here.
-fn read(rt: &(impl Abort + AllocGlobal), text: &[u8]) -> Result<Tree, TextError> {
+/// The tree of a text, all of which are short here.
+pub fn read(rt: &(impl Abort + AllocGlobal), text: &[u8]) -> Result<Tree, TextError> {
     assert!(rt; text.len() < 100_000);
     parse(rt.alloc(), text)
 }
@@ -35,90 +36,6 @@ fn read(rt: &(impl Abort + AllocGlobal), text: &[u8]) -> Result<Tree, TextError>
 fn printed(rt: &(impl Abort + AllocGlobal), text: &[u8]) -> Result<Vec<u8>, TextError> {
     let tree = read(rt, text)?;
     Ok(print(rt.alloc(), &tree)?.into_vec())
-}
-
-// A text of some messages, each in the one before.
-fn nested(alloc: Global, depth: u32) -> Result<Vec<u8>, TextError> {
-    let mut text = Vec::new(alloc);
-    for _ in 0..depth {
-        text.extend_from_slice(b"a{")?;
-    }
-    for _ in 0..depth {
-        text.push(b'}')?;
-    }
-    Ok(text)
-}
-
-fn bad(line: u32, column: u32, kind: BadKind) -> Option<TextError> {
-    Some(TextError::Bad { line, column, kind })
-}
-
-#[test]
-fn faults_of_tokens(rt: HostRuntime) {
-    for (text, want) in [
-        (b"a: $".as_slice(), bad(1, 4, BadKind::Token)),
-        (b"a: 1\n  %".as_slice(), bad(2, 3, BadKind::Token)),
-        (b"a: .".as_slice(), bad(1, 4, BadKind::Number)),
-        (b"a: 0x".as_slice(), bad(1, 4, BadKind::Number)),
-        (b"a: 08".as_slice(), bad(1, 4, BadKind::Number)),
-        (b"a: 1_0".as_slice(), bad(1, 4, BadKind::Number)),
-        (b"a: 1.e".as_slice(), bad(1, 4, BadKind::Number)),
-        (b"a: 1ff".as_slice(), bad(1, 4, BadKind::Number)),
-        (
-            b"a: 18446744073709551616".as_slice(),
-            bad(1, 4, BadKind::Number),
-        ),
-        (b"a: 'b\n'".as_slice(), bad(1, 4, BadKind::Quote)),
-        (b"a: \"b'".as_slice(), bad(1, 4, BadKind::Quote)),
-        (b"a: '\\q".as_slice(), bad(1, 5, BadKind::Escape)),
-        (b"a: 'b\\400'".as_slice(), bad(1, 6, BadKind::Escape)),
-        (b"a: '\\x'".as_slice(), bad(1, 5, BadKind::Escape)),
-        (b"a: '\\ud800'".as_slice(), bad(1, 5, BadKind::Escape)),
-        (b"a: '\\U00110000'".as_slice(), bad(1, 5, BadKind::Escape)),
-        (b"a: '\\".as_slice(), bad(1, 5, BadKind::Escape)),
-        (b"a: '\\\n'".as_slice(), bad(1, 5, BadKind::Escape)),
-    ] {
-        assert_eq!(rt; read(&rt, text).err(), want);
-    }
-}
-
-#[test]
-fn faults_of_places(rt: HostRuntime) {
-    for (text, want) in [
-        (b"\n\n[ext.x]: 1".as_slice(), bad(3, 1, BadKind::Extension)),
-        (b"a { [b] }".as_slice(), bad(1, 5, BadKind::Extension)),
-        (b"1".as_slice(), bad(1, 1, BadKind::Name)),
-        (b"a: 1 : 2".as_slice(), bad(1, 6, BadKind::Name)),
-        (b"a: 01.5".as_slice(), bad(1, 6, BadKind::Name)),
-        (b"a 1".as_slice(), bad(1, 3, BadKind::Colon)),
-        (b"a [ {}, 'x' ]".as_slice(), bad(1, 9, BadKind::Colon)),
-        (b"a: }".as_slice(), bad(1, 4, BadKind::Value)),
-        (b"a: [ 1, ]".as_slice(), bad(1, 9, BadKind::Value)),
-        (b"a: [ [".as_slice(), bad(1, 6, BadKind::Value)),
-        (b"a: - 'x'".as_slice(), bad(1, 6, BadKind::Value)),
-        (b"a".as_slice(), bad(1, 2, BadKind::Value)),
-        (b"}".as_slice(), bad(1, 1, BadKind::Close)),
-        (b"a: 1,,".as_slice(), bad(1, 6, BadKind::Close)),
-        (b"a < }".as_slice(), bad(1, 5, BadKind::Close)),
-        (b"a: [ 1 2 ]".as_slice(), bad(1, 8, BadKind::Close)),
-        (b"a {\n".as_slice(), bad(2, 1, BadKind::Close)),
-        (b"a: [ 'x'".as_slice(), bad(1, 9, BadKind::Close)),
-    ] {
-        assert_eq!(rt; read(&rt, text).err(), want);
-    }
-}
-
-#[test]
-fn depth(rt: HostRuntime) -> Result<(), Fail> {
-    let deep = nested(rt.alloc(), 64)?;
-    assert!(rt; read(&rt, &deep).is_ok());
-    let deeper = nested(rt.alloc(), 65)?;
-    let want = TextError::TooDeep {
-        line: 1,
-        column: 130,
-    };
-    assert_eq!(rt; read(&rt, &deeper).err(), Some(want));
-    Ok(())
 }
 
 #[test]
@@ -162,7 +79,7 @@ fn reads_a_classic_file(rt: HostRuntime) -> Result<(), Fail> {
 }
 
 #[test]
-fn values(rt: HostRuntime) -> Result<(), Fail> {
+fn reads_numbers_truths_and_texts(rt: HostRuntime) -> Result<(), Fail> {
     let tree = read(
         &rt,
         b"a: -18446744073709551615 b: True c: 1 d: 'x' e: '\\377' f: 2.0",
@@ -185,7 +102,7 @@ fn values(rt: HostRuntime) -> Result<(), Fail> {
 }
 
 #[test]
-fn spans(rt: HostRuntime) -> Result<(), Fail> {
+fn gives_the_places_of_fields(rt: HostRuntime) -> Result<(), Fail> {
     let tree = read(&rt, b"ab: 'x' 'y' c: [ -1, {} ]")?;
     let entries = tree.entries();
     assert_eq!(rt; entries.len(), 3);
@@ -196,15 +113,15 @@ fn spans(rt: HostRuntime) -> Result<(), Fail> {
 }
 
 #[test]
-fn makes_a_tree(rt: HostRuntime) -> Result<(), Fail> {
+fn prints_a_tree_that_was_made(rt: HostRuntime) -> Result<(), Fail> {
     let mut entries = Vec::new(rt.alloc());
     let value = Value::Message(Tree::new(rt.alloc()));
     let span = Span { start: 0, end: 0 };
-    let name = cy_msg::Text::new(rt.alloc(), "a")?;
+    let name = Text::new(rt.alloc(), "a")?;
     entries.push(Entry { name, span, value })?;
     let mut tree = Tree::from_entries(entries);
-    let name = cy_msg::Text::new(rt.alloc(), "b")?;
-    let text = cy_msg::Text::new(rt.alloc(), "x")?;
+    let name = Text::new(rt.alloc(), "b")?;
+    let text = Text::new(rt.alloc(), "x")?;
     let value = Value::Word {
         negative: true,
         text,

@@ -25,12 +25,12 @@ module _ (Inside : Fields → List Lexeme → Type 0) where
 
   -- items of a list end them
   pub record InList (colon : Bool) (name : List ℕ) (fields : Fields) (ts : List Lexeme) : Type 0 where
-    pub front : List Lexeme
+    pub prefix : List Lexeme
     pub items : List Lexeme
     pub before : Fields
-    pub tokens : ts ≡ front ++ items
+    pub tokens : ts ≡ prefix ++ items
     pub are : IsItems colon name items before fields
-    pub close : (others : List Lexeme) (after : Fields) (c : Span) → IsItems colon name others before after → Ended after (front ++ (others ++ on c token.ListClose ∷ []))
+    pub close : (others : List Lexeme) (after : Fields) (c : Span) → IsItems colon name others before after → Ended after (prefix ++ (others ++ on c token.ListClose ∷ []))
 
   -- the bracket of a list ends them
   pub record ListStart (colon : Bool) (name : List ℕ) (fields : Fields) (ts : List Lexeme) : Type 0 where
@@ -57,22 +57,22 @@ module _ (Inside : Fields → List Lexeme → Type 0) where
 
   -- strings end them
   pub record InStrings (slot : Slot) (fields : Fields) (bytes : List ℕ) (end : ℕ) (ts : List Lexeme) : Type 0 where
-    pub front : List Lexeme
+    pub prefix : List Lexeme
     pub quotes : List Lexeme
-    pub tokens : ts ≡ front ++ quotes
+    pub tokens : ts ≡ prefix ++ quotes
     pub are : IsStrings quotes bytes
     pub ends : end ≡ end_of 0 quotes
     pub value : (others : List Lexeme) (all : List ℕ) → IsStrings (quotes ++ others) all
-        → Behind slot (And fields slot.name (record { start = slot.start; end = end_of 0 (quotes ++ others) }) (Quote all)) (front ++ (quotes ++ others))
+        → Behind slot (And fields slot.name (record { start = slot.start; end = end_of 0 (quotes ++ others) }) (Quote all)) (prefix ++ (quotes ++ others))
 
   -- fields of a message in a frame end them
   pub record Within (frame : Frame) (fields : Fields) (ts : List Lexeme) : Type 0 where
-    pub front : List Lexeme
+    pub prefix : List Lexeme
     pub inner : List Lexeme
-    pub tokens : ts ≡ front ++ inner
+    pub tokens : ts ≡ prefix ++ inner
     pub are : IsFields inner fields
     pub close : (others : List Lexeme) (after : Fields) (c : Span) → IsFields others after
-        → Behind frame.slot (And frame.fields frame.slot.name (record { start = frame.slot.start; end = c.end }) (Message after)) (front ++ (others ++ on c (token.Close frame.bracket) ∷ []))
+        → Behind frame.slot (And frame.fields frame.slot.name (record { start = frame.slot.start; end = c.end }) (Message after)) (prefix ++ (others ++ on c (token.Close frame.bracket) ∷ []))
 
 -- Fields of the innermost message end the tokens.
 abbrev pub Inside : List Frame → Fields → List Lexeme → Type 0
@@ -85,41 +85,41 @@ item_place true = place.Item
 item_place false = place.MessageItem
 
 -- The tokens stand before what is expected.
-abbrev pub FrontOf : Building → Expected → List Lexeme → Type 0
-FrontOf b (expect.Field false) ts = Inside b.frames b.fields ts
-FrontOf b (expect.Field true) ts = Ended (Inside b.frames) b.fields ts
-FrontOf b (expect.AfterName slot) ts =
+abbrev pub PrefixOf : Building → Expected → List Lexeme → Type 0
+PrefixOf b (expect.Field false) ts = Inside b.frames b.fields ts
+PrefixOf b (expect.Field true) ts = Ended (Inside b.frames) b.fields ts
+PrefixOf b (expect.AfterName slot) ts =
     (slot.place ≡ place.Field) × Named (Inside b.frames) false slot b.fields ts × ((c : Span) → Named (Inside b.frames) true slot b.fields (ts ++ on c token.Colon ∷ []))
-FrontOf b (expect.AfterColon slot) ts = (slot.place ≡ place.Field) × Named (Inside b.frames) true slot b.fields ts
-FrontOf b (expect.FirstItem slot) ts = (colon : Bool) × (slot.place ≡ item_place colon) × ListStart (Inside b.frames) colon slot.name b.fields ts
-FrontOf b (expect.Item slot) ts = (colon : Bool) × (slot.place ≡ item_place colon) × Awaits (Inside b.frames) colon slot b.fields ts
-FrontOf b (expect.AfterItem slot) ts = (colon : Bool) × (slot.place ≡ item_place colon) × InList (Inside b.frames) colon slot.name b.fields ts
-FrontOf b (expect.Signed slot) ts = (kind : Token) (held : Held) (s : Span) → IsPlain kind true held
+PrefixOf b (expect.AfterColon slot) ts = (slot.place ≡ place.Field) × Named (Inside b.frames) true slot b.fields ts
+PrefixOf b (expect.FirstItem slot) ts = (colon : Bool) × (slot.place ≡ item_place colon) × ListStart (Inside b.frames) colon slot.name b.fields ts
+PrefixOf b (expect.Item slot) ts = (colon : Bool) × (slot.place ≡ item_place colon) × Awaits (Inside b.frames) colon slot b.fields ts
+PrefixOf b (expect.AfterItem slot) ts = (colon : Bool) × (slot.place ≡ item_place colon) × InList (Inside b.frames) colon slot.name b.fields ts
+PrefixOf b (expect.Signed slot) ts = (kind : Token) (held : Held) (s : Span) → IsPlain kind true held
     → Behind (Inside b.frames) slot (And b.fields slot.name (record { start = slot.start; end = s.end }) held) (ts ++ on s kind ∷ [])
-FrontOf b (expect.Strings slot bytes end) ts = InStrings (Inside b.frames) slot b.fields bytes end ts
+PrefixOf b (expect.Strings slot bytes end) ts = InStrings (Inside b.frames) slot b.fields bytes end ts
 
-abbrev pub Front : Reading → List Lexeme → Type 0
-Front r ts = FrontOf r.building r.next ts
+abbrev pub Prefix : Reading → List Lexeme → Type 0
+Prefix r ts = PrefixOf r.building r.next ts
 
 -- a value is placed
 module _ (b : Building) (end : ℕ) (held : Held) (ts : List Lexeme) where
   behind_at : (name : List ℕ) (start : ℕ) (p : Place) → Behind (Inside b.frames) (record { name = name; start = start; place = p }) (And b.fields name (record { start = start; end = end }) held) ts
-      → Front (placed b (record { name = name; start = start; place = p }) end held) ts
+      → Prefix (placed b (record { name = name; start = start; place = p }) end held) ts
   unfolding placed
   behind_at name start place.Field h = h
   behind_at name start place.Item h = (true, refl, h)
   behind_at name start place.MessageItem h = (false, refl, h)
 
-  pub behind_front : (slot : Slot) → Behind (Inside b.frames) slot (And b.fields slot.name (record { start = slot.start; end = end }) held) ts → Front (placed b slot end held) ts
-  behind_front slot h = behind_at slot.name slot.start slot.place h
+  pub behind_prefix : (slot : Slot) → Behind (Inside b.frames) slot (And b.fields slot.name (record { start = slot.start; end = end }) held) ts → Prefix (placed b slot end held) ts
+  behind_prefix slot h = behind_at slot.name slot.start slot.place h
 
 -- one more field
 pub add_field : (frames : List Frame) (before after : Fields) (ts us : List Lexeme) → Inside frames before ts → IsField us before after → Ended (Inside frames) after (ts ++ us)
 add_field [] before after ts us f g = record { now = field f g; separate = λ mark s m. rw append_assoc (separated f g m s) }
 add_field (frame ∷ frames) before after ts us w g = record {
-  now = record { front = w.front; inner = w.inner ++ us; tokens = ap (λ xs. xs ++ us) w.tokens ∙ append_assoc w.front w.inner us; are = field w.are g; close = w.close };
+  now = record { prefix = w.prefix; inner = w.inner ++ us; tokens = ap (λ xs. xs ++ us) w.tokens ∙ append_assoc w.prefix w.inner us; are = field w.are g; close = w.close };
   separate = λ mark s m. record {
-    front = w.front;
+    prefix = w.prefix;
     inner = w.inner ++ (us ++ on s mark ∷ []);
     tokens = ap (λ xs. (xs ++ us) ++ on s mark ∷ []) w.tokens ∙ simp append_assoc;
     are = separated w.are g m s;
