@@ -1,10 +1,21 @@
-//! Fusion of messages to tuples, and the rule by which a component fetches them.
+//! Fusion of messages to tuples, the buffers that keep the last of them, and the rule by which a
+//! component fetches one.
 //!
-//! `specs/Fusion` has the tuples that arrivals make, `specs/Fetch` the fetch rule.
+//! `specs/Fusion` has the tuples that arrivals make, `specs/Fetch` the fetch rule, `specs/Cache`
+//! what a buffer keeps of all that was filled, `specs/Visitor` what a visitor answers over its
+//! arrivals, `specs/Laws` how one more arrival changes a fusion.
 #![tactic(auto)]
 
+mod cache;
+mod cursor;
+mod error;
 mod fetch;
-#[cfg(test)]
-mod tests;
+mod laws;
+mod visitor;
 
+pub use cache::CacheBuffer;
+pub use cursor::Cursor;
+pub use error::FuseError;
 pub use fetch::fetch_at;
+pub use laws::{caches_keep_the_last, fusions_grow};
+pub use visitor::Visitor;

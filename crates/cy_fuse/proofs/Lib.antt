@@ -1,0 +1,3 @@
+pub mod Fetched
+pub mod Fusing
+pub mod Arrivals
