@@ -1,1 +1,6 @@
 pub mod Lengths
+pub mod Texts
+pub mod Numbers
+pub mod Bodies
+pub mod Indexes
+pub mod WrittenRead

@@ -1,3 +1,8 @@
 pub mod Section
 pub mod Chunks
 pub mod RecordText
+pub mod Head
+pub mod Reading
+pub mod Messages
+pub mod Channels
+pub mod ReadBack

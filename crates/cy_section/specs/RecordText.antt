@@ -1,5 +1,6 @@
 -- The bytes of a whole record, for any channels and any messages.
-use Rattle.std.specs.Prelude.{ℕ, ◌+◌, ◌≡◌, if◌then◌else◌, true, false, List, [], ◌∷◌, ◌++◌, length, map, sum, filter, Some, None, min, max}
+use Rattle.std.specs.Prelude.{ℕ, ◌+◌, ◌≡◌, if◌then◌else◌, true, false, List, [], ◌∷◌, ◌++◌, length}
+use Rattle.std.specs.Prelude.{map, sum, filter, Some, None, min, max}
 use Rattle.std.specs.List.{flat_map, list_any}
 use Rattle.std.specs.Str.{bytes_eq}
 use Rattle.cy_section.specs.declared.types.SectionKind.TheVariants as kind
@@ -8,7 +9,8 @@ use Rattle.cy_section.specs.declared.types.ChunkHeader.{ChunkHeader}
 use Rattle.cy_section.specs.declared.types.BodyMessage.{BodyMessage}
 use Rattle.cy_section.specs.declared.types.Channel.{Channel}
 use Rattle.cy_section.specs.declared.types.IndexEntry.{IndexEntry}
-use Rattle.cy_section.specs.Section.{section, header_section, channel_body, chunk_header_body, chunk_body, index_body, kind_number}
+use Rattle.cy_section.specs.Section.{section, header_section, channel_body, chunk_header_body}
+use Rattle.cy_section.specs.Section.{chunk_body, index_body, kind_number}
 use Rattle.cy_section.specs.Chunks.{AreChunksOf, messages_in, chunk_raw_size, chunk_interval}
 
 -- The least and the greatest time of some messages, 0 where there is none.
@@ -30,7 +32,12 @@ abbrev pub count_on : List ℕ → List BodyMessage → ℕ
 count_on name messages = length (filter (λ m. bytes_eq m.channel_name name) messages)
 
 abbrev pub chunk_header_of : List BodyMessage → ChunkHeader
-chunk_header_of chunk = record { begin_time = least_time chunk; end_time = greatest_time chunk; message_number = length chunk; raw_size = raw_size chunk }
+chunk_header_of chunk = record {
+  begin_time = least_time chunk;
+  end_time = greatest_time chunk;
+  message_number = length chunk;
+  raw_size = raw_size chunk;
+}
 
 -- A section that the index names: its bytes, and its entry where its head stands at a place.
 pub record Part : Type 0 where
@@ -44,7 +51,12 @@ channel_part messages c = record {
   entry = λ position. record {
     kind = kind_number kind.Channel;
     position = position;
-    channel_cache = Some record { message_number = count_on c.name messages; name = c.name; message_type = c.message_type; proto_desc = c.proto_desc };
+    channel_cache = Some record {
+      message_number = count_on c.name messages;
+      name = c.name;
+      message_type = c.message_type;
+      proto_desc = c.proto_desc;
+    };
     chunk_header_cache = None;
     chunk_body_cache = None;
   };
@@ -58,7 +70,12 @@ chunk_header_part chunk = record {
     kind = kind_number kind.ChunkHeader;
     position = position;
     channel_cache = None;
-    chunk_header_cache = Some record { message_number = length chunk; begin_time = least_time chunk; end_time = greatest_time chunk; raw_size = raw_size chunk };
+    chunk_header_cache = Some record {
+      message_number = length chunk;
+      begin_time = least_time chunk;
+      end_time = greatest_time chunk;
+      raw_size = raw_size chunk;
+    };
     chunk_body_cache = None;
   };
 }
@@ -78,7 +95,8 @@ chunk_body_part chunk = record {
 -- The sections between the header and the index: the channels, then each chunk's header and body.
 abbrev pub parts_of : List Channel → List (List BodyMessage) → List Part
 parts_of channels chunks =
-    map (channel_part (messages_in chunks)) channels ++ flat_map (λ chunk. chunk_header_part chunk ∷ chunk_body_part chunk ∷ []) chunks
+    map (channel_part (messages_in chunks)) channels ++ flat_map (λ chunk. chunk_header_part chunk
+    ∷ chunk_body_part chunk ∷ []) chunks
 
 abbrev pub bytes_of : List Part → List ℕ
 bytes_of parts = flat_map (λ p. p.bytes) parts
@@ -131,19 +149,25 @@ complete_header channels chunks =
       is_complete = true;
     }
 
--- The bytes of a record with these channel sections and these chunks: header, channels, chunks and index.
+-- The bytes of a record with these channel sections and these chunks: header, channels, chunks and
+-- index.
 unfoldable pub record_bytes : List Channel → List (List BodyMessage) → List ℕ
 record_bytes channels chunks =
-    header_section (complete_header channels chunks) ++ bytes_of (parts_of channels chunks) ++ index_section (parts_of channels chunks)
+    header_section (complete_header channels chunks) ++ bytes_of (parts_of channels chunks)
+    ++ index_section (parts_of channels chunks)
 
 -- Each name once, in the order of its first mention.
 abbrev pub names_after : List (List ℕ) → List BodyMessage → List (List ℕ)
 names_after known [] = known
-names_after known (m ∷ rest) = names_after (if list_any (λ n. bytes_eq n m.channel_name) known then known else known ++ m.channel_name ∷ []) rest
+names_after known (m ∷ rest) = names_after
+    (if list_any (λ n. bytes_eq n m.channel_name) known then known else known ++ m.channel_name
+    ∷ []) rest
 
--- The record text of a list of messages whose channels have these types and descriptions: one channel section for each channel
--- in the list, in order of first message, and the chunks of the list.
-pub record IsRecordText (channels : List Channel) (messages : List BodyMessage) (bytes : List ℕ) : Type 0 where
+-- The record text of a list of messages whose channels have these types and descriptions: one
+-- channel section for each channel in the list, in order of first message, and the chunks of the
+-- list.
+pub record IsRecordText (channels : List Channel) (messages : List BodyMessage)
+    (bytes : List ℕ) : Type 0 where
   pub named : map (λ c. c.name) channels ≡ names_after [] messages
   pub chunks : List (List BodyMessage)
   pub cut : AreChunksOf messages chunks

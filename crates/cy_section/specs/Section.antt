@@ -1,5 +1,7 @@
--- The bytes of each section of a record: a head of 16 bytes and a body in the wire form, every field written in number order.
-use Rattle.std.specs.Prelude.{ℕ, ◌-◌, Bool, if◌then◌else◌, List, [], ◌++◌, length, replicate, Option, Some, None}
+-- The bytes of each section of a record: a head of 16 bytes and a body in the wire form, every
+-- field written in number order.
+use Rattle.std.specs.Prelude.{ℕ, ◌-◌, Bool, if◌then◌else◌, List, [], ◌++◌, length, replicate}
+use Rattle.std.specs.Prelude.{Option, Some, None}
 use Rattle.std.specs.List.{flat_map}
 use Rattle.byteorder.specs.Endian.{little_bytes}
 use Rattle.cy_wire.specs.Wire.{field_u64, field_bytes}
@@ -22,7 +24,8 @@ kind_number kind.ChunkBody = 2
 kind_number kind.Index = 3
 kind_number kind.Channel = 4
 
--- The head: the type in four bytes, four bytes of padding, and the body's length in eight, little-endian.
+-- The head: the type in four bytes, four bytes of padding, and the body's length in eight,
+-- little-endian.
 abbrev pub head_bytes : SectionKind → ℕ → List ℕ
 head_bytes k size = little_bytes 4 (kind_number k) ++ little_bytes 4 0 ++ little_bytes 8 size
 
@@ -36,22 +39,28 @@ truth_number b = if b then 1 else 0
 
 unfoldable pub header_body : Header → List ℕ
 header_body h =
-    field_u64 1 h.major_version ++ field_u64 2 h.minor_version ++ field_u64 3 h.compress ++ field_u64 4 h.chunk_interval
+    field_u64 1 h.major_version ++ field_u64 2 h.minor_version ++ field_u64 3 h.compress
+    ++ field_u64 4 h.chunk_interval
     ++ field_u64 5 h.segment_interval ++ field_u64 6 h.index_position ++ field_u64 7 h.chunk_number
-    ++ field_u64 8 h.channel_number ++ field_u64 9 h.begin_time ++ field_u64 10 h.end_time ++ field_u64 11 h.message_number
-    ++ field_u64 12 h.size ++ field_u64 13 (truth_number h.is_complete) ++ field_u64 14 h.chunk_raw_size
+    ++ field_u64 8 h.channel_number ++ field_u64 9 h.begin_time ++ field_u64 10 h.end_time
+    ++ field_u64 11 h.message_number
+    ++ field_u64 12 h.size ++ field_u64 13 (truth_number h.is_complete)
+    ++ field_u64 14 h.chunk_raw_size
     ++ field_u64 15 h.segment_raw_size
 
 -- The header section, with the zeros that follow it up to byte 2064.
 unfoldable pub header_section : Header → List ℕ
-header_section h = section kind.Header (header_body h) ++ replicate (2048 - length (header_body h)) 0
+header_section h = section kind.Header (header_body h)
+    ++ replicate (2048 - length (header_body h)) 0
 
 unfoldable pub chunk_header_body : ChunkHeader → List ℕ
-chunk_header_body c = field_u64 1 c.begin_time ++ field_u64 2 c.end_time ++ field_u64 3 c.message_number ++ field_u64 4 c.raw_size
+chunk_header_body c = field_u64 1 c.begin_time ++ field_u64 2 c.end_time
+    ++ field_u64 3 c.message_number ++ field_u64 4 c.raw_size
 
 -- A message as one field of a chunk's body.
 unfoldable pub message_field : BodyMessage → List ℕ
-message_field m = field_bytes 1 (field_bytes 1 m.channel_name ++ field_u64 2 m.time ++ field_bytes 3 m.content)
+message_field m = field_bytes 1 (field_bytes 1 m.channel_name ++ field_u64 2 m.time
+    ++ field_bytes 3 m.content)
 
 abbrev pub chunk_body : List BodyMessage → List ℕ
 chunk_body messages = flat_map message_field messages
@@ -60,10 +69,12 @@ unfoldable pub channel_body : Channel → List ℕ
 channel_body c = field_bytes 1 c.name ++ field_bytes 2 c.message_type ++ field_bytes 3 c.proto_desc
 
 unfoldable pub channel_cache_body : ChannelCache → List ℕ
-channel_cache_body c = field_u64 1 c.message_number ++ field_bytes 2 c.name ++ field_bytes 3 c.message_type ++ field_bytes 4 c.proto_desc
+channel_cache_body c = field_u64 1 c.message_number ++ field_bytes 2 c.name
+    ++ field_bytes 3 c.message_type ++ field_bytes 4 c.proto_desc
 
 unfoldable pub chunk_header_cache_body : ChunkHeaderCache → List ℕ
-chunk_header_cache_body c = field_u64 1 c.message_number ++ field_u64 2 c.begin_time ++ field_u64 3 c.end_time ++ field_u64 4 c.raw_size
+chunk_header_cache_body c = field_u64 1 c.message_number ++ field_u64 2 c.begin_time
+    ++ field_u64 3 c.end_time ++ field_u64 4 c.raw_size
 
 unfoldable pub chunk_body_cache_body : ChunkBodyCache → List ℕ
 chunk_body_cache_body c = field_u64 1 c.message_number
@@ -75,8 +86,10 @@ optional_field number body (Some x) = field_bytes number (body x)
 
 -- An entry of the index as one field of its body.
 unfoldable pub entry_field : IndexEntry → List ℕ
-entry_field e = field_bytes 1 (field_u64 1 e.kind ++ field_u64 2 e.position ++ optional_field 101 channel_cache_body e.channel_cache
-    ++ optional_field 102 chunk_header_cache_body e.chunk_header_cache ++ optional_field 103 chunk_body_cache_body e.chunk_body_cache)
+entry_field e = field_bytes 1 (field_u64 1 e.kind ++ field_u64 2 e.position
+    ++ optional_field 101 channel_cache_body e.channel_cache
+    ++ optional_field 102 chunk_header_cache_body e.chunk_header_cache
+    ++ optional_field 103 chunk_body_cache_body e.chunk_body_cache)
 
 abbrev pub index_body : List IndexEntry → List ℕ
 index_body entries = flat_map entry_field entries

@@ -1,7 +1,9 @@
 // What reading and writing a section may answer.
 ghost use Rattle.std.specs.Prelude.{◌≡◌};
 ghost use Rattle.cy_section.specs.declared.error.SectionError.TheVariants as section_error;
+ghost use Rattle.cy_section.specs.Reading.{fault_of};
 
+use cy_wire::WireError;
 use std::alloc::{AllocError, AllocFailed};
 use thiserror::Error;
 
@@ -68,5 +70,19 @@ impl<T: Drop> From<AllocFailed<T>> for SectionError {
 
     fn from(_: AllocFailed<T>) -> Self {
         SectionError::Memory
+    }
+}
+
+impl From<WireError> for SectionError {
+    ghost from_gives = { λ fault e. e ≡ fault_of fault };
+
+    fn from(fault: WireError) -> Self {
+        match fault {
+            WireError::Cut { at }
+            | WireError::LongVarint { at }
+            | WireError::BadTag { at }
+            | WireError::Group { at } => SectionError::Wire { at },
+            WireError::Memory => SectionError::Memory,
+        }
     }
 }

@@ -1,8 +1,10 @@
-// Writes a section's head, and a section whose body stands as bytes.
-ghost use Rattle.std.specs.Prelude.{◌≡◌, ◌+◌, ◌≤◌, ◌++◌, length, take, drop, OnOk, OnErr, IsOkUnless};
+// Reads and writes a section's head, and writes a section whose body stands as bytes.
+ghost use Rattle.std.specs.Prelude.{◌≡◌, ◌+◌, ◌≤◌, ◌++◌, length, take, drop, OnOk, OnErr};
+ghost use Rattle.std.specs.Prelude.{IsOkUnless};
+ghost use Rattle.cy_section.specs.Head.{kind_of, head_at};
 ghost use Rattle.cy_section.specs.Section.{kind_number, head_bytes, section};
 
-use crate::{Piece, SectionError, SectionKind};
+use crate::{Head, Piece, SectionError, SectionKind};
 use byteorder::{ByteOrder, LittleEndian};
 use cy_wire::WireError;
 
@@ -22,6 +24,39 @@ fn number_of(kind: SectionKind) -> u32
     }
 }
 
+/// The section of a type's number, which is at most 4.
+fn kind_from(number: u32) -> SectionKind
+    ensures { result ≡ kind_of number }
+{
+    match number {
+        0 => SectionKind::Header,
+        1 => SectionKind::ChunkHeader,
+        2 => SectionKind::ChunkBody,
+        3 => SectionKind::Index,
+        _ => SectionKind::Channel,
+    }
+}
+
+/// The head in the first 16 of these bytes, which stand at a place of the file. A type above 4 is
+/// refused as `Kind`, then a negative size as `Size`. It takes no memory.
+#[tactic(auto, unfolding(crate::specs::Head::head_at))]
+pub fn read_head(bytes: &[u8], at: u64) -> Result<Head, SectionError>
+    requires { 16 ≤ length bytes.now }
+    ensures { result ≡ head_at at bytes.now }
+{
+    let number = LittleEndian::read_u32(bytes);
+    if number > 4 {
+        return Err(SectionError::Kind { at, value: number });
+    }
+    let size = LittleEndian::read_u64(&bytes[8..]);
+    if size >= 1 << 63 {
+        let value = size.cast_signed();
+        return Err(SectionError::Size { at, value });
+    }
+    let kind = kind_from(number);
+    Ok(Head { kind, size })
+}
+
 /// The head of a section of this kind, whose body has so many bytes.
 pub(crate) fn head_of(kind: SectionKind, size: u64) -> [u8; 16]
     ensures { result ≡ head_bytes kind size }
@@ -39,7 +74,8 @@ pub(crate) fn no_memory(_: WireError) -> SectionError
     SectionError::Memory
 }
 
-/// Appends the head of a section of this kind, whose body has so many bytes. Want of memory changes nothing.
+/// Appends the head of a section of this kind, whose body has so many bytes. Want of memory changes
+/// nothing.
 pub fn put_head(to: &mut Piece, kind: SectionKind, size: u64) -> Result<(), SectionError>
     ensures ok { OnOk result (to.new ≡ to.old ++ head_bytes kind size) }
     ensures err { OnErr result (to.new ≡ to.old) }
@@ -48,7 +84,8 @@ pub fn put_head(to: &mut Piece, kind: SectionKind, size: u64) -> Result<(), Sect
     to.append(&head_of(kind, size), &[])
 }
 
-/// Writes the head of a section of this kind over 16 bytes from a place on, in place: what stands behind them is its body.
+/// Writes the head of a section of this kind over 16 bytes from a place on, in place: what stands
+/// behind them is its body.
 pub(crate) fn set_head_at(piece: &mut Piece, start: usize, kind: SectionKind)
     requires { start + 16 ≤ length piece.old }
     ensures { piece.new ≡ take start piece.old ++ section kind (drop (start + 16) piece.old) }
@@ -57,8 +94,8 @@ pub(crate) fn set_head_at(piece: &mut Piece, start: usize, kind: SectionKind)
     piece.overwrite(start, &head_of(kind, size as u64));
 }
 
-/// Writes the head of a section of this kind over the first 16 bytes, in place: what stands behind them is the section's body.
-/// It takes no memory.
+/// Writes the head of a section of this kind over the first 16 bytes, in place: what stands behind
+/// them is the section's body. It takes no memory.
 pub fn set_head(piece: &mut Piece, kind: SectionKind)
     requires { 16 ≤ length piece.old }
     ensures { piece.new ≡ section kind (drop 16 piece.old) }

@@ -1,7 +1,9 @@
 // Writes the index.
 ghost use Rattle.std.specs.Prelude.{◌≡◌, ◌++◌, IfOk, OnOk, IsOkUnless, OnErr};
 ghost use Rattle.cy_wire.specs.Wire.{field_bytes};
-ghost use Rattle.cy_section.specs.Section.{section, optional_field, channel_cache_body, chunk_header_cache_body, chunk_body_cache_body, entry_field, index_body};
+ghost use Rattle.cy_section.specs.Section.{section, optional_field, channel_cache_body};
+ghost use Rattle.cy_section.specs.Section.{chunk_header_cache_body, chunk_body_cache_body};
+ghost use Rattle.cy_section.specs.Section.{entry_field, index_body};
 ghost use Rattle.cy_section.specs.declared.types.SectionKind.TheVariants as kind;
 
 use crate::head::{no_memory, put_section};
@@ -41,7 +43,8 @@ fn chunk_header_cache(
     to: &mut Writer,
     value: &Option<ChunkHeaderCache>,
 ) -> Result<(), WireError>
-    ensures ok { OnOk result (to.new ≡ to.old ++ optional_field 102 chunk_header_cache_body value.now) }
+    ensures ok { OnOk result (to.new ≡ to.old
+        ++ optional_field 102 chunk_header_cache_body value.now) }
     ensures only_memory { IsOkUnless result WireError.Memory }
 {
     let Some(cache) = value else {
@@ -62,7 +65,8 @@ fn chunk_body_cache(
     to: &mut Writer,
     value: &Option<ChunkBodyCache>,
 ) -> Result<(), WireError>
-    ensures ok { OnOk result (to.new ≡ to.old ++ optional_field 103 chunk_body_cache_body value.now) }
+    ensures ok { OnOk result (to.new ≡ to.old
+        ++ optional_field 103 chunk_body_cache_body value.now) }
     ensures only_memory { IsOkUnless result WireError.Memory }
 {
     let Some(cache) = value else {
@@ -103,7 +107,8 @@ fn index_fields(alloc: Global, entries: &[IndexEntry]) -> Result<Writer, WireErr
 
 /// Appends the index. Want of memory changes nothing.
 pub fn put_index(to: &mut Piece, value: &Index) -> Result<(), SectionError>
-    ensures ok { OnOk result (to.new ≡ to.old ++ section kind.Index (index_body value.now.entries)) }
+    ensures ok { OnOk result (to.new ≡ to.old ++ section kind.Index
+        (index_body value.now.entries)) }
     ensures err { OnErr result (to.new ≡ to.old) }
     ensures only_memory { IsOkUnless result SectionError.Memory }
 {

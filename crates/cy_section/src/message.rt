@@ -1,5 +1,6 @@
 // Writes messages, and the section of a chunk's messages.
-ghost use Rattle.std.specs.Prelude.{◌≡◌, ◌+◌, ◌≤◌, ◌++◌, length, take, vec_len, vec_capacity, OnOk, OnErr, IsOkUnless};
+ghost use Rattle.std.specs.Prelude.{◌≡◌, ◌+◌, ◌≤◌, ◌++◌, length, take, vec_len, vec_capacity, OnOk};
+ghost use Rattle.std.specs.Prelude.{OnErr, IsOkUnless};
 ghost use Rattle.cy_wire.specs.Wire.{varint_bytes, field_u64, field_bytes};
 ghost use Rattle.cy_section.specs.Section.{section, message_field, chunk_body};
 ghost use Rattle.cy_section.specs.declared.types.SectionKind.TheVariants as kind;
@@ -9,7 +10,8 @@ use crate::{BodyMessage, ChunkBody, Piece, SectionError, SectionKind};
 use bytes::BufMut;
 use cy_wire::push_varint;
 
-/// The tag of a message in a chunk's body, and those of a message's fields: the wire type in the low three bits.
+/// The tag of a message in a chunk's body, and those of a message's fields: the wire type in the
+/// low three bits.
 const MESSAGE_TAG: u64 = 8 + 2;
 
 const NAME_TAG: u64 = 8 + 2;
@@ -39,7 +41,8 @@ fn varint_len(value: u64) -> u64
 #[tactic(auto, using(crate::proofs::Lengths::message_fields))]
 fn fields_size(name: &str, time: u64, content: &[u8]) -> u64
     requires { length name.now + length content.now ≤ 9223372036854775808 }
-    ensures { result ≡ length (field_bytes 1 name.now ++ field_u64 2 time ++ field_bytes 3 content.now) }
+    ensures { result ≡ length (field_bytes 1 name.now ++ field_u64 2 time
+        ++ field_bytes 3 content.now) }
 {
     let name_len = name.len() as u64;
     let content_len = content.len() as u64;
@@ -53,7 +56,11 @@ fn fields_size(name: &str, time: u64, content: &[u8]) -> u64
 #[tactic(auto, using(crate::proofs::Lengths::message_sizes))]
 pub fn message_size(name: &str, time: u64, content: &[u8]) -> u64
     requires { length name.now + length content.now ≤ 4611686018427387904 }
-    ensures { result ≡ length (message_field record { channel_name = name.now; time = time; content = content.now }) }
+    ensures { result ≡ length (message_field record {
+      channel_name = name.now;
+      time = time;
+      content = content.now;
+    }) }
 {
     let size = fields_size(name, time, content);
     1 + varint_len(size) + size
@@ -72,7 +79,8 @@ fn push_bytes(out: &mut Vec<u8>, bytes: &[u8])
 /// Appends a field that holds bytes, for which there is room.
 fn push_field(out: &mut Vec<u8>, tag: u64, bytes: &[u8])
     requires { vec_len out.old + length bytes.now + 20 ≤ vec_capacity out.old }
-    ensures items { out.new.items ≡ out.old.items ++ (varint_bytes tag ++ varint_bytes (length bytes.now) ++ bytes.now) }
+    ensures items { out.new.items ≡ out.old.items
+        ++ (varint_bytes tag ++ varint_bytes (length bytes.now) ++ bytes.now) }
     ensures len { vec_len out.new ≤ vec_len out.old + length bytes.now + 20 }
     ensures capacity { vec_capacity out.old ≤ vec_capacity out.new }
 {
@@ -84,7 +92,8 @@ fn push_field(out: &mut Vec<u8>, tag: u64, bytes: &[u8])
 /// Appends the fields of a message, for which there is room.
 fn push_fields(out: &mut Vec<u8>, name: &str, time: u64, content: &[u8])
     requires { vec_len out.old + length name.now + length content.now + 60 ≤ vec_capacity out.old }
-    ensures items { out.new.items ≡ out.old.items ++ (field_bytes 1 name.now ++ field_u64 2 time ++ field_bytes 3 content.now) }
+    ensures items { out.new.items ≡ out.old.items ++ (field_bytes 1 name.now ++ field_u64 2 time
+        ++ field_bytes 3 content.now) }
 {
     push_field(out, NAME_TAG, name.as_bytes());
     push_varint(out, TIME_TAG);
@@ -95,7 +104,8 @@ fn push_fields(out: &mut Vec<u8>, name: &str, time: u64, content: &[u8])
 /// Makes room for a message. The bytes stay, whatever the answer.
 fn reserve_message(out: &mut Vec<u8>, name: &str, content: &[u8]) -> Result<(), SectionError>
     ensures same { out.new.items ≡ out.old.items }
-    ensures room { OnOk result (vec_len out.new + length name.now + length content.now + 80 ≤ vec_capacity out.new) }
+    ensures room { OnOk result (vec_len out.new + length name.now + length content.now + 80
+        ≤ vec_capacity out.new) }
     ensures only_memory { IsOkUnless result SectionError.Memory }
 {
     let bytes = name.len() + content.len();
@@ -111,7 +121,12 @@ fn push_message(
     time: u64,
     content: &[u8],
 ) -> Result<(), SectionError>
-    ensures ok { OnOk result (out.new.items ≡ out.old.items ++ message_field record { channel_name = name.now; time = time; content = content.now }) }
+    ensures ok { OnOk result (out.new.items ≡ out.old.items ++ message_field record {
+      channel_name =
+          name.now;
+      time = time;
+      content = content.now;
+    }) }
     ensures err { OnErr result (out.new.items ≡ out.old.items) }
     ensures only_memory { IsOkUnless result SectionError.Memory }
 {
@@ -122,14 +137,19 @@ fn push_message(
     Ok(())
 }
 
-/// Appends a message as a chunk's body has it; its content is copied once. Want of memory changes nothing.
+/// Appends a message as a chunk's body has it; its content is copied once. Want of memory changes
+/// nothing.
 pub fn put_message(
     to: &mut Piece,
     name: &str,
     time: u64,
     content: &[u8],
 ) -> Result<(), SectionError>
-    ensures ok { OnOk result (to.new ≡ to.old ++ message_field record { channel_name = name.now; time = time; content = content.now }) }
+    ensures ok { OnOk result (to.new ≡ to.old ++ message_field record {
+      channel_name = name.now;
+      time = time;
+      content = content.now;
+    }) }
     ensures err { OnErr result (to.new ≡ to.old) }
     ensures only_memory { IsOkUnless result SectionError.Memory }
 {
@@ -151,7 +171,8 @@ fn put_messages(to: &mut Piece, messages: &[BodyMessage]) -> Result<(), SectionE
 
 /// Appends the messages of a chunk; their contents are copied once. Want of memory changes nothing.
 pub fn put_chunk_body(to: &mut Piece, value: &ChunkBody) -> Result<(), SectionError>
-    ensures ok { OnOk result (to.new ≡ to.old ++ section kind.ChunkBody (chunk_body value.now.messages)) }
+    ensures ok { OnOk result (to.new ≡ to.old ++ section kind.ChunkBody
+        (chunk_body value.now.messages)) }
     ensures err { OnErr result (to.new ≡ to.old) }
     ensures only_memory { IsOkUnless result SectionError.Memory }
 {

@@ -1,5 +1,6 @@
 // Bytes of sections, gathered in memory.
-ghost use Rattle.std.specs.Prelude.{◌≡◌, ◌+◌, ◌≤◌, ◌++◌, [], List, ℕ, length, take, drop, OnOk, OnErr, IsOkUnless};
+ghost use Rattle.std.specs.Prelude.{◌≡◌, ◌+◌, ◌≤◌, ◌++◌, [], List, ℕ, length, take, drop, OnOk};
+ghost use Rattle.std.specs.Prelude.{OnErr, IsOkUnless};
 
 use crate::SectionError;
 use bytes::BufMut;
@@ -21,7 +22,8 @@ impl Model for Piece {
 /// Writes over the bytes from a place on.
 fn write_over(bytes: &mut [u8], start: usize, front: &[u8])
     requires { start + length front.now ≤ length bytes.old }
-    ensures after { bytes.new ≡ take start bytes.old ++ (front.now ++ drop (start + length front.now) bytes.old) }
+    ensures after { bytes.new ≡ take start bytes.old
+        ++ (front.now ++ drop (start + length front.now) bytes.old) }
     ensures len { length bytes.new ≡ length bytes.old }
 {
     bytes[start..start + front.len()].copy_from_slice(front);
@@ -59,7 +61,8 @@ impl Piece {
         bytes
     }
 
-    /// Makes room for so many further bytes, and for more where the bytes have to move. The bytes stay, whatever the answer.
+    /// Makes room for so many further bytes, and for more where the bytes have to move. The bytes
+    /// stay, whatever the answer.
     pub fn reserve(&mut self, additional: usize) -> Result<(), SectionError>
         ensures same { self.new ≡ self.old }
         ensures only_memory { IsOkUnless result SectionError.Memory }
@@ -83,7 +86,8 @@ impl Piece {
     /// Writes over the bytes from a place on.
     pub(crate) fn overwrite(&mut self, start: usize, front: &[u8])
         requires { start + length front.now ≤ length self.old }
-        ensures { self.new ≡ take start self.old ++ (front.now ++ drop (start + length front.now) self.old) }
+        ensures { self.new ≡ take start self.old
+            ++ (front.now ++ drop (start + length front.now) self.old) }
     {
         write_over(self.bytes.as_mut_slice(), start, front);
     }

@@ -1,6 +1,8 @@
 // Writes the sections of a few numbers and texts: the header, a chunk's header, a channel.
-ghost use Rattle.std.specs.Prelude.{◌≡◌, ◌+◌, ◌-◌, ◌≤◌, ◌++◌, length, replicate, IfOk, OnOk, OnErr, IsOkUnless};
-ghost use Rattle.cy_section.specs.Section.{section, header_body, header_section, chunk_header_body, channel_body};
+ghost use Rattle.std.specs.Prelude.{◌≡◌, ◌+◌, ◌-◌, ◌≤◌, ◌++◌, length, replicate, IfOk, OnOk, OnErr};
+ghost use Rattle.std.specs.Prelude.{IsOkUnless};
+ghost use Rattle.cy_section.specs.Section.{section, header_body, header_section, chunk_header_body};
+ghost use Rattle.cy_section.specs.Section.{channel_body};
 ghost use Rattle.cy_section.specs.declared.types.SectionKind.TheVariants as kind;
 
 use crate::head::{head_of, no_memory, put_section};
@@ -80,7 +82,8 @@ fn header_front(alloc: Global, value: &Header) -> Result<Writer, WireError>
 #[tactic(auto, using(crate::proofs::Lengths::zeros))]
 fn put_filled(to: &mut Piece, front: &[u8]) -> Result<(), SectionError>
     requires { length front.now ≤ 2064 }
-    ensures ok { OnOk result (to.new ≡ to.old ++ (front.now ++ replicate (2064 - length front.now) 0)) }
+    ensures ok { OnOk result (to.new ≡ to.old
+        ++ (front.now ++ replicate (2064 - length front.now) 0)) }
     ensures grown { OnOk result (length to.new ≡ length to.old + 2064) }
     ensures err { OnErr result (to.new ≡ to.old) }
     ensures only_memory { IsOkUnless result SectionError.Memory }
@@ -89,7 +92,8 @@ fn put_filled(to: &mut Piece, front: &[u8]) -> Result<(), SectionError>
     to.append(front, &zeros[front.len()..])
 }
 
-/// Appends a record's header and the zeros that fill its section up to 2064 bytes. Want of memory changes nothing.
+/// Appends a record's header and the zeros that fill its section up to 2064 bytes. Want of memory
+/// changes nothing.
 #[tactic(auto, using(crate::proofs::Lengths::header_fits))]
 pub fn put_header(to: &mut Piece, value: &Header) -> Result<(), SectionError>
     ensures ok { OnOk result (to.new ≡ to.old ++ header_section value.now) }
@@ -103,7 +107,8 @@ pub fn put_header(to: &mut Piece, value: &Header) -> Result<(), SectionError>
 
 /// Appends a chunk's header. Want of memory changes nothing.
 pub fn put_chunk_header(to: &mut Piece, value: &ChunkHeader) -> Result<(), SectionError>
-    ensures ok { OnOk result (to.new ≡ to.old ++ section kind.ChunkHeader (chunk_header_body value.now)) }
+    ensures ok { OnOk result (to.new ≡ to.old ++ section kind.ChunkHeader
+        (chunk_header_body value.now)) }
     ensures err { OnErr result (to.new ≡ to.old) }
     ensures only_memory { IsOkUnless result SectionError.Memory }
 {

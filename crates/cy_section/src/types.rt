@@ -16,6 +16,14 @@ pub enum SectionKind {
     Channel,
 }
 
+/// The head of a section.
+#[derive(Clone, Copy, Debug, PartialEq, Eq)]
+pub struct Head {
+    pub kind: SectionKind,
+    /// The bytes of the section's body.
+    pub size: u64,
+}
+
 /// The header of a record. Times and intervals are in nanoseconds, sizes and places in bytes.
 #[derive(Clone, Copy, Debug, PartialEq, Eq)]
 pub struct Header {
@@ -112,7 +120,8 @@ pub struct IndexEntry {
     pub chunk_body_cache: Option<ChunkBodyCache>,
 }
 
-/// The index of a record: an entry for each section but the header and the index itself, in file order.
+/// The index of a record: an entry for each section but the header and the index itself, in file
+/// order.
 #[derive(Drop)]
 pub struct Index {
     pub entries: Items<IndexEntry>,

@@ -1,10 +1,10 @@
 // Vectors of a small record: the header, a channel, a chunk of two messages, and the index.
-use crate::{
+use cy_msg::{Bytes, Items, NamesError, Text};
+use cy_section::{
     BodyMessage, Channel, ChannelCache, ChunkBody, ChunkBodyCache, ChunkHeader, ChunkHeaderCache,
     Header, Index, IndexEntry, Piece, SectionError, SectionKind, message_size, put_channel,
     put_chunk_body, put_chunk_header, put_head, put_header, put_index, put_message,
 };
-use cy_msg::{Bytes, Items, NamesError, Text};
 use std::alloc::Global;
 use std::test::Fail;
 
@@ -102,8 +102,7 @@ fn index(alloc: Global) -> Result<Index, NamesError> {
 }
 
 /// Appends the section of this kind of the small record.
-fn put(to: &mut Piece, kind: SectionKind) -> Result<(), Fail> {
-    let alloc = to.alloc();
+fn put(alloc: Global, to: &mut Piece, kind: SectionKind) -> Result<(), Fail> {
     match kind {
         SectionKind::Header => put_header(to, &HEADER)?,
         SectionKind::ChunkHeader => put_chunk_header(to, &CHUNK_HEADER)?,
@@ -115,7 +114,7 @@ fn put(to: &mut Piece, kind: SectionKind) -> Result<(), Fail> {
 }
 
 #[test]
-fn sections(rt: HostRuntime) -> Result<(), Fail> {
+fn writes_each_section_of_a_small_record(rt: HostRuntime) -> Result<(), Fail> {
     let mut piece = Piece::new(rt.alloc());
     for (kind, want, zeros) in [
         (
@@ -155,7 +154,7 @@ fn sections(rt: HostRuntime) -> Result<(), Fail> {
         ),
     ] {
         piece.clear();
-        put(&mut piece, kind)?;
+        put(rt.alloc(), &mut piece, kind)?;
         let (front, rest) = piece.bytes().split_at(piece.bytes().len().min(want.len()));
         assert_eq!(rt; front, want, "{kind:?}");
         assert_eq!(rt; rest.len(), zeros, "{kind:?}");
@@ -165,7 +164,7 @@ fn sections(rt: HostRuntime) -> Result<(), Fail> {
 }
 
 #[test]
-fn messages(rt: HostRuntime) -> Result<(), Fail> {
+fn writes_messages_one_by_one(rt: HostRuntime) -> Result<(), Fail> {
     let mut piece = Piece::new(rt.alloc());
     put_head(&mut piece, SectionKind::ChunkBody, 27)?;
     for (name, end) in [("/in", 29), ("/out", 43)] {
@@ -175,7 +174,7 @@ fn messages(rt: HostRuntime) -> Result<(), Fail> {
         assert_eq!(rt; piece.bytes().len(), end, "{name}");
     }
     let mut whole = Piece::new(rt.alloc());
-    put(&mut whole, SectionKind::ChunkBody)?;
+    put(rt.alloc(), &mut whole, SectionKind::ChunkBody)?;
     assert_eq!(rt; piece.into_vec().as_slice(), whole.bytes());
     assert_eq!(rt; message_size("/in", 100, b"\x08\x0e"), 13);
     assert_eq!(rt; message_size("/out", 100, b"\x08\x0e"), 14);
@@ -184,7 +183,7 @@ fn messages(rt: HostRuntime) -> Result<(), Fail> {
 
 /// Holds also where allocations fail.
 #[test]
-fn all_or_nothing(rt: HostRuntime) {
+fn writes_all_or_nothing(rt: HostRuntime) {
     let mut piece = Piece::new(rt.alloc());
     let header = put_header(&mut piece, &HEADER);
     let before = piece.bytes().len();

@@ -1,0 +1,49 @@
+-- The messages of fields, one field after another.
+use Rattle.std.proofs.Common.{◌≡◌, ℕ, List, [], ◌∷◌, ◌++◌, refl, sym, ap, ◌∙◌, append_assoc, append-nil, Option, Some, None}
+use Rattle.std.specs.Option.{option_map, option_or}
+use Rattle.cy_wire.specs.declared.error.WireError.{WireError}
+use Rattle.cy_wire.specs.declared.field.Span.{Span}
+use Rattle.cy_wire.specs.Field.{WireField, Fields, no_fields, faulty, with_field}
+use Rattle.cy_wire.specs.Message.{WireSpan, span_in, seen_span, last_span}
+use Rattle.cy_wire.proofs.Lasts.{last_span-more}
+use Rattle.cy_section.specs.declared.error.SectionError.{SectionError}
+use Rattle.cy_section.specs.Reading.{fault_of, PlacedMessage, Messages, no_message, with_message, and_those_behind, message_at, messages_of}
+
+pub messages_of-other : (field : WireField) (rest : Fields) → span_in 1 field ≡ None → messages_of (with_field field rest) ≡ messages_of rest
+unfolding messages_of
+messages_of-other field rest e = rw e refl
+
+pub messages_of-message : (field : WireField) (rest : Fields) (span : WireSpan) → span_in 1 field ≡ Some span
+    → messages_of (with_field field rest) ≡ and_those_behind (message_at span) (messages_of rest)
+unfolding messages_of
+messages_of-message field rest span e = rw e refl
+
+pub messages_of-end : messages_of no_fields ≡ no_message None
+unfolding messages_of
+messages_of-end = refl
+
+pub messages_of-fault : (fault : WireError) → messages_of (faulty fault) ≡ no_message (Some (fault_of fault))
+unfolding messages_of
+messages_of-fault fault = refl
+
+-- the last bytes, seen without where they lie
+seen_or : (new old : Option Span) → option_map seen_span (option_or new old) ≡ option_or (option_map seen_span new) (option_map seen_span old)
+seen_or None old = refl
+seen_or (Some x) old = refl
+
+pub last_span-seen : (n : ℕ) (front : List WireField) (field : WireField) (new old : Option Span) → option_map seen_span new ≡ span_in n field → option_map seen_span old ≡ last_span n front
+    → option_map seen_span (option_or new old) ≡ last_span n (front ++ field ∷ [])
+last_span-seen n front field new old e f =
+    seen_or new old ∙ ap (λ (o : Option WireSpan). option_or o (option_map seen_span old)) e ∙ ap (option_or (span_in n field)) f ∙ sym (last_span-more n front field)
+
+-- one more message is read
+pub message_read : (front : List PlacedMessage) (left next all : Messages) (message : PlacedMessage) → front ++ left.messages ≡ all.messages
+    → left ≡ with_message message next → (front ++ message ∷ []) ++ next.messages ≡ all.messages
+message_read front left next all message so_far e =
+    append_assoc front (message ∷ []) next.messages ∙ ap (λ (l : Messages). front ++ l.messages) (sym e) ∙ so_far
+
+-- none is left
+pub messages_end : (front : List PlacedMessage) (left all : Messages) (fault : Option SectionError) → front ++ left.messages ≡ all.messages → left.fault ≡ all.fault
+    → left ≡ no_message fault → (all.messages ≡ front) × (all.fault ≡ fault)
+messages_end front left all fault so_far ended e =
+    (sym so_far ∙ ap (λ (l : Messages). front ++ l.messages) e ∙ append-nil front, sym ended ∙ ap (λ (l : Messages). l.fault) e)

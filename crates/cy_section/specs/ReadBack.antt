@@ -1,0 +1,73 @@
+-- What is written of a section is read of it: the laws, and the bounds that they need.
+use Rattle.std.specs.Prelude.{◌≡◌, ℕ, ◌<◌, ◌^◌, ◌++◌, List, length, Ok}
+use Rattle.std.specs.List.{AllByRecursion}
+use Rattle.cy_wire.specs.Wire.{field_u64, field_bytes}
+use Rattle.cy_section.specs.declared.types.BodyMessage.{BodyMessage}
+use Rattle.std.specs.Str.{IsUtf8}
+use Rattle.cy_section.specs.declared.types.Header.{Header}
+use Rattle.cy_section.specs.declared.types.ChunkHeader.{ChunkHeader}
+use Rattle.cy_section.specs.declared.types.Channel.{Channel}
+use Rattle.cy_section.specs.Section.{header_body, chunk_header_body, chunk_body, channel_body}
+use Rattle.cy_section.specs.Reading.{header_at, chunk_header_at, chunk_body_at, channel_at}
+
+-- Numbers of 32 bits, and of 64.
+pub record HeaderFits (h : Header) : Type 0 where
+  pub major_version : h.major_version < 2 ^ 32
+  pub minor_version : h.minor_version < 2 ^ 32
+  pub compress : h.compress < 2 ^ 32
+  pub chunk_interval : h.chunk_interval < 2 ^ 64
+  pub segment_interval : h.segment_interval < 2 ^ 64
+  pub index_position : h.index_position < 2 ^ 64
+  pub chunk_number : h.chunk_number < 2 ^ 64
+  pub channel_number : h.channel_number < 2 ^ 64
+  pub begin_time : h.begin_time < 2 ^ 64
+  pub end_time : h.end_time < 2 ^ 64
+  pub message_number : h.message_number < 2 ^ 64
+  pub size : h.size < 2 ^ 64
+  pub chunk_raw_size : h.chunk_raw_size < 2 ^ 64
+  pub segment_raw_size : h.segment_raw_size < 2 ^ 64
+
+-- Numbers of 64 bits.
+pub record ChunkHeaderFits (c : ChunkHeader) : Type 0 where
+  pub begin_time : c.begin_time < 2 ^ 64
+  pub end_time : c.end_time < 2 ^ 64
+  pub message_number : c.message_number < 2 ^ 64
+  pub raw_size : c.raw_size < 2 ^ 64
+
+-- Texts, and bytes whose number has 64 bits.
+pub record ChannelFits (c : Channel) : Type 0 where
+  pub name : length c.name < 2 ^ 64
+  pub message_type : length c.message_type < 2 ^ 64
+  pub proto_desc : length c.proto_desc < 2 ^ 64
+  pub name_is_text : IsUtf8 c.name
+  pub type_is_text : IsUtf8 c.message_type
+
+-- The fields of a message.
+abbrev pub message_bytes : BodyMessage → List ℕ
+message_bytes m = field_bytes 1 m.channel_name ++ field_u64 2 m.time ++ field_bytes 3 m.content
+
+-- A text, a number of 64 bits, and bytes whose number has 64 bits, as the whole message's has.
+pub record MessageFits (m : BodyMessage) : Type 0 where
+  pub name : length m.channel_name < 2 ^ 64
+  pub time : m.time < 2 ^ 64
+  pub content : length m.content < 2 ^ 64
+  pub whole : length (message_bytes m) < 2 ^ 64
+  pub name_is_text : IsUtf8 m.channel_name
+
+-- A header that was written is read.
+abbrev pub HeaderReadsBack : Type 0
+HeaderReadsBack = (at : ℕ) (h : Header) → HeaderFits h → header_at at (header_body h) ≡ Ok h
+
+-- A chunk's header that was written is read.
+abbrev pub ChunkHeaderReadsBack : Type 0
+ChunkHeaderReadsBack = (at : ℕ) (c : ChunkHeader) → ChunkHeaderFits c
+    → chunk_header_at at (chunk_header_body c) ≡ Ok c
+
+-- And a channel.
+abbrev pub ChannelReadsBack : Type 0
+ChannelReadsBack = (at : ℕ) (c : Channel) → ChannelFits c → channel_at at (channel_body c) ≡ Ok c
+
+-- And the messages of a chunk.
+abbrev pub ChunkBodyReadsBack : Type 0
+ChunkBodyReadsBack = (at : ℕ) (ms : List BodyMessage) → AllByRecursion MessageFits ms
+    → chunk_body_at at (chunk_body ms) ≡ Ok ms
