@@ -29,7 +29,7 @@ greatest_time-push : (messages : List BodyMessage) (m : BodyMessage)
 greatest_time-push [] m = omega arith
 greatest_time-push (first ∷ rest) m = omega (arith, greatest_time-push rest m)
 
-raw_size-push : (messages : List BodyMessage) (m : BodyMessage)
+pub raw_size-push : (messages : List BodyMessage) (m : BodyMessage)
     → raw_size (messages ++ m ∷ []) ≡ raw_size messages + length m.content
 raw_size-push messages m =
     let size = λ (x : BodyMessage). length x.content in

@@ -9,12 +9,11 @@ use Rattle.std.specs.Cmp.Lexicographic.{nat_list_cmp_total}
 use Rattle.std.specs.FinMap.{get, insert, get-insert}
 use Rattle.cy_store.specs.Files.{Files, Holds, Lacks}
 use Rattle.cy_store.specs.Write.{Write, Create, Put, after_write, after_writes, written_at, LeavesIn}
-use Rattle.cy_store.specs.Store.{StoreView, Rose, StoreRose, HasCause}
+use Rattle.cy_store.specs.Store.{StoreView, Rose, StoreRose, WriteRose, SameCounts, HasCause, HasFault, HasWriteCauses}
 use Rattle.cy_store.specs.declared.error.StoreError.{StoreError}
 use Rattle.cy_store.specs.declared.error.StoreError.TheVariants as store_error
 use Rattle.cy_writer.specs.declared.error.WriteError.{WriteError}
 use Rattle.cy_writer.specs.declared.error.WriteError.TheVariants as write_error
-use Rattle.cy_writer.specs.Causes.{HasCauses}
 use Rattle.cy_writer.specs.Writes.{file_after, puts_into, StopsAt, StopsBefore, Makes}
 
 -- a piece at its place, as a write
@@ -128,21 +127,33 @@ written_at-end bytes piece at e =
 pub rose_more : (old mid new : ℕ) → old ≤ mid → Rose mid new → Rose old new
 rose_more old mid new stays rose = omega arith
 
-lacks_none : (name any : List ℕ) (P : List ℕ → Type 0) (files : Option Files) → Holds files name P → Lacks files name → Lacks files any
-lacks_none name any P None h e = tt
-lacks_none name any P (Some m) h e = let found = held_some (get m name) P h in absurd (none-some found.0 (sym e ∙ found.1.0))
+untold : (name : List ℕ) (P : List ℕ → Type 0) (files : Option Files) → Holds files name P → Lacks files name → files ≡ None
+untold name P None h e = refl
+untold name P (Some m) h e = let found = held_some (get m name) P h in absurd (none-some found.0 (sym e ∙ found.1.0))
 
-pub causes_put : {T U : Type 0} {r : Result T StoreError} (answer : Result U WriteError) (name any : List ℕ) (P : List ℕ → Type 0) (old new : StoreView)
-    → Holds old.files name P → HasCause old new name r → (IsErrOf answer write_error.Failed → IsErrOf r store_error.Failed) → HasCauses old new any answer
-causes_put answer name any P old new h cause passed_on = record {
+pub causes_put : {T : Type 0} {F : Type 0} (r : Result T StoreError) (name : List ℕ) (P : List ℕ → Type 0) (old new : StoreView)
+    → Holds old.files name P → HasCause old new name r → (F → IsErrOf r store_error.Failed) → (IsErrOf r store_error.Failed → F)
+    → HasWriteCauses F old new
+causes_put r name P old new h cause into from = record {
   faults_stay = cause.faults_stay;
   misses_stay = cause.misses_stay;
-  failed = λ e. rose (cause.failed (passed_on e));
+  failed = λ e. rose (cause.failed (into e));
+  quiet = λ calm. cause.quiet (λ e. calm (from e));
 }
   where
-    rose : StoreRose old new name → StoreRose old new any
+    rose : StoreRose old new name → WriteRose old new
     rose (inl faults) = inl faults
-    rose (inr (misses, lacks)) = inr (misses, lacks_none name any P old.files h lacks)
+    rose (inr (misses, lacks)) = inr (misses, untold name P old.files h lacks)
+
+-- those of a creation
+pub causes_made : {T : Type 0} {F : Type 0} (r : Result T StoreError) (old new : StoreView) → HasFault old new r
+    → (F → IsErrOf r store_error.Failed) → (IsErrOf r store_error.Failed → F) → HasWriteCauses F old new
+causes_made r old new cause into from = record {
+  faults_stay = cause.faults_stay;
+  misses_stay = omega (arith, cause.misses_same);
+  failed = λ e. inl (cause.failed (into e));
+  quiet = λ calm. cause.quiet (λ e. calm (from e));
+}
 
 -- Calls one after another.
 
@@ -264,28 +275,36 @@ holds_weaker (Some m) name P Q step h = some (get m name) h
 
 -- Causes of several calls.
 
-pub causes_same : {T U : Type 0} (r : Result T WriteError) (answer : Result U WriteError) (any : List ℕ) (old new : StoreView) → HasCauses old new any r
-    → (IsErrOf answer write_error.Failed → IsErrOf r write_error.Failed) → HasCauses old new any answer
-causes_same r answer any old new cause passed_on =
-    record { faults_stay = cause.faults_stay; misses_stay = cause.misses_stay; failed = λ e. cause.failed (passed_on e) }
+pub causes_same : {F G : Type 0} (old new : StoreView) → HasWriteCauses F old new → (G → F) → (F → G) → HasWriteCauses G old new
+causes_same old new cause into from = record {
+  faults_stay = cause.faults_stay;
+  misses_stay = cause.misses_stay;
+  failed = λ e. cause.failed (into e);
+  quiet = λ calm. cause.quiet (λ e. calm (from e));
+}
 
--- counts that rose since an earlier call
-pub causes_then : {U : Type 0} (answer : Result U WriteError) (name any : List ℕ) (old mid new : StoreView) → old.faults ≤ mid.faults → old.misses ≤ mid.misses
-    → HasCauses mid new name answer → (Lacks mid.files name → Lacks old.files any) → HasCauses old new any answer
-causes_then answer name any old mid new faults misses cause lacks = record {
-  faults_stay = omega (arith, faults, cause.faults_stay);
-  misses_stay = omega (arith, misses, cause.misses_stay);
+-- the first call left the counts, and a store that tells its files
+pub causes_then : {F : Type 0} (old mid new : StoreView) → SameCounts old mid → (mid.files ≡ None → old.files ≡ None)
+    → HasWriteCauses F mid new → HasWriteCauses F old new
+causes_then old mid new same told cause = record {
+  faults_stay = omega (arith, same.faults, cause.faults_stay);
+  misses_stay = omega (arith, same.misses, cause.misses_stay);
   failed = λ e. rose (cause.failed e);
+  quiet = λ calm. let still = cause.quiet calm in record { faults = still.faults ∙ same.faults; misses = still.misses ∙ same.misses };
 }
   where
-    rose : StoreRose mid new name → StoreRose old new any
-    rose (inl risen) = inl (rose_more old.faults mid.faults new.faults faults risen)
-    rose (inr (risen, gone)) = inr (rose_more old.misses mid.misses new.misses misses risen, lacks gone)
+    rose : WriteRose mid new → WriteRose old new
+    rose (inl risen) = inl (rose_more old.faults mid.faults new.faults (omega (arith, same.faults)) risen)
+    rose (inr (risen, gone)) = inr (rose_more old.misses mid.misses new.misses (omega (arith, same.misses)) risen, told gone)
 
--- a store that tells its files and holds one does not lack it
-pub lacks_untold : (name any : List ℕ) (P : List ℕ → Type 0) (old mid : Option Files) → (mid ≡ None → old ≡ None) → Holds mid name P → Lacks mid name → Lacks old any
-lacks_untold name any P old None untold h gone = rw (untold refl) tt
-lacks_untold name any P old (Some m) untold h gone = let found = held_some (get m name) P h in absurd (none-some found.0 (sym gone ∙ found.1.0))
+-- nothing was called
+pub causes_none : {F : Type 0} (old : StoreView) → (F → ⊥) → HasWriteCauses F old old
+causes_none old calm = record {
+  faults_stay = omega arith;
+  misses_stay = omega arith;
+  failed = λ e. absurd (calm e);
+  quiet = λ c. record { faults = refl; misses = refl };
+}
 
 pub untold_map : (f : Files → Files) (old new : Option Files) → new ≡ option_map f old → new ≡ None → old ≡ None
 untold_map f None new e none = refl

@@ -17,7 +17,7 @@ use Rattle.cy_section.specs.Section.{section, channel_body, header_section}
 use Rattle.cy_section.specs.Chunks.{messages_in, takes}
 use Rattle.cy_section.specs.RecordText.{Part, parts_of, bytes_of, channel_part, chunk_header_part, chunk_body_part, chunk_header_of, count_on, incomplete_header}
 use Rattle.cy_section.proofs.Lengths.{length-header_section}
-use Rattle.cy_writer.specs.Given.{Given, nothing_given, message_on, with_channel, with_chunk, with_message, kept_chunk, messages_of, front_of, chunk_parts, IsLeft}
+use Rattle.cy_writer.specs.Given.{Given, nothing_given, message_on, with_channel, with_chunk, with_message, kept_chunk, messages_of, front_of, chunk_parts}
 use Rattle.cy_writer.proofs.Puts.{holds_weaker, written_at-end}
 use Rattle.cy_writer.specs.Counted.{counted_with}
 use Rattle.cy_writer.proofs.Chunks.{counted_more}
@@ -181,14 +181,6 @@ front-channel g c closed =
         ap (λ (b : List ℕ). section kind.Channel (channel_body first) ++ b) (channels-push rest c)
         ∙ sym (append_assoc (section kind.Channel (channel_body first)) (bytes_of (map (channel_part []) rest)) (section kind.Channel (channel_body c)))
 
-pub left_channel : (o : Writing) (g : Given) (c : Channel) (files : Option Files) → StandsFor o g → g.closed ≡ []
-    → Holds files o.name (λ bytes. bytes ≡ written_at (front_of g) o.place (section kind.Channel (channel_body c))) → IsLeft (with_channel g c) files
-left_channel o g c files held closed h =
-    let Held : List ℕ → Type 0 = λ name. Holds files name (λ bytes. bytes ≡ front_of (with_channel g c)) in
-    subst Held held.name
-    (holds_weaker files o.name _ _
-    (λ bytes e. e ∙ written_at-end (front_of g) (section kind.Channel (channel_body c)) o.place (sym held.place) ∙ sym (front-channel g c closed)) h)
-
 -- The chunk is put.
 
 kept_chunks-push : (at : ℕ) (closed : List (List BodyMessage)) (chunk : List BodyMessage) → kept_chunks at (closed ++ chunk ∷ [])
@@ -244,17 +236,6 @@ stands_chunk old new g held name channels chunks at chunk counted =
       chunk = chunk;
       counted = counted ∙ held.counted ∙ ap chunk_header_of (sym same);
     }
-
-pub left_chunk : (o : Writing) (g : Given) (files : Option Files) (body_at : ℕ) → StandsFor o g → body_at ≡ o.place + length (chunk_header_part g.gathered).bytes
-    → Holds files o.name (λ bytes. bytes ≡ written_at (front_of g ++ (chunk_header_part g.gathered).bytes) body_at (chunk_body_part g.gathered).bytes) → IsLeft (with_chunk g) files
-left_chunk o g files body_at held at h =
-    let Held : List ℕ → Type 0 = λ name. Holds files name (λ bytes. bytes ≡ front_of (with_chunk g)) in
-    let front = front_of g ++ (chunk_header_part g.gathered).bytes in
-    subst Held held.name
-    (holds_weaker files o.name _ _
-    (λ bytes e. e
-    ∙ written_at-end front (chunk_body_part g.gathered).bytes body_at (omega (arith, at, held.place, length-append (front_of g) (chunk_header_part g.gathered).bytes))
-    ∙ sym (front-chunk g)) h)
 
 -- One more message.
 

@@ -4,4 +4,6 @@ pub mod Given
 pub mod Counted
 pub mod Kept
 pub mod Stands
+pub mod Calls
+pub mod Whole
 pub mod Laws

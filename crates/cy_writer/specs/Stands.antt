@@ -1,5 +1,6 @@
 -- What a writer stands for.
-use Rattle.std.specs.Prelude.{ℕ, ◌≡◌, ◌≤◌, ◌<◌, ◌+◌, List, [], length, map, Option, None, Some, unwrap_or, IfSome, IsSomeAnd, slice_get}
+use Rattle.std.specs.Prelude.{ℕ, ◌≡◌, ◌≤◌, ◌<◌, ◌+◌, List, [], length, map, Option, None, Some}
+use Rattle.std.specs.Prelude.{unwrap_or, IfSome, IsSomeAnd, slice_get}
 use Rattle.std.specs.Option.{option_map}
 use Rattle.cy_store.specs.Files.{Files, Holds}
 use Rattle.cy_section.specs.declared.types.Channel.{Channel}
@@ -11,7 +12,8 @@ use Rattle.cy_writer.specs.declared.writer.RecordWriter.{RecordWriter}
 
 -- No two channels have one name.
 abbrev pub HaveOwnNames : List Channel → Type 0
-HaveOwnNames channels = (i j : ℕ) (c d : Channel) → slice_get channels i ≡ Some c → slice_get channels j ≡ Some d → c.name ≡ d.name → i ≡ j
+HaveOwnNames channels = (i j : ℕ) (c d : Channel) → slice_get channels i ≡ Some c
+    → slice_get channels j ≡ Some d → c.name ≡ d.name → i ≡ j
 
 -- A name that none of the channels has.
 abbrev pub IsNewName : List ℕ → List Channel → Type 0
@@ -31,7 +33,8 @@ pub record StandsFor (o : Writing) (g : Given) : Type 0 where
   pub chunk : IsChunkOf o.chunk g.gathered
   pub counted : o.counted ≡ chunk_header_of (messages_of g)
 
--- A writer stands for what it was given: its kept chunk and what it keeps of the sections that it has put.
+-- A writer stands for what it was given: its kept chunk and what it keeps of the sections that it
+-- has put.
 abbrev pub Stands : RecordWriter → Given → Type 0
 Stands w g = IsSomeAnd w.writing (λ o. StandsFor o g)
 

@@ -1,5 +1,6 @@
 -- The writes of one file, in their order, and what stands where they stop.
-use Rattle.std.specs.Prelude.{ℕ, ◌+◌, ◌≡◌, ◌≤◌, List, [], ◌∷◌, ◌++◌, length, map, take, slice_get, Option, Some, Result, OnOk, IsErrOf}
+use Rattle.std.specs.Prelude.{ℕ, ◌+◌, ◌≡◌, ◌≤◌, List, [], ◌∷◌, ◌++◌, length, map, take, slice_get}
+use Rattle.std.specs.Prelude.{Option, Some, Result, OnOk, IsErrOf}
 use Rattle.std.specs.Option.{option_map}
 use Rattle.cy_store.specs.Files.{Files}
 use Rattle.cy_store.specs.Write.{Write, Put, written_at, after_writes, LeavesIn}
@@ -16,10 +17,6 @@ placed at (piece ∷ rest) = (at, piece) ∷ placed (at + length piece) rest
 abbrev pub file_after : List ℕ → List (ℕ × List ℕ) → List ℕ
 file_after bytes [] = bytes
 file_after bytes (put ∷ rest) = file_after (written_at bytes put.0 put.1) rest
-
--- Each piece is put at a place that a file of these bytes has by then, or at its end.
-abbrev pub FitsInTurn : List ℕ → List (ℕ × List ℕ) → Type 0
-FitsInTurn bytes puts = (n : ℕ) (put : ℕ × List ℕ) → slice_get puts n ≡ Some put → put.0 ≤ length (file_after bytes (take n puts))
 
 -- Pieces that are put into a file.
 abbrev pub puts_into : List ℕ → List (ℕ × List ℕ) → List Write
@@ -39,10 +36,12 @@ pub record StopsBefore (writes : List Write) (old new : Option Files) : Type 0 w
   pub split : before ++ later ≡ writes
   pub left : new ≡ option_map (after_writes before) old
 
--- What a call that is to make these writes leaves in the store: after Ok all of them, after Failed those before the one that
--- failed, after Memory some of them, and after Broken none.
-pub record Makes {T : Type 0} (writes : List Write) (old new : StoreView) (result : Result T WriteError) : Type 0 where
+-- What a call that is to make these writes leaves in the store: after Ok all of them, after Failed
+-- those before the one that failed, after Memory some of them, and after Broken none.
+pub record Makes {T : Type 0} (writes : List Write) (old new : StoreView)
+    (result : Result T WriteError) : Type 0 where
   pub done : OnOk result (new.files ≡ option_map (after_writes writes) old.files)
-  pub failed : IsErrOf result write_error.Failed → (w : Write) × StopsAt writes w old.files new.files
+  pub failed : IsErrOf result write_error.Failed → (w : Write)
+      × StopsAt writes w old.files new.files
   pub starved : IsErrOf result write_error.Memory → StopsBefore writes old.files new.files
   pub broken : IsErrOf result write_error.Broken → new.files ≡ old.files

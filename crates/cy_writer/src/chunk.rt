@@ -3,11 +3,13 @@ ghost use Rattle.std.specs.Prelude.{◌≡◌, ◌≤◌, ◌+◌, length, IfOk,
 ghost use Rattle.cy_writer.specs.Counted.{counted_with};
 
 use crate::WriteError;
-use crate::error::no_memory;
+use crate::error::no_memory_for_section;
+use crate::sum::sum;
 use cy_section::{ChunkHeader, Piece, SectionKind, message_size, put_head, put_message, set_head};
 use std::alloc::Global;
 
-/// The longest body of a chunk, in bytes, and the longest time from its first message to another, in nanoseconds.
+/// The longest body of a chunk, in bytes, and the longest time from its first message to another,
+/// in nanoseconds.
 pub(crate) const CHUNK_RAW_SIZE: u64 = 200_000_000;
 
 pub(crate) const CHUNK_INTERVAL: u64 = 20_000_000_000;
@@ -23,22 +25,14 @@ pub(crate) const NO_MESSAGES: ChunkHeader = ChunkHeader {
     raw_size: 0,
 };
 
-/// A chunk while it is gathered: the numbers of its header, the time of its first message, and the section of its body, whose head
-/// is set when all messages are there.
+/// A chunk while it is gathered: the numbers of its header, the time of its first message, and the
+/// section of its body, whose head is set when all messages are there.
 #[derive(Drop)]
 pub(crate) struct Chunk {
     pub header: ChunkHeader,
     pub first_time: u64,
     pub section: Piece,
     ghost headed: { 1 ≤ header.message_number → 16 ≤ length section },
-}
-
-// More messages or bytes than a number counts are in no memory.
-fn sum(count: u64, more: u64) -> Result<u64, WriteError>
-    ensures sum { IfOk result (λ n. n ≡ count + more) }
-    ensures only_memory { IsOkUnless result WriteError.Memory }
-{
-    count.checked_add(more).ok_or(WriteError::Memory)
 }
 
 /// The numbers of messages with one more, at a time and with a content of so many bytes.
@@ -96,7 +90,13 @@ impl Chunk {
 
     fn has_room(&self, name: &str, time: u64, content: &[u8]) -> bool
         ensures { (messages : List BodyMessage) → IsChunkOf self.now messages
-            → result ≡ nat_le (length (chunk_body (messages ++ record { channel_name = name.now; time = time; content = content.now } ∷ []))) chunk_raw_size }
+            → result ≡ nat_le (length
+            (chunk_body (messages ++ record {
+              channel_name = name.now;
+              time = time;
+              content =
+                  content.now;
+            } ∷ []))) chunk_raw_size }
     {
         // A longer name or content is too long by itself, and is not measured.
         if name.len().max(content.len()) as u64 > CHUNK_RAW_SIZE {
@@ -110,7 +110,12 @@ impl Chunk {
 
     pub fn takes(&self, name: &str, time: u64, content: &[u8]) -> bool
         ensures takes { (messages : List BodyMessage) → IsChunkOf self.now messages
-            → result ≡ takes messages record { channel_name = name.now; time = time; content = content.now } }
+            → result ≡ takes messages record {
+              channel_name = name.now;
+              time = time;
+              content =
+                  content.now;
+            } }
         ensures some { result ≡ false → 1 ≤ self.now.header.message_number }
     {
         if self.is_empty() {
@@ -119,10 +124,14 @@ impl Chunk {
         self.has_room(name, time, content) && time <= self.first_time.saturating_add(CHUNK_INTERVAL)
     }
 
-    // Where there is no message yet, makes room for the head, which is set when the chunk is full, and notes the first time.
+    // Where there is no message yet, makes room for the head, which is set when the chunk is full,
+    // and notes the first time.
     fn begin(&mut self, time: u64) -> Result<(), WriteError>
-        ensures same { (messages : List BodyMessage) → IsChunkOf self.old messages → IsChunkOf self.new messages }
-        ensures first { (messages : List BodyMessage) (m : BodyMessage) → IsChunkOf self.old messages → m.time ≡ time → OnOk result (BeginsAt self.new.first_time (messages ++ m ∷ [])) }
+        ensures same { (messages : List BodyMessage) → IsChunkOf self.old messages
+            → IsChunkOf self.new messages }
+        ensures first { (messages : List BodyMessage) (m : BodyMessage)
+            → IsChunkOf self.old messages → m.time ≡ time
+            → OnOk result (BeginsAt self.new.first_time (messages ++ m ∷ [])) }
         ensures room { OnOk result (16 ≤ length self.new.section) }
         ensures header { self.new.header ≡ self.old.header }
         ensures only_memory { IsOkUnless result WriteError.Memory }
@@ -132,29 +141,40 @@ impl Chunk {
         }
         self.first_time = time;
         self.section.clear();
-        put_head(&mut self.section, SectionKind::ChunkBody, 0).map_err(no_memory)?;
+        put_head(&mut self.section, SectionKind::ChunkBody, 0).map_err(no_memory_for_section)?;
         Ok(())
     }
 
     // Adds a message to the section, where there is room for the head.
     fn put(&mut self, name: &str, time: u64, content: &[u8]) -> Result<(), WriteError>
         requires { 16 ≤ length self.old.section }
-        ensures ok { OnOk result (drop 16 self.new.section ≡ drop 16 self.old.section ++ message_field record { channel_name = name.now; time = time; content = content.now }) }
+        ensures ok { OnOk result (drop 16 self.new.section ≡ drop 16 self.old.section
+            ++ message_field record {
+              channel_name = name.now;
+              time = time;
+              content =
+                  content.now;
+            }) }
         ensures room { 16 ≤ length self.new.section }
         ensures err { OnErr result (self.new.section ≡ self.old.section) }
         ensures header { self.new.header ≡ self.old.header }
         ensures first { self.new.first_time ≡ self.old.first_time }
         ensures only_memory { IsOkUnless result WriteError.Memory }
     {
-        put_message(&mut self.section, name, time, content).map_err(no_memory)?;
+        put_message(&mut self.section, name, time, content).map_err(no_memory_for_section)?;
         Ok(())
     }
 
     /// Adds a message that the chunk takes. Want of memory leaves the messages as they were.
     pub fn add(&mut self, name: &str, time: u64, content: &[u8]) -> Result<(), WriteError>
         ensures added { (messages : List BodyMessage) → IsChunkOf self.old messages
-            → OnOk result (IsChunkOf self.new (messages ++ record { channel_name = name.now; time = time; content = content.now } ∷ [])) }
-        ensures same { (messages : List BodyMessage) → IsChunkOf self.old messages → OnErr result (IsChunkOf self.new messages) }
+            → OnOk result (IsChunkOf self.new (messages ++ record {
+              channel_name = name.now;
+              time = time;
+              content = content.now;
+            } ∷ [])) }
+        ensures same { (messages : List BodyMessage) → IsChunkOf self.old messages
+            → OnErr result (IsChunkOf self.new messages) }
         ensures only_memory { IsOkUnless result WriteError.Memory }
     {
         let header = counted(&self.header, time, content.len() as u64)?;
@@ -167,8 +187,10 @@ impl Chunk {
     /// Sets the head of the body's section, which is then whole.
     pub fn finish(&mut self)
         requires { 1 ≤ self.old.header.message_number }
-        ensures same { (messages : List BodyMessage) → IsChunkOf self.old messages → IsChunkOf self.new messages }
-        ensures section { (messages : List BodyMessage) → IsChunkOf self.old messages → self.new.section ≡ section kind.ChunkBody (chunk_body messages) }
+        ensures same { (messages : List BodyMessage) → IsChunkOf self.old messages
+            → IsChunkOf self.new messages }
+        ensures section { (messages : List BodyMessage) → IsChunkOf self.old messages
+            → self.new.section ≡ section kind.ChunkBody (chunk_body messages) }
         ensures header { self.new.header ≡ self.old.header }
     {
         set_head(&mut self.section, SectionKind::ChunkBody);

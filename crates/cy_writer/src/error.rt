@@ -3,6 +3,8 @@ ghost use Rattle.std.specs.Prelude.{◌≡◌};
 ghost use Rattle.cy_writer.specs.Causes.{error_of};
 ghost use Rattle.cy_writer.specs.declared.error.WriteError.TheVariants as write_error;
 
+use cy_msg::NamesError;
+use cy_section::SectionError;
 use cy_store::StoreError;
 use std::alloc::{AllocError, AllocFailed};
 use thiserror::Error;
@@ -48,9 +50,20 @@ impl From<StoreError> for WriteError {
     }
 }
 
-/// A call whose one refusal is want of memory.
-pub(crate) fn no_memory<E: Drop>(_: E) -> WriteError
+/// The want of memory for which a text or bytes were not copied.
+pub(crate) fn no_memory_for_text(error: NamesError) -> WriteError
+    requires { error ≡ NamesError.Memory }
     ensures { result ≡ WriteError.Memory }
 {
+    let _memory = error;
+    WriteError::Memory
+}
+
+/// The want of memory for which a section was not made.
+pub(crate) fn no_memory_for_section(error: SectionError) -> WriteError
+    requires { error ≡ SectionError.Memory }
+    ensures { result ≡ WriteError.Memory }
+{
+    let _memory = error;
     WriteError::Memory
 }

@@ -6,7 +6,7 @@ ghost use Rattle.cy_section.specs.RecordText.{incomplete_header};
 
 use crate::WriteError;
 use crate::chunk::{CHUNK_INTERVAL, CHUNK_RAW_SIZE};
-use crate::error::no_memory;
+use crate::error::no_memory_for_section;
 use cy_section::{ChunkHeader, Header, Piece, put_header};
 use std::alloc::Global;
 
@@ -75,6 +75,6 @@ pub(crate) fn header_section(alloc: Global, header: &Header) -> Result<Piece, Wr
     ensures only_memory { IsOkUnless result WriteError.Memory }
 {
     let mut section = Piece::new(alloc);
-    put_header(&mut section, header).map_err(no_memory)?;
+    put_header(&mut section, header).map_err(no_memory_for_section)?;
     Ok(section)
 }

@@ -1,7 +1,9 @@
 // What is kept of the sections that were put, for the index.
 ghost use Rattle.std.specs.Prelude.{◌≡◌, ◌++◌, ◌∷◌, [], map, IfOk, IsOkUnless};
 ghost use Rattle.std.specs.List.{flat_map};
-ghost use Rattle.cy_writer.specs.Kept.{channel_entry as entry_of_channel, header_entry as entry_of_header, body_entry as entry_of_body};
+ghost use Rattle.cy_writer.specs.Kept.{channel_entry as entry_of_channel};
+ghost use Rattle.cy_writer.specs.Kept.{header_entry as entry_of_header};
+ghost use Rattle.cy_writer.specs.Kept.{body_entry as entry_of_body};
 
 use crate::WriteError;
 use cy_section::{ChannelCache, ChunkBodyCache, ChunkHeader, ChunkHeaderCache, IndexEntry};

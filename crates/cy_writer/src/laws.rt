@@ -1,5 +1,6 @@
 // What holds of everything that a writer is given: proved here, and nothing to run.
-ghost use Rattle.cy_writer.specs.Laws.{BeginsCut, ChannelsStayCut, MessagesStayCut, MessagesInOrder};
+ghost use Rattle.cy_writer.specs.Laws.{BeginsCut, ChannelsStayCut, MessagesStayCut};
+ghost use Rattle.cy_writer.specs.Laws.{MessagesInOrder};
 
 /// The chunks of messages that were all taken end where they have to: each as late as it may.
 pub fn chunks_end_in_time()

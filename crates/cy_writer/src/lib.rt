@@ -1,7 +1,8 @@
-//! The writer of Cyber RT records: it takes channels and messages, and keeps one chunk in memory at a time.
+//! The writer of Cyber RT records: it takes channels and messages, and keeps one chunk in memory at
+//! a time.
 //!
-//! `specs/Given` says what a writer was given and what it puts into its file for it, `specs/Stands` what it keeps of that,
-//! `specs/Writes` what stands in the store where a write fails.
+//! `specs/Given` says what a writer was given and what it puts into its file for it, `specs/Stands`
+//! what it keeps of that, `specs/Writes` what stands in the store where a write fails.
 #![tactic(auto)]
 
 mod chunk;
@@ -10,8 +11,7 @@ mod headers;
 mod kept;
 mod laws;
 mod put;
-#[cfg(test)]
-mod tests;
+mod sum;
 mod writer;
 mod writing;
 

@@ -1,8 +1,10 @@
 // Puts pieces into a file.
-ghost use Rattle.std.specs.Prelude.{◌≡◌, ◌≤◌, ◌+◌, ◌∷◌, [], List, ℕ, length, None, OnOk, IsErrOf};
+ghost use Rattle.std.specs.Prelude.{◌≡◌, ◌≤◌, ◌+◌, ◌∷◌, ◌⊎◌, [], List, ℕ, length, None, OnOk};
+ghost use Rattle.std.specs.Prelude.{IsErrOf};
 ghost use Rattle.cy_store.specs.Files.{Holds};
-ghost use Rattle.cy_store.specs.Write.{Put, written_at};
-ghost use Rattle.cy_writer.specs.Causes.{HasCauses};
+ghost use Rattle.std.specs.Option.{option_map};
+ghost use Rattle.cy_store.specs.Write.{Put, after_writes};
+ghost use Rattle.cy_store.specs.Store.{HasWriteCauses};
 ghost use Rattle.cy_writer.specs.Writes.{Makes};
 
 use crate::WriteError;
@@ -16,15 +18,20 @@ pub(crate) fn put<S: Store>(
     bytes: &[u8],
 ) -> Result<(), WriteError>
     requires { Holds (S.shows store.old).files name.now (λ old. at ≤ length old) }
-    ensures makes { Makes (Put name.now at bytes.now ∷ []) (S.shows store.old) (S.shows store.new) result }
-    ensures held { (before : List ℕ) → Holds (S.shows store.old).files name.now (λ old. old ≡ before)
-        → OnOk result (Holds (S.shows store.new).files name.now (λ new. new ≡ written_at before at bytes.now)) }
-    ensures longer { OnOk result (Holds (S.shows store.new).files name.now (λ new. at + length bytes.now ≤ length new)) }
+    ensures makes { Makes (Put name.now at bytes.now ∷ []) (S.shows store.old)
+        (S.shows store.new) result }
+    ensures untouched { IsErrOf result WriteError.Memory → (S.shows store.new).files
+        ≡ (S.shows store.old).files }
+    ensures longer { OnOk result (Holds (S.shows store.new).files name.now
+        (λ new. at + length bytes.now ≤ length new)) }
     ensures kept { (n : ℕ) → Holds (S.shows store.old).files name.now (λ old. n ≤ length old)
-        → (IsErrOf result WriteError.Failed → ⊥) → Holds (S.shows store.new).files name.now (λ new. n ≤ length new) }
-    ensures told { OnOk result ((S.shows store.new).files ≡ None → (S.shows store.old).files ≡ None) }
+        → (IsErrOf result WriteError.Failed → ⊥) → Holds (S.shows store.new).files name.now
+        (λ new. n ≤ length new) }
+    ensures told { OnOk result ((S.shows store.new).files ≡ None → (S.shows store.old).files
+        ≡ None) }
     ensures unbroken { IsErrOf result WriteError.Broken → ⊥ }
-    ensures causes { (any : List ℕ) → HasCauses (S.shows store.old) (S.shows store.new) any result }
+    ensures causes { HasWriteCauses (IsErrOf result WriteError.Failed) (S.shows store.old)
+        (S.shows store.new) }
 {
     store.put_at(name, at, bytes)?;
     Ok(())
@@ -41,15 +48,22 @@ pub(crate) fn put_both<S: Store>(
 ) -> Result<(), WriteError>
     requires there { Holds (S.shows store.old).files name.now (λ old. at ≤ length old) }
     requires follows { second_at ≤ at + length first.now }
-    ensures makes { Makes (Put name.now at first.now ∷ Put name.now second_at second.now ∷ []) (S.shows store.old) (S.shows store.new) result }
-    ensures held { (before : List ℕ) → Holds (S.shows store.old).files name.now (λ old. old ≡ before)
-        → OnOk result (Holds (S.shows store.new).files name.now (λ new. new ≡ written_at (written_at before at first.now) second_at second.now)) }
-    ensures longer { OnOk result (Holds (S.shows store.new).files name.now (λ new. second_at + length second.now ≤ length new)) }
+    ensures makes { Makes (Put name.now at first.now ∷ Put name.now second_at second.now ∷ [])
+        (S.shows store.old) (S.shows store.new) result }
+    ensures half { IsErrOf result WriteError.Memory
+        → ((S.shows store.new).files ≡ (S.shows store.old).files)
+        ⊎ ((S.shows store.new).files ≡ option_map (after_writes (Put name.now at first.now ∷ []))
+        (S.shows store.old).files) }
+    ensures longer { OnOk result (Holds (S.shows store.new).files name.now
+        (λ new. second_at + length second.now ≤ length new)) }
     ensures kept { (n : ℕ) → Holds (S.shows store.old).files name.now (λ old. n ≤ length old)
-        → (IsErrOf result WriteError.Failed → ⊥) → Holds (S.shows store.new).files name.now (λ new. n ≤ length new) }
-    ensures told { OnOk result ((S.shows store.new).files ≡ None → (S.shows store.old).files ≡ None) }
+        → (IsErrOf result WriteError.Failed → ⊥) → Holds (S.shows store.new).files name.now
+        (λ new. n ≤ length new) }
+    ensures told { OnOk result ((S.shows store.new).files ≡ None → (S.shows store.old).files
+        ≡ None) }
     ensures unbroken { IsErrOf result WriteError.Broken → ⊥ }
-    ensures causes { (any : List ℕ) → HasCauses (S.shows store.old) (S.shows store.new) any result }
+    ensures causes { HasWriteCauses (IsErrOf result WriteError.Failed) (S.shows store.old)
+        (S.shows store.new) }
 {
     put(store, name, at, first)?;
     put(store, name, second_at, second)

@@ -1,8 +1,11 @@
 // A writer that is not broken.
-ghost use Rattle.std.specs.Prelude.{◌≡◌, ◌≤◌, ◌<◌, ◌+◌, ◌++◌, ◌∷◌, ◌⊎◌, [], ℕ, List, None, Some, true, slice_get, length, map, vec_len, vec_capacity, IfOk, OnOk, OnErr, IsErrOf, IsOkUnless};
+ghost use Rattle.std.specs.Prelude.{◌≡◌, ◌≤◌, ◌<◌, ◌+◌, ◌++◌, ◌∷◌, ◌⊎◌, [], ℕ, List, None, Some};
+ghost use Rattle.std.specs.Prelude.{true, slice_get, length, map, vec_len, vec_capacity, IfOk};
+ghost use Rattle.std.specs.Prelude.{OnOk, OnErr, IsErrOf, IsOkUnless};
 ghost use Rattle.std.specs.List.{flat_map};
 ghost use Rattle.cy_store.specs.Files.{Holds};
-ghost use Rattle.cy_store.specs.Write.{Create, Put, written_at};
+ghost use Rattle.std.specs.Option.{option_map};
+ghost use Rattle.cy_store.specs.Write.{Put, after_writes};
 ghost use Rattle.cy_section.specs.declared.types.Channel.{Channel};
 ghost use Rattle.cy_section.specs.declared.types.BodyMessage.{BodyMessage};
 ghost use Rattle.cy_section.specs.declared.types.SectionKind.TheVariants as kind;
@@ -10,17 +13,23 @@ ghost use Rattle.cy_section.specs.Section.{section, index_body};
 ghost use Rattle.cy_section.specs.Chunks.{takes};
 ghost use Rattle.cy_section.specs.RecordText.{chunk_header_part, chunk_body_part};
 ghost use Rattle.cy_writer.specs.Writes.{Makes, puts_into};
-ghost use Rattle.cy_writer.specs.Causes.{HasCauses};
-ghost use Rattle.cy_writer.specs.Given.{Given, nothing_given, with_channel, with_chunk, with_message, message_on, IsLeft, IsTextOf, start_puts, channel_puts, chunk_puts, message_puts, close_puts};
-ghost use Rattle.cy_writer.specs.Kept.{cache_of as counted_cache, channel_entry, header_entry, body_entry};
+ghost use Rattle.cy_store.specs.Store.{HasWriteCauses};
+ghost use Rattle.cy_writer.specs.Calls.{Begins, PutsChannel, LeavesOut, TakesMessage, Closes};
+ghost use Rattle.cy_writer.specs.Whole.{StaysWhole};
+ghost use Rattle.cy_writer.specs.Given.{Given, nothing_given, with_channel, with_chunk};
+ghost use Rattle.cy_writer.specs.Given.{with_message, message_on, IsLeft, IsTextOf, start_puts};
+ghost use Rattle.cy_writer.specs.Given.{channel_puts, chunk_puts, message_puts, close_puts};
+ghost use Rattle.cy_writer.specs.Kept.{cache_of as counted_cache, channel_entry, header_entry};
+ghost use Rattle.cy_writer.specs.Kept.{body_entry};
 ghost use Rattle.cy_writer.specs.Stands.{StandsFor, IsNewName, IsHeld};
 
 use crate::WriteError;
 use crate::chunk::{Chunk, NO_MESSAGES, counted};
-use crate::error::no_memory;
+use crate::error::{no_memory_for_section, no_memory_for_text};
 use crate::headers::{Counts, complete, header_section, incomplete};
 use crate::kept::{KeptChannel, KeptChunk, index_entries};
 use crate::put::{put, put_both};
+use crate::sum::sum;
 use cy_msg::{Items, Text};
 use cy_section::{
     Channel, ChannelCache, ChunkHeader, Index, Piece, put_channel, put_chunk_header, put_index,
@@ -31,8 +40,8 @@ use std::alloc::Global;
 /// The place behind the header.
 const HEADER_END: u64 = 2064;
 
-/// What a writer keeps: the length of the file so far, the channels and chunks that were put, the chunk that is gathered, and the
-/// numbers of all messages.
+/// What a writer keeps: the length of the file so far, the channels and chunks that were put, the
+/// chunk that is gathered, and the numbers of all messages.
 #[derive(Drop)]
 pub(crate) struct Writing {
     pub name: Text,
@@ -43,20 +52,13 @@ pub(crate) struct Writing {
     pub counted: ChunkHeader,
 }
 
-// What is put for a chunk beside its body, and the places of the body's section and of what follows it.
+// What is put for a chunk beside its body, and the places of the body's section and of what follows
+// it.
 #[derive(Drop)]
 struct Prepared {
     header: Piece,
     body_position: u64,
     end: u64,
-}
-
-// The place behind bytes at a place; more bytes than a number counts are in no memory.
-fn place_behind(at: u64, bytes: &[u8]) -> Result<u64, WriteError>
-    ensures behind { IfOk result (λ end. end ≡ at + length bytes.now) }
-    ensures only_memory { IsOkUnless result WriteError.Memory }
-{
-    at.checked_add(bytes.len() as u64).ok_or(WriteError::Memory)
 }
 
 // What is kept of a channel, on which no message stands yet.
@@ -77,7 +79,8 @@ fn index_section(
     channels: Vec<KeptChannel>,
     chunks: &[KeptChunk],
 ) -> Result<Piece, WriteError>
-    ensures section { IfOk result (λ p. p ≡ section kind.Index (index_body (map channel_entry channels.items
+    ensures section { IfOk result (λ p. p ≡ section kind.Index
+        (index_body (map channel_entry channels.items
         ++ flat_map (λ k. header_entry k ∷ body_entry k ∷ []) chunks.now))) }
     ensures only_memory { IsOkUnless result WriteError.Memory }
 {
@@ -85,7 +88,7 @@ fn index_section(
         entries: Items::new(index_entries(alloc, channels, chunks)?),
     };
     let mut section = Piece::new(alloc);
-    put_index(&mut section, &index).map_err(no_memory)?;
+    put_index(&mut section, &index).map_err(no_memory_for_section)?;
     Ok(section)
 }
 
@@ -96,7 +99,7 @@ impl Writing {
         ensures only_memory { IsOkUnless result WriteError.Memory }
     {
         Ok(Writing {
-            name: Text::new(alloc, name).map_err(no_memory)?,
+            name: Text::new(alloc, name).map_err(no_memory_for_text)?,
             place: HEADER_END,
             channels: Vec::new(alloc),
             chunks: Vec::new(alloc),
@@ -107,10 +110,7 @@ impl Writing {
 
     /// Makes the file, and puts the header of a record that is still being written.
     pub fn begin<S: Store>(&self, alloc: Global, store: &mut S) -> Result<(), WriteError>
-        ensures makes { Makes (Create self.now.name ∷ puts_into self.now.name start_puts) (S.shows store.old) (S.shows store.new) result }
-        ensures left { OnOk result (IsLeft (nothing_given self.now.name) (S.shows store.new).files) }
-        ensures unbroken { IsErrOf result WriteError.Broken → ⊥ }
-        ensures causes { (any : List ℕ) → HasCauses (S.shows store.old) (S.shows store.new) any result }
+        ensures { Begins self.now.name (S.shows store.old) (S.shows store.new) result }
     {
         let header = header_section(alloc, &incomplete())?;
         store.create(self.name.as_str())?;
@@ -125,19 +125,15 @@ impl Writing {
         channel: Channel,
     ) -> Result<(), WriteError>
         requires { IsHeld self.old (S.shows store.old).files }
-        ensures given { (g : Given) → StandsFor self.old g → g.closed ≡ [] → g.gathered ≡ [] → IsNewName channel.name g.channels → OnOk result (StandsFor self.new (with_channel g channel)) }
-        ensures same { (g : Given) → StandsFor self.old g → OnErr result (StandsFor self.new g) }
-        ensures makes { (g : Given) → StandsFor self.old g → Makes (puts_into g.name (channel_puts g channel)) (S.shows store.old) (S.shows store.new) result }
-        ensures left { (g : Given) → StandsFor self.old g → g.closed ≡ [] → IsLeft g (S.shows store.old).files → OnOk result (IsLeft (with_channel g channel) (S.shows store.new).files) }
-        ensures held { (IsErrOf result WriteError.Failed → ⊥) → IsHeld self.new (S.shows store.new).files }
-        ensures channels { length self.old.channels.items ≤ length self.new.channels.items }
-        ensures one_more { OnOk result (length self.new.channels.items ≡ length self.old.channels.items + 1) }
-        ensures unbroken { IsErrOf result WriteError.Broken → ⊥ }
-        ensures causes { (any : List ℕ) → HasCauses (S.shows store.old) (S.shows store.new) any result }
+        ensures puts { PutsChannel (StandsFor self.old) (StandsFor self.new) channel
+            (S.shows store.old) (S.shows store.new) result }
+        ensures stays { StaysWhole self.old self.new (S.shows store.new) result }
+        ensures one_more { OnOk result (length self.new.channels.items
+            ≡ length self.old.channels.items + 1) }
     {
         let mut section = Piece::new(alloc);
-        put_channel(&mut section, &channel).map_err(no_memory)?;
-        let end = place_behind(self.place, section.bytes())?;
+        put_channel(&mut section, &channel).map_err(no_memory_for_section)?;
+        let end = sum(self.place, section.bytes().len() as u64)?;
         self.channels.reserve(1)?;
         put(store, self.name.as_str(), self.place, section.bytes())?;
         self.channels.push_reserved(KeptChannel {
@@ -152,9 +148,12 @@ impl Writing {
     fn prepared(&mut self, alloc: Global) -> Result<Prepared, WriteError>
         requires { 1 ≤ self.old.chunk.header.message_number }
         ensures same { (g : Given) → StandsFor self.old g → StandsFor self.new g }
-        ensures header { (g : Given) → StandsFor self.old g → IfOk result (λ p. p.header ≡ (chunk_header_part g.gathered).bytes) }
-        ensures body { (g : Given) → StandsFor self.old g → OnOk result (self.new.chunk.section ≡ (chunk_body_part g.gathered).bytes) }
-        ensures body_position { IfOk result (λ p. p.body_position ≡ self.old.place + length p.header) }
+        ensures header { (g : Given) → StandsFor self.old g
+            → IfOk result (λ p. p.header ≡ (chunk_header_part g.gathered).bytes) }
+        ensures body { (g : Given) → StandsFor self.old g
+            → OnOk result (self.new.chunk.section ≡ (chunk_body_part g.gathered).bytes) }
+        ensures body_position { IfOk result (λ p. p.body_position
+            ≡ self.old.place + length p.header) }
         ensures end { IfOk result (λ p. p.end ≡ p.body_position + length self.new.chunk.section) }
         ensures room { OnOk result (vec_len self.new.chunks + 1 ≤ vec_capacity self.new.chunks) }
         ensures name { self.new.name ≡ self.old.name }
@@ -163,11 +162,11 @@ impl Writing {
         ensures only_memory { IsOkUnless result WriteError.Memory }
     {
         let mut header = Piece::new(alloc);
-        put_chunk_header(&mut header, &self.chunk.header).map_err(no_memory)?;
+        put_chunk_header(&mut header, &self.chunk.header).map_err(no_memory_for_section)?;
         self.chunks.reserve(1)?;
         self.chunk.finish();
-        let body_position = place_behind(self.place, header.bytes())?;
-        let end = place_behind(body_position, self.chunk.body_section())?;
+        let body_position = sum(self.place, header.bytes().len() as u64)?;
+        let end = sum(body_position, self.chunk.body_section().len() as u64)?;
         Ok(Prepared {
             header,
             body_position,
@@ -178,15 +177,25 @@ impl Writing {
     // Puts the two sections of a chunk.
     fn put_sections<S: Store>(&self, store: &mut S, prepared: &Prepared) -> Result<(), WriteError>
         requires held { IsHeld self.now (S.shows store.old).files }
-        requires follows { prepared.now.body_position ≡ self.now.place + length prepared.now.header }
-        ensures makes { Makes (Put self.now.name self.now.place prepared.now.header ∷ Put self.now.name prepared.now.body_position self.now.chunk.section ∷ []) (S.shows store.old) (S.shows store.new) result }
-        ensures written { (before : List ℕ) → Holds (S.shows store.old).files self.now.name (λ old. old ≡ before)
-            → OnOk result (Holds (S.shows store.new).files self.now.name (λ new. new ≡ written_at (written_at before self.now.place prepared.now.header) prepared.now.body_position self.now.chunk.section)) }
-        ensures longer { OnOk result (Holds (S.shows store.new).files self.now.name (λ new. prepared.now.body_position + length self.now.chunk.section ≤ length new)) }
-        ensures held { (IsErrOf result WriteError.Failed → ⊥) → IsHeld self.now (S.shows store.new).files }
-        ensures told { OnOk result ((S.shows store.new).files ≡ None → (S.shows store.old).files ≡ None) }
+        requires follows { prepared.now.body_position
+            ≡ self.now.place + length prepared.now.header }
+        ensures makes { Makes (Put self.now.name self.now.place prepared.now.header
+            ∷ Put self.now.name prepared.now.body_position self.now.chunk.section ∷ [])
+            (S.shows store.old) (S.shows store.new) result }
+        ensures half { IsErrOf result WriteError.Memory
+            → ((S.shows store.new).files ≡ (S.shows store.old).files)
+            ⊎ ((S.shows store.new).files
+            ≡ option_map (after_writes (Put self.now.name self.now.place prepared.now.header ∷ []))
+            (S.shows store.old).files) }
+        ensures longer { OnOk result (Holds (S.shows store.new).files self.now.name
+            (λ new. prepared.now.body_position + length self.now.chunk.section ≤ length new)) }
+        ensures held { (IsErrOf result WriteError.Failed → ⊥)
+            → IsHeld self.now (S.shows store.new).files }
+        ensures told { OnOk result ((S.shows store.new).files ≡ None → (S.shows store.old).files
+            ≡ None) }
         ensures unbroken { IsErrOf result WriteError.Broken → ⊥ }
-        ensures causes { (any : List ℕ) → HasCauses (S.shows store.old) (S.shows store.new) any result }
+        ensures causes { HasWriteCauses (IsErrOf result WriteError.Failed) (S.shows store.old)
+            (S.shows store.new) }
     {
         let body = self.chunk.body_section();
         put_both(
@@ -202,8 +211,11 @@ impl Writing {
     // Notes the chunk that was put, and begins the next one.
     fn note_chunk(&mut self, prepared: &Prepared)
         requires { vec_len self.old.chunks + 1 ≤ vec_capacity self.old.chunks }
-        ensures given { (g : Given) → StandsFor self.old g → prepared.now.header ≡ (chunk_header_part g.gathered).bytes → self.old.chunk.section ≡ (chunk_body_part g.gathered).bytes
-            → prepared.now.body_position ≡ self.old.place + length prepared.now.header → prepared.now.end ≡ prepared.now.body_position + length self.old.chunk.section
+        ensures given { (g : Given) → StandsFor self.old g → prepared.now.header
+            ≡ (chunk_header_part g.gathered).bytes → self.old.chunk.section
+            ≡ (chunk_body_part g.gathered).bytes
+            → prepared.now.body_position ≡ self.old.place + length prepared.now.header
+            → prepared.now.end ≡ prepared.now.body_position + length self.old.chunk.section
             → StandsFor self.new (with_chunk g) }
         ensures name { self.new.name ≡ self.old.name }
         ensures place { self.new.place ≡ prepared.now.end }
@@ -222,15 +234,21 @@ impl Writing {
     fn put_chunk<S: Store>(&mut self, alloc: Global, store: &mut S) -> Result<(), WriteError>
         requires held { IsHeld self.old (S.shows store.old).files }
         requires some { 1 ≤ self.old.chunk.header.message_number }
-        ensures given { (g : Given) → StandsFor self.old g → OnOk result (StandsFor self.new (with_chunk g)) }
+        ensures given { (g : Given) → StandsFor self.old g
+            → OnOk result (StandsFor self.new (with_chunk g)) }
         ensures same { (g : Given) → StandsFor self.old g → OnErr result (StandsFor self.new g) }
-        ensures makes { (g : Given) → StandsFor self.old g → Makes (puts_into g.name (chunk_puts g)) (S.shows store.old) (S.shows store.new) result }
-        ensures left { (g : Given) → StandsFor self.old g → IsLeft g (S.shows store.old).files → OnOk result (IsLeft (with_chunk g) (S.shows store.new).files) }
-        ensures held { (IsErrOf result WriteError.Failed → ⊥) → IsHeld self.new (S.shows store.new).files }
+        ensures makes { (g : Given) → StandsFor self.old g → Makes (puts_into g.name (chunk_puts g))
+            (S.shows store.old) (S.shows store.new) result }
+        ensures starved { (g : Given) → StandsFor self.old g → IsErrOf result WriteError.Memory
+            → LeavesOut (StandsFor self.new) g g (S.shows store.old) (S.shows store.new) }
+        ensures held { (IsErrOf result WriteError.Failed → ⊥)
+            → IsHeld self.new (S.shows store.new).files }
         ensures channels { length self.new.channels.items ≡ length self.old.channels.items }
-        ensures told { OnOk result ((S.shows store.new).files ≡ None → (S.shows store.old).files ≡ None) }
+        ensures told { OnOk result ((S.shows store.new).files ≡ None → (S.shows store.old).files
+            ≡ None) }
         ensures unbroken { IsErrOf result WriteError.Broken → ⊥ }
-        ensures causes { (any : List ℕ) → HasCauses (S.shows store.old) (S.shows store.new) any result }
+        ensures causes { HasWriteCauses (IsErrOf result WriteError.Failed) (S.shows store.old)
+            (S.shows store.new) }
     {
         let prepared = self.prepared(alloc)?;
         self.put_sections(store, &prepared)?;
@@ -241,8 +259,10 @@ impl Writing {
     // Gathers a message, which the chunk takes.
     fn gather(&mut self, channel: u32, time: u64, content: &[u8]) -> Result<(), WriteError>
         requires { channel < length self.old.channels.items }
-        ensures given { (g : Given) (c : Channel) → StandsFor self.old g → slice_get g.channels channel ≡ Some c
-            → takes g.gathered (message_on c time content.now) ≡ true → OnOk result (StandsFor self.new (with_message g (message_on c time content.now))) }
+        ensures given { (g : Given) (c : Channel) → StandsFor self.old g
+            → slice_get g.channels channel ≡ Some c
+            → takes g.gathered (message_on c time content.now) ≡ true
+            → OnOk result (StandsFor self.new (with_message g (message_on c time content.now))) }
         ensures same { (g : Given) → StandsFor self.old g → OnErr result (StandsFor self.new g) }
         ensures place { self.new.place ≡ self.old.place }
         ensures name { self.new.name ≡ self.old.name }
@@ -270,17 +290,10 @@ impl Writing {
     ) -> Result<(), WriteError>
         requires channel { channel < length self.old.channels.items }
         requires held { IsHeld self.old (S.shows store.old).files }
-        ensures given { (g : Given) (c : Channel) → StandsFor self.old g → slice_get g.channels channel ≡ Some c
-            → OnOk result (StandsFor self.new (with_message g (message_on c time content.now))) }
-        ensures memory { (g : Given) → StandsFor self.old g → IsErrOf result WriteError.Memory → StandsFor self.new g ⊎ StandsFor self.new (with_chunk g) }
-        ensures makes { (g : Given) (c : Channel) → StandsFor self.old g → slice_get g.channels channel ≡ Some c
-            → Makes (puts_into g.name (message_puts g (message_on c time content.now))) (S.shows store.old) (S.shows store.new) result }
-        ensures left { (g : Given) (c : Channel) → StandsFor self.old g → slice_get g.channels channel ≡ Some c
-            → IsLeft g (S.shows store.old).files → OnOk result (IsLeft (with_message g (message_on c time content.now)) (S.shows store.new).files) }
-        ensures held { (IsErrOf result WriteError.Failed → ⊥) → IsHeld self.new (S.shows store.new).files }
-        ensures channels { length self.new.channels.items ≡ length self.old.channels.items }
-        ensures unbroken { IsErrOf result WriteError.Broken → ⊥ }
-        ensures causes { (any : List ℕ) → HasCauses (S.shows store.old) (S.shows store.new) any result }
+        ensures takes { TakesMessage (StandsFor self.old)
+            (StandsFor self.new) channel time content.now
+            (S.shows store.old) (S.shows store.new) result }
+        ensures stays { StaysWhole self.old self.new (S.shows store.new) result }
     {
         let name = self.channels[channel as usize].cache.name.as_str();
         if self.chunk.takes(name, time, content) {
@@ -293,10 +306,12 @@ impl Writing {
     // Puts the index and the complete header.
     fn put_end<S: Store>(self, alloc: Global, store: &mut S) -> Result<(), WriteError>
         requires { IsHeld self (S.shows store.old).files }
-        ensures makes { (g : Given) → StandsFor self g → g.gathered ≡ [] → Makes (puts_into g.name (close_puts g)) (S.shows store.old) (S.shows store.new) result }
-        ensures text { (g : Given) → StandsFor self g → g.gathered ≡ [] → IsLeft g (S.shows store.old).files → OnOk result (Holds (S.shows store.new).files g.name (IsTextOf g)) }
+        ensures makes { (g : Given) → StandsFor self g → g.gathered ≡ []
+            → Makes (puts_into g.name (close_puts g)) (S.shows store.old)
+            (S.shows store.new) result }
         ensures unbroken { IsErrOf result WriteError.Broken → ⊥ }
-        ensures causes { (any : List ℕ) → HasCauses (S.shows store.old) (S.shows store.new) any result }
+        ensures causes { HasWriteCauses (IsErrOf result WriteError.Failed) (S.shows store.old)
+            (S.shows store.new) }
     {
         let Writing {
             name,
@@ -312,7 +327,7 @@ impl Writing {
             chunk_number: chunks.len() as u64,
             channel_number,
             index_position: place,
-            size: place_behind(place, index.bytes())?,
+            size: sum(place, index.bytes().len() as u64)?,
         };
         let header = header_section(alloc, &complete(&counts, &counted))?;
         put_both(
@@ -328,10 +343,8 @@ impl Writing {
     /// Puts the last chunk, the index and the complete header.
     pub fn close<S: Store>(self, alloc: Global, store: &mut S) -> Result<(), WriteError>
         requires { IsHeld self (S.shows store.old).files }
-        ensures makes { (g : Given) → StandsFor self g → Makes (puts_into g.name (close_puts g)) (S.shows store.old) (S.shows store.new) result }
-        ensures text { (g : Given) → StandsFor self g → IsLeft g (S.shows store.old).files → OnOk result (Holds (S.shows store.new).files g.name (IsTextOf g)) }
+        ensures closes { Closes (StandsFor self) (S.shows store.old) (S.shows store.new) result }
         ensures unbroken { IsErrOf result WriteError.Broken → ⊥ }
-        ensures causes { (any : List ℕ) → HasCauses (S.shows store.old) (S.shows store.new) any result }
     {
         if self.chunk.is_empty() {
             return self.put_end(alloc, store);

@@ -1,12 +1,10 @@
 use Rattle.std.proofs.Common.{rules, ◌≡◌, ◌+◌, ◌∷◌, [], List, ℕ, length, ap, sym, subst, ◌∙◌}
-use Rattle.cy_store.specs.Files.{Holds}
-use Rattle.cy_store.specs.Write.{Write, Put, written_at}
+use Rattle.cy_store.specs.Write.{Write, Put}
 use Rattle.cy_section.specs.Section.{header_section}
 use Rattle.cy_section.specs.RecordText.{parts_of, index_section, complete_header}
 use Rattle.cy_writer.specs.Writes.{Makes, puts_into}
-use Rattle.cy_writer.specs.Given.{front_of, chunks_of, close_puts, IsTextOf}
-use Rattle.cy_writer.proofs.Puts.{on_ok, holds_weaker}
-use Rattle.cy_writer.proofs.Closing.{entries_put, header_put, close_puts-none, text_put, text_of}
+use Rattle.cy_writer.specs.Given.{front_of, chunks_of, close_puts}
+use Rattle.cy_writer.proofs.Closing.{entries_put, header_put, close_puts-none}
 use Rattle.cy_writer.proofs.writing.Writing.put_end.Goals as goal
 
 pub returns-clause-makes : goal.returns-clause-makes
@@ -14,7 +12,7 @@ returns-clause-makes g c given held none =
     let o = c.args.self in
     let entries = entries_put o given held none in
     let index : c.in_ok-index.index ≡ index_section (parts_of given.channels given.closed) = rw (← entries, ← c.deref.ensures.value) c.in_ok-index.ensures.section in
-    let size : c.in_ok-place_behind.field-0 ≡ o.place + length c.in_ok-index.index = search rules in
+    let size : c.in_ok-sum.field-0 ≡ o.place + length c.in_ok-index.index = search rules in
     let chunks : c.len.result ≡ length o.chunks.items = search rules in
     let channels : c.len-channel_number.result ≡ length o.channels.items = search rules in
     let header : c.complete.result ≡ complete_header given.channels (chunks_of given) =
@@ -31,31 +29,3 @@ returns-clause-makes g c given held none =
     ∙ ap (W given.name (length (front_of given)) (index_section (parts_of given.channels given.closed))) header_bytes
     ∙ sym (ap (puts_into given.name) (close_puts-none given none)) in
     subst (λ (ws : List Write). Makes ws (g.S.Store.shows c.args.store.now) (g.S.Store.shows c.put_both.new.store) c.put_both.result) writes c.put_both.ensures.makes
-
-pub returns-clause-text : goal.returns-clause-text
-returns-clause-text g c given held none left =
-    let o = c.args.self in
-    let old = g.S.Store.shows c.args.store.now in
-    let new = g.S.Store.shows c.put_both.new.store in
-    let entries = entries_put o given held none in
-    let index : c.in_ok-index.index ≡ index_section (parts_of given.channels given.closed) = rw (← entries, ← c.deref.ensures.value) c.in_ok-index.ensures.section in
-    let size : c.in_ok-place_behind.field-0 ≡ o.place + length c.in_ok-index.index = search rules in
-    let chunks : c.len.result ≡ length o.chunks.items = search rules in
-    let channels : c.len-channel_number.result ≡ length o.channels.items = search rules in
-    let header : c.complete.result ≡ complete_header given.channels (chunks_of given) =
-    c.complete.ensures ∙ rw (chunks, channels, size) (header_put o given c.in_ok-index.index held none index) in
-    let index_bytes : c.bytes-2.result.now ≡ index_section (parts_of given.channels given.closed) = c.bytes-2.ensures ∙ index in
-    let header_bytes : c.bytes-3.result.now ≡ header_section (complete_header given.channels (chunks_of given)) =
-    c.bytes-3.ensures ∙ c.in_ok-header.ensures.section ∙ ap header_section header in
-    let named = c.as_str.ensures.value ∙ held.name in
-    let Before : List ℕ → Type 0 = λ name. Holds old.files name (λ bytes. bytes ≡ front_of given) in
-    let After : List ℕ → Type 0 = λ name. Holds new.files name (IsTextOf given) in
-    on_ok c.put_both.result
-    (λ h. subst After named
-    (holds_weaker new.files c.as_str.result.now _ (IsTextOf given)
-    (λ bytes e. text_of given bytes
-    (e
-    ∙ ap (λ (i : List ℕ). written_at (written_at (front_of given) o.place i) 0 c.bytes-3.result.now) index_bytes
-    ∙ ap (written_at (written_at (front_of given) o.place (index_section (parts_of given.channels given.closed))) 0) header_bytes
-    ∙ text_put given o.place none held.place)) h))
-    (c.put_both.ensures.held (front_of given) (subst Before (sym named) left))

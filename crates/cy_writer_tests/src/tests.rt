@@ -1,6 +1,6 @@
 // Records byte by byte, and puts that fail in turn.
-use crate::{RecordWriter, WriteError};
 use cy_store::{MemStore, Store};
+use cy_writer::{RecordWriter, WriteError};
 use std::alloc::Global;
 use std::process::Abort;
 use std::test::Fail;
@@ -112,7 +112,7 @@ fn holds(store: &MemStore, header: &[u8], sections: &[u8]) -> bool {
 }
 
 #[test]
-fn records(rt: HostRuntime) -> Result<(), Fail> {
+fn writes_records_byte_by_byte(rt: HostRuntime) -> Result<(), Fail> {
     let alloc = rt.alloc();
     let mut one = MemStore::new(alloc);
     write_one(alloc, &mut one)?;
@@ -129,7 +129,7 @@ fn records(rt: HostRuntime) -> Result<(), Fail> {
 }
 
 #[test]
-fn sixth_put_fails(rt: HostRuntime) -> Result<(), Fail> {
+fn stands_as_it_was_before_the_sixth_put(rt: HostRuntime) -> Result<(), Fail> {
     let alloc = rt.alloc();
     let mut store = MemStore::new(alloc);
     store.fail_put(6, 0)?;
@@ -139,7 +139,7 @@ fn sixth_put_fails(rt: HostRuntime) -> Result<(), Fail> {
 }
 
 #[test]
-fn broken_stays_broken(rt: HostRuntime) -> Result<(), Fail> {
+fn stays_broken_after_a_failure(rt: HostRuntime) -> Result<(), Fail> {
     let alloc = rt.alloc();
     let mut store = MemStore::new(alloc);
     store.fail_put(2, 0)?;
@@ -148,6 +148,8 @@ fn broken_stays_broken(rt: HostRuntime) -> Result<(), Fail> {
     assert_eq!(rt; first, Err(WriteError::Failed));
     let second = writer.channel(alloc, &mut store, "/in", "", b"");
     assert_eq!(rt; second, Err(WriteError::Broken));
+    let third = writer.message(alloc, &mut store, 0, 100, b"\x08\x0e");
+    assert_eq!(rt; third, Err(WriteError::Broken));
     assert_eq!(rt; writer.close(alloc, &mut store), Err(WriteError::Broken));
     assert!(rt; holds(&store, OPEN_HEADER, b""));
     Ok(())
@@ -163,7 +165,8 @@ fn write_three<S: Store>(alloc: Global, store: &mut S) -> Result<(), WriteError>
     writer.close(alloc, store)
 }
 
-// What stands where this put of three chunks kept so many bytes and failed, behind sections that end here.
+// What stands where this put of three chunks kept so many bytes and failed, behind sections that
+// end here.
 fn stands(rt: &impl Abort, alloc: Global, put: u64, keep: usize, end: usize) -> Result<(), Fail> {
     let mut store = MemStore::new(alloc);
     store.fail_put(put, keep)?;
@@ -188,9 +191,10 @@ fn stands(rt: &impl Abort, alloc: Global, put: u64, keep: usize, end: usize) -> 
     Ok(())
 }
 
-/// The puts are those of the header, the channel, two sections a chunk, the index and the header again.
+// The puts are those of the header, the channel, two sections a chunk, the index and the header
+// again.
 #[test]
-fn every_put_fails_in_turn(rt: HostRuntime) -> Result<(), Fail> {
+fn fails_each_put_in_turn(rt: HostRuntime) -> Result<(), Fail> {
     let alloc = rt.alloc();
     for (put, end) in [
         (1, 0),

@@ -1,7 +1,0 @@
-use Rattle.std.proofs.Common.{rules}
-use Rattle.cy_writer.proofs.Puts.{causes_same}
-use Rattle.cy_writer.proofs.writer.RecordWriter.message.Goals as goal
-
-pub returns-clause-causes : goal.returns-clause-causes
-returns-clause-causes g c any =
-    causes_same c.message-result.result c.broken_by.result any (g.S.Store.shows c.args.store.now) (g.S.Store.shows c.message-result.new.store) (c.message-result.ensures.causes any) (λ e. search rules)
