@@ -1,0 +1,63 @@
+use Rattle.std.proofs.Common.{◌<◌, ◌+◌, ◌-◌, suc, length, refl, arith, inl, inr}
+use Rattle.std.proofs.lemmas.List.Elements.{All-nil}
+use Rattle.std.proofs.lemmas.Result.{err_from_is_err_and}
+use Rattle.cy_reader.specs.Found.{seen_section}
+use Rattle.cy_reader.specs.Loading.{contents_of}
+use Rattle.cy_reader.proofs.Meeting.{section_read, section_wrong, sections_end, sections_fault, one_less}
+use Rattle.cy_reader.proofs.loading.sections_met.Goals as goal
+
+pub loop-loading-init : goal.loop-loading-init
+loop-loading-init c = (
+  suc (length c.args.file.now),
+  omega arith,
+  c.requires.long,
+  record {
+    small = rw c.new.ensures.items (record { few = omega arith; small = omega arith });
+    few = rw c.new-2.ensures.items (omega arith);
+    numbered = rw c.new-2.ensures.items (All-nil _);
+  },
+  rw (c.new.ensures.items, c.new-2.ensures.items) refl,
+)
+
+pub returns-in_err-section-clause-met : goal.returns-in_err-section-clause-met
+returns-in_err-section-clause-met c =
+    let p = err_from_is_err_and c.from_residual.result c.from_residual.ensures.1 in
+    let inv = c.loop-loading.invariant in
+    let less = one_less inv.0 (omega (arith, inv.1)) in
+    rw (p.1, p.2) (inr (sections_fault c.args.file.now less.0 c.loop-loading.at (contents_of c.args.file.now c.loop-loading.loading) c.in_err-section.field-0.0 _ c.in_err-section.ensures.section (rw less.1 at inv.4)))
+
+pub returns-in_err-section_met-clause-met : goal.returns-in_err-section_met-clause-met
+returns-in_err-section_met-clause-met c =
+    let p = err_from_is_err_and c.from_residual-in_err-section_met.result c.from_residual-in_err-section_met.ensures.1 in
+    let inv = c.loop-loading.invariant in
+    let less = one_less inv.0 (omega (arith, inv.1)) in
+    let found = rw c.in-Some.is at c.in_ok-section.ensures.section in
+    rw (p.1, p.2) (elim c.in_err-section_met.ensures.met [
+      | inl memory ↦ inl memory
+      | inr wrong ↦ inr (section_wrong c.args.file.now less.0 c.loop-loading.at (seen_section c.in-Some.section) (contents_of c.args.file.now c.loop-loading.loading) _ _ found wrong (rw less.1 at inv.4))
+    ])
+
+pub loop-loading-preserved : goal.loop-loading-preserved
+loop-loading-preserved c =
+    let inv = c.loop-loading.invariant in
+    let less = one_less inv.0 (omega (arith, inv.1)) in
+    let found = rw c.in-Some.is at c.in_ok-section.ensures.section in
+    let stands = rw c.in-Some.is at c.in_ok-section.ensures.stands in
+    let inside = stands.1.inside in
+    let start = stands.0 in
+    let fuel = inv.1 in
+    let more = less.1 in
+    let room : length c.args.file.now - (c.in-Some.section.body_at + length c.in-Some.section.body.now) < less.0 = omega arith in (
+      less.0,
+      room,
+      inside,
+      c.in_ok-section_met.ensures.still_sound,
+      section_read c.args.file.now less.0 c.loop-loading.at (seen_section c.in-Some.section) (contents_of c.args.file.now c.loop-loading.loading) (contents_of c.args.file.now c.section_met.new.loading) _ found c.in_ok-section_met.ensures.met (rw less.1 at inv.4),
+    )
+
+pub returns-clause-met : goal.returns-clause-met
+returns-clause-met c =
+    let inv = c.loop-loading.invariant in
+    let less = one_less inv.0 (omega (arith, inv.1)) in
+    let found = rw c.in_default.is at c.in_ok-section.ensures.section in
+    sections_end c.args.file.now less.0 c.loop-loading.at (contents_of c.args.file.now c.loop-loading.loading) _ found (rw less.1 at inv.4)

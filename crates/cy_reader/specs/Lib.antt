@@ -1,0 +1,6 @@
+pub mod Sections
+pub mod Record
+pub mod Found
+pub mod Loading
+pub mod Stands
+pub mod Load

@@ -1,0 +1,50 @@
+-- What the program keeps of a file while it reads it.
+use Rattle.std.specs.Prelude.{◌≡◌, ◌⊎◌, ℕ, ◌≤◌, ◌<◌, ◌^◌, All, List, length, take, drop, map}
+use Rattle.std.specs.Prelude.{sum_by, Result, Ok, Err}
+use Rattle.cy_reader.specs.declared.error.LoadError.{LoadError}
+use Rattle.cy_reader.specs.declared.error.LoadError.TheVariants as load_error
+use Rattle.cy_reader.specs.declared.known.Known.{Known}
+use Rattle.cy_reader.specs.declared.loading.Message.{Message}
+use Rattle.cy_reader.specs.declared.loading.Loading.{Loading}
+use Rattle.cy_reader.specs.Record as meaning
+use Rattle.cy_reader.specs.Record.{Contents, size_of, most_channels, largest_channels}
+
+-- Channels within their limits.
+pub record AreSmall (channels : List Known) : Type 0 where
+  pub few : length channels ≤ most_channels
+  pub small : sum_by size_of channels ≤ largest_channels
+
+-- What is kept of a file at any moment: fewer messages than 32 bits count, each on a channel that
+-- is kept.
+pub record IsSound (l : Loading) : Type 0 where
+  pub small : AreSmall l.channels.items
+  pub few : length l.messages.items < 2 ^ 32
+  pub numbered : All (λ m. m.channel < length l.channels.items) l.messages.items
+
+-- A message, with the content that stands in the file.
+abbrev pub message_of : List ℕ → Message → meaning.Message
+message_of file m = record {
+  channel = m.channel;
+  time = m.time;
+  content = take m.length
+      (drop m.start file);
+}
+
+abbrev pub contents_of : List ℕ → Loading → Contents
+contents_of file l = record {
+  channels = l.channels.items;
+  messages = map
+      (message_of file) l.messages.items;
+}
+
+-- What stands then is what is read; or the answer is what is read in its place, or that there is no
+-- memory.
+abbrev pub Leads : {A B : Type 0} → Result A LoadError → B → Result B LoadError → Type 0
+Leads (Ok x) now read = read ≡ Ok now
+Leads (Err e) now read = (e ≡ load_error.Memory) ⊎ (read ≡ Err e)
+
+-- The same of a message that comes after others: where a limit was passed before it, that stays.
+abbrev pub Kept : {B : Type 0} → Result (Unit {0}) LoadError → Result (Unit {0}) LoadError → B
+    → Result B LoadError → Type 0
+Kept (Ok x) result now read = Leads result now read
+Kept (Err e) result now read = result ≡ Err e

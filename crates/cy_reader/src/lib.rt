@@ -1,0 +1,18 @@
+//! Records that are read: the channels and messages of a file, or its first fault or passed limit
+//! with its place.
+//!
+//! `specs/Sections` splits a file into whole sections, and `specs/Record` says what they hold
+//! together.
+#![tactic(auto)]
+
+mod error;
+mod file;
+mod header;
+mod known;
+mod loading;
+mod record;
+mod sections;
+
+pub use error::LoadError;
+pub use known::Known;
+pub use record::{Record, load};
