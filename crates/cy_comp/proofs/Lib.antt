@@ -1,1 +1,4 @@
 pub mod Alone
+pub mod Slides
+pub mod Taking
+pub mod Ends

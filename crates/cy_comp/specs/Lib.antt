@@ -1,3 +1,9 @@
+pub mod Kind
 pub mod Step
+pub mod Sums
+pub mod Body
+pub mod Class
 pub mod Calls
+pub mod Routine
+pub mod Keeping
 pub mod Wiring

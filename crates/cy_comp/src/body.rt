@@ -1,12 +1,16 @@
 // A component's own state.
 ghost use Rattle.std.specs.Prelude.{◌≡◌, ◌≤◌, length, IfOk};
-ghost use Rattle.cy_msg.specs.Tuple.{messages_of, first_of};
-ghost use Rattle.cy_comp.specs.declared.call.Kind.{Kind};
-ghost use Rattle.cy_comp.specs.Step.{Kept, Nothing, opening_of, step, messages_needed, passed};
+ghost use Rattle.cy_msg.specs.Tuple.{messages_of};
+ghost use Rattle.cy_comp.specs.declared.kind.Kind.{Kind};
+ghost use Rattle.cy_comp.specs.Kind.{messages_needed};
+ghost use Rattle.cy_comp.specs.Step.{Kept, step};
+ghost use Rattle.cy_comp.specs.Body.{new_body};
 
-use crate::{CompError, Kind, Out, Outcome};
-use cy_msg::{Token, Tuple};
+use crate::class::Class;
+use crate::{CompError, Kind, Outcome};
+use cy_msg::Tuple;
 use std::alloc::Global;
+use std::marker::Model;
 
 /// What answers to calls.
 pub trait Component {
@@ -24,53 +28,40 @@ pub trait Component {
         ensures kind { kind self.new ≡ kind self.old };
 }
 
-/// A component of some class, in its opening state.
-#[derive(Clone, Copy, Debug, PartialEq, Eq)]
+/// A component of any class. Contracts see it as its class and what it keeps.
+#[derive(Drop)]
 pub struct Body {
-    kind: Kind,
+    class: Class,
+}
+
+impl Model for Body {
+    ghost use Rattle.cy_comp.specs.Body.{BodyView};
+
+    ghost Value = { BodyView };
+
+    ghost use Rattle.cy_comp.specs.Class.{body_of};
+
+    ghost view = { λ b. body_of b.class };
 }
 
 impl Body {
-    /// A component before its first call.
-    pub fn new(_alloc: Global, kind: &Kind) -> Result<Self, CompError>
-        ensures kind { IfOk result (λ b. ⟦<Body as Component>⟧.kind b ≡ kind.now) }
-        ensures kept { IfOk result (λ b. ⟦<Body as Component>⟧.kept b ≡ opening_of kind.now) }
+    /// A component before its first call. It takes all the memory that its calls need; its only
+    /// error is `Memory`.
+    pub fn new(alloc: Global, kind: &Kind) -> Result<Self, CompError>
+        ensures { IfOk result (λ b. b ≡ new_body kind.now) }
     {
-        Ok(Body { kind: *kind })
-    }
-}
-
-// A message passed on.
-fn passed_on(message: &Token) -> Out
-    ensures { result ≡ passed message.now }
-{
-    Out {
-        time: message.time,
-        whole: message.whole,
-        origin: message.origin,
-    }
-}
-
-// The message that triggered a call.
-fn first_message(tuple: &Tuple) -> Token
-    ensures { result ≡ first_of tuple.now }
-{
-    match *tuple {
-        Tuple::One(first) => first,
-        Tuple::Two(first, _) => first,
-        Tuple::Three(first, _, _) => first,
-        Tuple::Four(first, _, _, _) => first,
+        Ok(Body {
+            class: Class::new(alloc, *kind)?,
+        })
     }
 }
 
 impl Component for Body {
     ghost kind = { λ b. b.kind };
 
-    ghost kept = { λ _. Nothing };
+    ghost kept = { λ b. b.kept };
 
     fn step(&mut self, tuple: &Tuple) -> Outcome {
-        match self.kind {
-            Kind::Pass => Outcome::Emit(Some(passed_on(&first_message(tuple)))),
-        }
+        self.class.step(tuple)
     }
 }

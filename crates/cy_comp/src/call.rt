@@ -1,12 +1,5 @@
-// Component classes, and what a call takes and gives.
+// What a call takes and gives.
 use cy_msg::Tuple;
-
-/// The class of a component, with its parameters.
-#[derive(Clone, Copy, Debug, PartialEq, Eq)]
-pub enum Kind {
-    /// Passes each message on.
-    Pass,
-}
 
 /// What a call puts out: a message that has no number on its channel yet.
 #[derive(Clone, Copy, Debug, PartialEq, Eq)]
@@ -15,7 +8,8 @@ pub struct Out {
     pub time: u64,
     /// The whole number that its content stands for, where it stands for one.
     pub whole: Option<i64>,
-    /// The place in the play list of the message whose content it has; none where its content is the written form of `whole`.
+    /// The place in the play list of the message whose content it has; none where its content is
+    /// the written form of `whole`.
     pub origin: Option<u32>,
 }
 

@@ -1,19 +1,28 @@
 //! Components: their classes, what a call of one gives, and how they are wired to channels.
 //!
-//! `specs/Step` has what each class answers, `specs/Calls` which calls are lawful and what they put out, `specs/Wiring` what a
-//! wiring keeps.
+//! `specs/Step` has what each class answers, `specs/Calls` which calls are lawful and what they put
+//! out, `specs/Wiring` what a wiring keeps.
 #![tactic(auto)]
 
 mod body;
 mod call;
+mod class;
+mod ended;
 mod error;
+mod kind;
+mod messages;
 mod plan;
-#[cfg(test)]
-mod tests;
+mod routine;
+mod state;
+mod window;
 mod wiring;
 
 pub use body::{Body, Component};
-pub use call::{Call, Kind, Out, Outcome};
+pub use call::{Call, Out, Outcome};
+pub use ended::{is_finished, next_cursor};
 pub use error::CompError;
+pub use kind::{Kind, MOST_WINDOW};
 pub use plan::Plan;
+pub use routine::Routine;
+pub use state::State;
 pub use wiring::Wiring;

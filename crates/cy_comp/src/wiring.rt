@@ -11,18 +11,31 @@ pub struct Wiring {
     pub names: Names,
     /// The components.
     pub plans: Items<Plan>,
-    ghost lawful: { IsWiring names plans },
+    pub ghost lawful: { IsWiring names plans },
 }
 
 impl Wiring {
     ghost use Rattle.std.specs.Prelude.{◌≡◌, ◌≢◌, ◌<◌, ◌≤◌, [], ◌∷◌, length};
     ghost use Rattle.cy_comp.specs.declared.plan.Plan.{Plan};
+    ghost use Rattle.cy_comp.specs.declared.kind.Kind.TheVariants.{Pass};
+    ghost use Rattle.cy_comp.specs.Wiring.{IsWiring};
 
-    /// The wiring of one component, which reads one channel and writes another.
+    /// The wiring of these components over channels with these names.
+    pub fn new(names: Names, plans: Items<Plan>) -> Self
+        requires { IsWiring names plans }
+        ensures names { result.names ≡ names }
+        ensures plans { result.plans ≡ plans }
+    {
+        Wiring { names, plans }
+    }
+
+    /// The wiring of one component that passes messages on, which reads one channel and writes
+    /// another.
     #[tactic(auto, using(crate::proofs::Alone::alone))]
     pub fn of_one(names: Names, plans: Items<Plan>) -> Self
         ghost plan: { Plan }
         requires plan { plans ≡ plan ∷ [] }
+        requires kind { plan.kind ≡ Pass }
         requires reader { plan.readers ≡ 0 ∷ [] }
         requires out { plan.out ≡ 1 }
         requires names { length names ≡ 2 }
