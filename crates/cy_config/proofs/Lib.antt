@@ -1,0 +1,4 @@
+pub mod CheckSteps
+pub mod EntrySteps
+pub mod Sizes
+pub mod TallySteps

@@ -1,0 +1,3 @@
+pub mod DagSteps
+pub mod Loops
+pub mod Repeats

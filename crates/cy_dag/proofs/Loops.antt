@@ -1,0 +1,9 @@
+-- One item more of a list that is made item by item.
+use Rattle.std.proofs.Common.{ℕ, Bor, ◌≡◌, ◌+◌, ◌<◌, List, [], ◌∷◌, ◌++◌, length, map, take, get_or, refl, sym, ap, ◌∙◌}
+use Rattle.std.proofs.lemmas.List.{map-append, take_more}
+
+pub mapped_more : {A B : Type 0} (f : A → B) (xs : List (Bor A)) (k : ℕ) (x : Bor A) (ys zs : List B) (y : B) → k < length xs → x ≡ get_or xs k x
+    → ys ≡ map f (map (λ m. m.now) (take k xs)) → y ≡ f x.now → zs ≡ ys ++ y ∷ [] → zs ≡ map f (map (λ m. m.now) (take (k + 1) xs))
+mapped_more {A} {B} f xs k x ys zs y there here before is pushed =
+    let front : take (k + 1) xs ≡ take k xs ++ x ∷ [] = take_more xs k x there ∙ ap (λ (e : Bor A). take k xs ++ e ∷ []) (sym here) in
+    rw (pushed, before, is, front, map-append (λ (m : Bor A). m.now) (take k xs) (x ∷ []), map-append f (map (λ m. m.now) (take k xs)) (x.now ∷ [])) refl

@@ -1,0 +1,138 @@
+-- What a DAG file says, and the first cause for which it is refused.
+use Rattle.std.specs.Prelude.{ℕ, zero, suc, ◌==◌, nat_lt, min, ◌&&◌, Bool, List, [], ◌∷◌, ◌++◌, map}
+use Rattle.std.specs.Prelude.{length, codes, Option, Some, None, is_none, if◌then◌else◌, unwrap_or}
+use Rattle.std.specs.Prelude.{option_map}
+use Rattle.std.specs.List.{list_any, flat_map, position}
+use Rattle.std.specs.Option.{option_or}
+use Rattle.std.specs.Str.{bytes_eq}
+use Rattle.cy_text.specs.Fields.{Fields, Nothing}
+use Rattle.cy_config.specs.Lookups.{text_under, u32_under, message_under, messages_under}
+use Rattle.cy_config.specs.Checks.{first_misfit, unknown_paths}
+use Rattle.cy_config.specs.Refusals.{first_of, first_repeated}
+use Rattle.cy_dag.specs.Classes.{class_named, readers_needed}
+use Rattle.cy_dag.specs.Format.{dag_field}
+use Rattle.cy_dag.specs.declared.format.DagMessage.TheVariants.{File}
+use Rattle.cy_dag.specs.declared.dag.DagReader.{DagReader}
+use Rattle.cy_dag.specs.declared.dag.DagComponent.{DagComponent}
+use Rattle.cy_dag.specs.declared.error.DagError.{DagError}
+use Rattle.cy_dag.specs.declared.error.DagError.TheVariants.{Shape, NoComponents, Timers, TooMany}
+use Rattle.cy_dag.specs.declared.error.DagError.TheVariants.{Missing, NameTwice, UnknownClass}
+use Rattle.cy_dag.specs.declared.error.DagError.TheVariants.{NoReader, TooManyReaders, ReaderTwice}
+use Rattle.cy_dag.specs.declared.error.DagError.TheVariants.{TooFewReaders}
+
+-- The messages under a name in all modules of a file.
+abbrev pub in_modules : List ℕ → Fields → List Fields
+in_modules name file = flat_map (messages_under name) (messages_under (codes "module_config") file)
+
+-- The text under a name, empty where there is none.
+abbrev pub text_in : List ℕ → Fields → List ℕ
+text_in name fields = unwrap_or (text_under name fields) []
+
+-- The size of a queue: none is read as one, and so is 0.
+abbrev pub queue_of : Option ℕ → ℕ
+queue_of None = 1
+queue_of (Some zero) = 1
+queue_of (Some (suc n)) = suc n
+
+-- A reader that a message describes, and a component.
+abbrev pub reader_of : Fields → DagReader
+reader_of fields = record {
+  channel = text_in (codes "channel") fields;
+  queue = queue_of (u32_under (codes "pending_queue_size") fields);
+}
+
+abbrev pub settings_of : Fields → Fields
+settings_of component = unwrap_or (message_under (codes "config") component) Nothing
+
+abbrev pub component_of : Fields → DagComponent
+component_of fields = record {
+  class_name = text_in (codes "class_name") fields;
+  name = text_in (codes "name") (settings_of fields);
+  config_file_path = text_in (codes "config_file_path") (settings_of fields);
+  readers = map reader_of (messages_under (codes "readers") (settings_of fields));
+}
+
+-- The components of a file, and how many components and timer components it has.
+abbrev pub components_of : Fields → List DagComponent
+components_of file = map component_of (in_modules (codes "components") file)
+
+abbrev pub component_count : Fields → ℕ
+component_count file = length (in_modules (codes "components") file)
+
+abbrev pub timer_count : Fields → ℕ
+timer_count file = length (in_modules (codes "timer_components") file)
+
+-- A count as a u32.
+abbrev pub count_of : ℕ → ℕ
+count_of n = min n 4294967295
+
+-- A test, which refuses where something holds.
+abbrev pub refuse_if : Bool → DagError → Option DagError
+refuse_if holds e = if holds then Some e else None
+
+-- Whether a text is empty.
+abbrev pub is_empty : List ℕ → Bool
+is_empty text = length text == 0
+
+-- Why a component's name or class is refused, behind the components before it.
+abbrev pub name_refusal : List DagComponent → DagComponent → Option DagError
+name_refusal earlier c = first_of (
+    refuse_if (is_empty c.name) (Missing (length earlier) (codes "name"))
+    ∷ option_map (λ first. NameTwice first (length earlier))
+    (position (λ e. bytes_eq e.name c.name) earlier)
+    ∷ refuse_if (is_none (class_named c.class_name)) (UnknownClass (length earlier))
+    ∷ [])
+
+-- Why the readers of a component with some number are refused.
+abbrev pub readers_refusal : ℕ → List DagReader → Option DagError
+readers_refusal number readers = first_of (
+    refuse_if (length readers == 0) (NoReader number)
+    ∷ refuse_if (nat_lt 4 (length readers)) (TooManyReaders number (count_of (length readers)))
+    ∷ refuse_if (list_any (λ r. is_empty r.channel) readers) (Missing number (codes "channel"))
+    ∷ option_map (λ channel. ReaderTwice number channel)
+    (first_repeated (map (λ r. r.channel) readers))
+    ∷ [])
+
+-- How many readers a class of a name needs.
+abbrev pub needed_by : List ℕ → ℕ
+needed_by class_name = unwrap_or (option_map readers_needed (class_named class_name)) 1
+
+-- The first cause for which a component is refused, behind the components before it.
+abbrev pub component_refusal : List DagComponent → DagComponent → Option DagError
+component_refusal earlier c = first_of (
+    name_refusal earlier c
+    ∷ readers_refusal (length earlier) c.readers
+    ∷ refuse_if (nat_lt (length c.readers) (needed_by c.class_name))
+    (TooFewReaders (length earlier) (length c.readers))
+    ∷ refuse_if (is_empty c.config_file_path)
+    (Missing (length earlier) (codes "config_file_path"))
+    ∷ [])
+
+-- The first cause for which one of some components is refused, behind others, and of all.
+abbrev pub refusal_behind : List DagComponent → List DagComponent → Option DagError
+refusal_behind earlier [] = None
+refusal_behind earlier (c ∷ cs) =
+    option_or (component_refusal earlier c) (refusal_behind (earlier ++ c ∷ []) cs)
+
+abbrev pub components_refusal : List DagComponent → Option DagError
+components_refusal cs = refusal_behind [] cs
+
+-- Why a file with so many components and timer components is refused.
+abbrev pub counts_refusal : ℕ → ℕ → Option DagError
+counts_refusal components timers = first_of (
+    refuse_if ((components == 0) && (timers == 0)) NoComponents
+    ∷ refuse_if (nat_lt 0 timers) (Timers (count_of timers))
+    ∷ refuse_if (nat_lt 64 components) (TooMany (count_of components))
+    ∷ [])
+
+-- The first cause for which a file is refused.
+abbrev pub dag_refusal : Fields → Option DagError
+dag_refusal file = first_of (
+    option_map (λ path. Shape path) (first_misfit dag_field File [] file)
+    ∷ counts_refusal (component_count file) (timer_count file)
+    ∷ components_refusal (components_of file)
+    ∷ [])
+
+-- The paths of the fields that a DAG doesn't have.
+abbrev pub unknown_in_dag : Fields → List (List ℕ)
+unknown_in_dag file = unknown_paths dag_field File [] file

@@ -1,0 +1,5 @@
+pub mod Classes
+pub mod ConfigFile
+pub mod DagFile
+pub mod Format
+pub mod Refusals

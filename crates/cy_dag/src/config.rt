@@ -1,0 +1,151 @@
+// Reads a component file.
+ghost use Rattle.std.specs.Prelude.{◌≡◌, ◌≤ℤ◌, IfOk, IfErr, Some, None};
+ghost use Rattle.cy_dag.specs.Classes.{class_named};
+ghost use Rattle.cy_dag.specs.ConfigFile.{IsConfig, class_refusal, config_of, config_refusal};
+ghost use Rattle.cy_dag.specs.ConfigFile.{kind_of, kind_refusal, parameter_refusal, value_of};
+ghost use Rattle.cy_dag.specs.Refusals.{IsDue};
+ghost use Rattle.cy_dag.specs.declared.class.Class.TheVariants.{Filter};
+ghost use Rattle.cy_dag.specs.declared.error.DagError.TheVariants as dag_error;
+
+use crate::DagError;
+use crate::class::Class;
+use crate::component::{missing, text};
+use cy_comp::Kind;
+use cy_config::{check, last_under, text_under};
+use cy_msg::{Items, Text};
+use cy_text::Tree;
+use std::alloc::Global;
+
+/// What a component file says.
+#[derive(Drop)]
+pub struct Config {
+    /// The component's class, with its parameters.
+    pub kind: Kind,
+    /// The channel that it writes.
+    pub out: Text,
+    /// The type of the messages on that channel, empty where the file has none.
+    pub out_type: Text,
+    /// The paths of the fields that are not known, in the order of the file.
+    pub unknown: Items<Text>,
+}
+
+/// What the file of the component with this number says, whose class has this name. Its errors are
+/// tested in an order: `UnknownClass`, `Shape`, `Missing` of `out`, and then of each parameter
+/// `Missing` or `NotWhole`, and the first one that is due is answered.
+pub fn read_component_config(
+    alloc: Global,
+    tree: &Tree,
+    component: u32,
+    class_name: &str,
+) -> Result<Config, DagError>
+    ensures accepted { IfOk result (λ _.
+        config_refusal component (class_named class_name.now) tree.now ≡ None) }
+    ensures config { IfOk result (IsConfig (class_named class_name.now) tree.now) }
+    ensures refused { IfErr result (IsDue
+        (config_refusal component (class_named class_name.now) tree.now)) }
+{
+    match Class::named(class_name) {
+        Some(class) => read_config(alloc, tree, component, class),
+        None => Err(DagError::UnknownClass { component }),
+    }
+}
+
+// The same of a class.
+fn read_config(alloc: Global, tree: &Tree, component: u32, class: Class) -> Result<Config, DagError>
+    ensures accepted { IfOk result (λ _. class_refusal component class tree.now ≡ None) }
+    ensures config { IfOk result (λ config. config ≡ config_of class tree.now) }
+    ensures refused { IfErr result (IsDue (class_refusal component class tree.now)) }
+{
+    let unknown = check(alloc, class, tree)?;
+    if text_under(tree, "out").is_none() {
+        return Err(missing(alloc, component, "out"));
+    }
+    let kind = kind(alloc, tree, component, class)?;
+    Ok(Config {
+        kind,
+        out: text(alloc, tree, "out")?,
+        out_type: text(alloc, tree, "out_type")?,
+        unknown,
+    })
+}
+
+// A class with the parameters that a file gives it.
+fn kind(alloc: Global, tree: &Tree, component: u32, class: Class) -> Result<Kind, DagError>
+    ensures accepted { IfOk result (λ _. kind_refusal component class tree.now ≡ None) }
+    ensures kind { IfOk result (λ kind. kind ≡ kind_of class tree.now) }
+    ensures refused { IfErr result (IsDue (kind_refusal component class tree.now)) }
+{
+    Ok(match class {
+        Class::Pass => Kind::Pass,
+        Class::Filter => return filter(alloc, tree, component),
+        Class::Sum => Kind::Sum,
+        Class::Count => Kind::Count,
+        Class::Max => Kind::Max,
+        Class::Window => Kind::Window {
+            n: parameter(alloc, tree, component, "n", 1, 4_096)? as u32,
+        },
+        Class::Change => Kind::Change,
+        Class::Select => Kind::Select,
+        Class::Hold => Kind::Hold {
+            delay: parameter(alloc, tree, component, "delay", 0, MOST_U64)? as u64,
+        },
+        Class::Take => Kind::Take {
+            n: parameter(alloc, tree, component, "n", 1, 4_294_967_295)? as u32,
+        },
+    })
+}
+
+const MOST_U64: i128 = 18_446_744_073_709_551_615;
+
+const LEAST_I64: i128 = -9_223_372_036_854_775_808;
+
+const MOST_I64: i128 = 9_223_372_036_854_775_807;
+
+// A filter with its range.
+fn filter(alloc: Global, tree: &Tree, component: u32) -> Result<Kind, DagError>
+    ensures accepted { IfOk result (λ _. kind_refusal component Filter tree.now ≡ None) }
+    ensures kind { IfOk result (λ kind. kind ≡ kind_of Filter tree.now) }
+    ensures refused { IfErr result (IsDue (kind_refusal component Filter tree.now)) }
+{
+    let lo = parameter(alloc, tree, component, "lo", LEAST_I64, MOST_I64)?;
+    let hi = parameter(alloc, tree, component, "hi", LEAST_I64, MOST_I64)?;
+    Ok(Kind::Filter {
+        lo: lo as i64,
+        hi: hi as i64,
+    })
+}
+
+// The value of a parameter, in a range.
+fn parameter(
+    alloc: Global,
+    tree: &Tree,
+    component: u32,
+    name: &str,
+    least: i128,
+    most: i128,
+) -> Result<i128, DagError>
+    ensures accepted { IfOk result (λ _.
+        parameter_refusal component name.now least most tree.now ≡ None) }
+    ensures value { IfOk result (λ value. value ≡ value_of name.now tree.now) }
+    ensures range { IfOk result (λ value. (least ≤ℤ value) × (value ≤ℤ most)) }
+    ensures refused { IfErr result (IsDue
+        (parameter_refusal component name.now least most tree.now)) }
+{
+    let Some(value) = last_under(tree, name) else {
+        return Err(missing(alloc, component, name));
+    };
+    match value.whole() {
+        Some(whole) if least <= whole && whole <= most => Ok(whole),
+        _ => Err(not_whole(alloc, component, name)),
+    }
+}
+
+// A parameter that isn't a whole number in its range, or want of memory.
+fn not_whole(alloc: Global, component: u32, field: &str) -> DagError
+    ensures { IsDue (Some (dag_error.NotWhole component field.now)) result }
+{
+    match Text::new(alloc, field) {
+        Ok(field) => DagError::NotWhole { component, field },
+        Err(_) => DagError::Memory,
+    }
+}

@@ -1,0 +1,145 @@
+// The fields of a DAG file and of component files.
+ghost use Rattle.std.specs.Prelude.{◌≡◌, is_some};
+ghost use Rattle.cy_dag.specs.Format.{config_field, dag_field, parameters_of};
+ghost use Rattle.cy_config.specs.Tables.{field_in};
+ghost use Rattle.cy_dag.specs.declared.format.DagMessage.TheVariants.{Component, File, Module};
+ghost use Rattle.cy_dag.specs.declared.format.DagMessage.TheVariants.{Reader, Settings};
+ghost use Rattle.cy_dag.specs.declared.format.DagMessage.TheVariants.{TimerComponent};
+ghost use Rattle.cy_dag.specs.declared.format.DagMessage.TheVariants.{TimerSettings};
+
+use crate::class::Class;
+use cy_config::{Described, Field, Kind};
+
+// The messages of a DAG file.
+#[derive(Clone, Copy)]
+pub enum DagMessage {
+    File,
+    Module,
+    Component,
+    Settings,
+    Reader,
+    TimerComponent,
+    TimerSettings,
+}
+
+impl Described for DagMessage {
+    ghost field = { dag_field };
+
+    fn field(self, name: &str) -> Option<Field<DagMessage>> {
+        match self {
+            DagMessage::File => file_field(name),
+            DagMessage::Module => module_field(name),
+            DagMessage::Component => component_field(name),
+            DagMessage::Settings => settings_field(name),
+            DagMessage::Reader => reader_field(name),
+            DagMessage::TimerComponent => timer_component_field(name),
+            DagMessage::TimerSettings => timer_settings_field(name),
+        }
+    }
+}
+
+// The file itself.
+fn file_field(name: &str) -> Option<Field<DagMessage>>
+    ensures { result ≡ dag_field File name.now }
+{
+    match name {
+        "module_config" => Some(Field::repeated(Kind::Message(DagMessage::Module))),
+        _ => None,
+    }
+}
+
+// One of `module_config`.
+fn module_field(name: &str) -> Option<Field<DagMessage>>
+    ensures { result ≡ dag_field Module name.now }
+{
+    match name {
+        "module_library" => Some(Field::single(Kind::Text)),
+        "components" => Some(Field::repeated(Kind::Message(DagMessage::Component))),
+        "timer_components" => Some(Field::repeated(Kind::Message(DagMessage::TimerComponent))),
+        _ => None,
+    }
+}
+
+// One of `components`.
+fn component_field(name: &str) -> Option<Field<DagMessage>>
+    ensures { result ≡ dag_field Component name.now }
+{
+    match name {
+        "class_name" => Some(Field::single(Kind::Text)),
+        "config" => Some(Field::single(Kind::Message(DagMessage::Settings))),
+        _ => None,
+    }
+}
+
+// The `config` of a component.
+fn settings_field(name: &str) -> Option<Field<DagMessage>>
+    ensures { result ≡ dag_field Settings name.now }
+{
+    match name {
+        "name" => Some(Field::single(Kind::Text)),
+        "config_file_path" => Some(Field::single(Kind::Text)),
+        "flag_file_path" => Some(Field::single(Kind::Text)),
+        "readers" => Some(Field::repeated(Kind::Message(DagMessage::Reader))),
+        _ => None,
+    }
+}
+
+// One of `readers`.
+fn reader_field(name: &str) -> Option<Field<DagMessage>>
+    ensures { result ≡ dag_field Reader name.now }
+{
+    match name {
+        "channel" => Some(Field::single(Kind::Text)),
+        "qos_profile" => Some(Field::single(Kind::AnyMessage)),
+        "pending_queue_size" => Some(Field::single(Kind::u32())),
+        _ => None,
+    }
+}
+
+// One of `timer_components`.
+fn timer_component_field(name: &str) -> Option<Field<DagMessage>>
+    ensures { result ≡ dag_field TimerComponent name.now }
+{
+    match name {
+        "class_name" => Some(Field::single(Kind::Text)),
+        "config" => Some(Field::single(Kind::Message(DagMessage::TimerSettings))),
+        _ => None,
+    }
+}
+
+// The `config` of a timer component.
+fn timer_settings_field(name: &str) -> Option<Field<DagMessage>>
+    ensures { result ≡ dag_field TimerSettings name.now }
+{
+    match name {
+        "name" => Some(Field::single(Kind::Text)),
+        "config_file_path" => Some(Field::single(Kind::Text)),
+        "flag_file_path" => Some(Field::single(Kind::Text)),
+        "interval" => Some(Field::single(Kind::u32())),
+        _ => None,
+    }
+}
+
+impl Described for Class {
+    ghost field = { config_field };
+
+    fn field(self, name: &str) -> Option<Field<Class>> {
+        match name {
+            "out" | "out_type" => Some(Field::single(Kind::Text)),
+            _ if has_parameter(self, name) => Some(Field::single(Kind::Anything)),
+            _ => None,
+        }
+    }
+}
+
+// Whether a class has a parameter of a name.
+fn has_parameter(class: Class, name: &str) -> bool
+    ensures { result ≡ is_some (field_in (parameters_of class) name.now) }
+{
+    match class {
+        Class::Filter => name == "lo" || name == "hi",
+        Class::Window | Class::Take => name == "n",
+        Class::Hold => name == "delay",
+        _ => false,
+    }
+}

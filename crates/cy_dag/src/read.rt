@@ -1,0 +1,104 @@
+// Reads a DAG file.
+ghost use Rattle.std.specs.Prelude.{◌≡◌, ◌≤◌, length, map, IfOk, IfErr, IsOkUnless, OnOk};
+ghost use Rattle.std.specs.List.{flat_map};
+ghost use Rattle.cy_config.specs.Lookups.{messages_under};
+ghost use Rattle.cy_dag.specs.DagFile.{component_of, components_of, components_refusal, count_of};
+ghost use Rattle.cy_dag.specs.DagFile.{counts_refusal, dag_refusal, unknown_in_dag};
+ghost use Rattle.cy_dag.specs.Refusals.{IsDue};
+ghost use Rattle.cy_dag.specs.declared.error.DagError.TheVariants as dag_error;
+
+use crate::component::{component, test_component};
+use crate::format::DagMessage;
+use crate::{Dag, DagComponent, DagError, MOST_COMPONENTS};
+use cy_config::{check, messages_under};
+use cy_msg::Items;
+use cy_text::Tree;
+use std::alloc::Global;
+
+/// The components that a DAG file describes. Its errors are tested in an order: of the whole file
+/// `Shape`, `NoComponents`, `Timers` and `TooMany`, and then of each component the others, and the
+/// first one that is due is answered.
+pub fn read_dag(alloc: Global, tree: &Tree) -> Result<Dag, DagError>
+    ensures accepted { IfOk result (λ d. (dag_refusal tree.now ≡ None)
+        × (d.components ≡ components_of tree.now)) }
+    ensures unknown { IfOk result (λ d. d.unknown ≡ unknown_in_dag tree.now) }
+    ensures refused { IfErr result (IsDue (dag_refusal tree.now)) }
+{
+    let unknown = check(alloc, DagMessage::File, tree)?;
+    let modules = messages_under(alloc, tree, "module_config")?;
+    let found = in_modules(alloc, &modules, "components")?;
+    let timers = in_modules(alloc, &modules, "timer_components")?.len();
+    test_counts(found.len(), timers)?;
+    let components = tested_components(alloc, &found)?;
+    Ok(Dag {
+        components: Items::new(components),
+        unknown,
+    })
+}
+
+// Whether there are as many components and timer components as there may be.
+fn test_counts(components: usize, timers: usize) -> Result<(), DagError>
+    ensures accepted { OnOk result (counts_refusal components timers ≡ None) }
+    ensures few { OnOk result ((1 ≤ components) × (components ≤ MOST_COMPONENTS)) }
+    ensures refused { IfErr result (IsDue (counts_refusal components timers)) }
+{
+    if components == 0 && timers == 0 {
+        return Err(DagError::NoComponents);
+    }
+    if timers > 0 {
+        let count = count_of(timers);
+        return Err(DagError::Timers { count });
+    }
+    if components > MOST_COMPONENTS {
+        let count = count_of(components);
+        return Err(DagError::TooMany { count });
+    }
+    Ok(())
+}
+
+// The messages under a name in all modules.
+fn in_modules<'a>(
+    alloc: Global,
+    modules: &[&'a Tree],
+    name: &str,
+) -> Result<Vec<&'a Tree>, DagError>
+    ensures messages { IfOk result (λ found. map (λ m. m.now) found.items
+        ≡ flat_map (messages_under name.now) (map (λ m. m.now) modules.now)) }
+    ensures only_memory { IsOkUnless result dag_error.Memory }
+{
+    let mut found = Vec::new(alloc);
+    for module in modules {
+        let mut more = messages_under(alloc, module, name)?;
+        found.append(&mut more)?;
+    }
+    Ok(found)
+}
+
+// A count as a `u32`.
+pub(crate) fn count_of(count: usize) -> u32
+    ensures { result ≡ count_of count }
+{
+    if count < 4_294_967_295 {
+        count as u32
+    } else {
+        4_294_967_295
+    }
+}
+
+// The components that messages describe, each tested behind those before it.
+fn tested_components(alloc: Global, found: &[&Tree]) -> Result<Vec<DagComponent>, DagError>
+    requires { length found.now ≤ 64 }
+    ensures components { IfOk result (λ cs. cs.items
+        ≡ map component_of (map (λ m. m.now) found.now)) }
+    ensures tested { IfOk result (λ cs. components_refusal cs.items ≡ None) }
+    ensures refused { IfErr result (IsDue
+        (components_refusal (map component_of (map (λ m. m.now) found.now)))) }
+{
+    let mut components = Vec::new(alloc);
+    for fields in found {
+        let next = component(alloc, fields)?;
+        test_component(alloc, &components, &next)?;
+        components.push(next)?;
+    }
+    Ok(components)
+}

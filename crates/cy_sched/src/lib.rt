@@ -1,0 +1,14 @@
+//! Scheduler files, and where they place the components of a run.
+//!
+//! `specs/Format` has the fields of a scheduler file, `specs/SchedFile` what a file says and the
+//! first cause for which it is refused.
+#![tactic(auto)]
+
+mod error;
+mod format;
+mod read;
+mod sched;
+
+pub use error::SchedError;
+pub use read::read_sched;
+pub use sched::{Group, PinTask, Sched, Task};
