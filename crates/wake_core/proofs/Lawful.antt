@@ -8,7 +8,7 @@ use Rattle.cy_msg.specs.declared.token.Tuple.TheVariants.{One}
 use Rattle.cy_msg.specs.Tokens.{on_channel}
 use Rattle.cy_fuse.specs.Fusion.{fused}
 use Rattle.cy_comp.specs.declared.call.Call.{Call}
-use Rattle.cy_comp.specs.declared.call.Kind.TheVariants.{Pass}
+use Rattle.cy_comp.specs.declared.kind.Kind.TheVariants.{Pass}
 use Rattle.cy_comp.specs.Step.{passed, outcome_after}
 use Rattle.cy_comp.specs.Calls.{cursor_after, tail_after, outs, outs_after, output, LawfulCalls}
 use Rattle.wake_core.specs.Run.{Route, Run, writes_from, history, history_by, played_of}

@@ -1,9 +1,9 @@
 -- What a call more changes, and what the arrivals at an only reader make.
-use Rattle.std.proofs.Common.{ℕ, suc, ◌+◌, ◌-◌, ◌≡◌, refl, ap, ◌∙◌, false, List, [], ◌∷◌, ◌++◌, length, map, Some, None, slice_get, cond, ◌==◌, arith, add-zero, length-append}
+use Rattle.std.proofs.Common.{ℕ, suc, ◌+◌, ◌≡◌, refl, ap, ◌∙◌, false, List, [], ◌∷◌, ◌++◌, length, map, Some, None, slice_get, cond, ◌==◌, arith, add-zero, length-append}
 use Rattle.cy_msg.specs.declared.token.Tuple.{Tuple}
 use Rattle.cy_msg.specs.declared.token.Tuple.TheVariants.{One}
 use Rattle.cy_fuse.specs.Fusion.{Arrival, added, fused, fused_after}
-use Rattle.cy_comp.specs.declared.call.Kind.TheVariants.{Pass}
+use Rattle.cy_comp.specs.declared.kind.Kind.TheVariants.{Pass}
 use Rattle.cy_comp.specs.declared.call.Call.{Call}
 use Rattle.cy_comp.specs.declared.call.Out.{Out}
 use Rattle.cy_comp.specs.Step.{outcome_after}
@@ -13,15 +13,6 @@ pub cursor_after-push : (calls : List Call) (x : Call) → cursor_after (calls +
 cursor_after-push [] x = refl
 cursor_after-push (y ∷ []) x = refl
 cursor_after-push (y ∷ z ∷ rest) x = cursor_after-push (z ∷ rest) x
-
--- The cursor is behind the position of the last call.
-pub cursor_after_last : (calls : List Call) (x : Call) → slice_get calls (length calls - 1) ≡ Some x → cursor_after calls ≡ x.position + 1
-cursor_after_last [] x e = cc
-cursor_after_last (y ∷ []) x e = cc
-cursor_after_last (y ∷ z ∷ rest) x e = cursor_after_last (z ∷ rest) x (ap (λ n. slice_get (y ∷ z ∷ rest) n) (last_place rest) ∙ e)
-  where
-    last_place : (rest : List Call) → suc (length (z ∷ rest) - 1) ≡ length (y ∷ z ∷ rest) - 1
-    last_place rest = omega arith
 
 pub outs_after-push : (channel before : ℕ) (calls : List Call) (x : Call) (o : Out) → x.out ≡ Some o
     → outs_after channel before (calls ++ x ∷ []) ≡ outs_after channel before calls ++ output channel (before + length (outs_after channel before calls) + 1) o ∷ []

@@ -1,5 +1,5 @@
 -- A function that was changed at one place.
-use Rattle.std.proofs.Common.{ℕ, ◌≡◌, cond, refl, sym, ◌∙◌, ap, inl, inr}
+use Rattle.std.proofs.Common.{ℕ, ◌≡◌, ◌≢◌, ◌⊎◌, cond, refl, sym, ◌∙◌, ap, inl, inr}
 use Rattle.std.proofs.lemmas.Bool.Decides.{eqb_tells}
 use mathlib.Core.Path.{fun_ext}
 use Rattle.wake_core.specs.Run.{set_at}
@@ -23,3 +23,23 @@ set_at_itself i f = fun_ext (λ k. elim (eqb_tells k i) [
   | inl h ↦ ap (λ b. cond b (f i) (f k)) h.0 ∙ ap f (sym h.1)
   | inr h ↦ ap (λ b. cond b (f i) (f k)) h.0
 ])
+
+-- One place, or another.
+pub place : (k i : ℕ) → (k ≡ i) ⊎ (k ≢ i)
+place k i = elim (eqb_tells k i) [ inl h ↦ inl h.1 | inr h ↦ inr h.1 ]
+
+pub set_at_there : {X : Type 0} (i : ℕ) (x : X) (f : ℕ → X) (k : ℕ) → k ≡ i → set_at i x f k ≡ x
+unfolding set_at
+set_at_there i x f k e = elim (eqb_tells k i) [ inl h ↦ ap (λ b. cond b x (f k)) h.0 | inr h ↦ absurd (h.1 e) ]
+
+pub set_at_other : {X : Type 0} (i : ℕ) (x : X) (f : ℕ → X) (k : ℕ) → k ≢ i → set_at i x f k ≡ f k
+unfolding set_at
+set_at_other i x f k e = elim (eqb_tells k i) [ inl h ↦ absurd (e h.1) | inr h ↦ ap (λ b. cond b x (f k)) h.0 ]
+
+-- What a value of a changed function says.
+pub set_at_is : {X : Type 0} (i : ℕ) (x : X) (f : ℕ → X) (k : ℕ) (y : X) → set_at i x f k ≡ y
+    → ((k ≡ i) × (x ≡ y)) ⊎ ((k ≢ i) × (f k ≡ y))
+set_at_is i x f k y e = elim (place k i) [
+  | inl h ↦ inl (h, sym (set_at_there i x f k h) ∙ e)
+  | inr h ↦ inr (h, sym (set_at_other i x f k h) ∙ e)
+]

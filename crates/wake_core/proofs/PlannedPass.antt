@@ -1,16 +1,13 @@
 -- The planned entries of one component alone.
 use Rattle.std.proofs.Common.{ℕ, ◌*◌, ◌≡◌, ◌≤◌, refl, ap, ◌∙◌, List, [], ◌∷◌, length, slice_index, slice_get, Some, arith}
 use Rattle.cy_comp.specs.declared.plan.Plan.{Plan}
-use Rattle.cy_comp.specs.declared.call.Kind.{Kind}
-use Rattle.cy_comp.specs.declared.call.Kind.TheVariants.{Pass}
+use Rattle.cy_comp.specs.declared.kind.Kind.{Kind}
+use Rattle.cy_comp.specs.declared.kind.Kind.TheVariants.{Pass}
 use Rattle.wake_core.specs.Run.{Route, route_of, routes_of}
 use Rattle.wake_core.specs.Planned.{planned, planned_count}
 use Rattle.wake_core.specs.Pass.{pass_route}
 use Rattle.wake_core.specs.PassWiring.{IsPassWiring}
 use Rattle.wake_core.specs.Kept.{HasRoom}
-
-pub is_pass : (k : Kind) → k ≡ Pass
-is_pass Pass = refl
 
 -- The route of the only component.
 pub routes_of-pass : (names : List (List ℕ)) (plans : List Plan) (p : Plan) → IsPassWiring names plans → slice_get plans 0 ≡ Some p
@@ -18,7 +15,7 @@ pub routes_of-pass : (names : List (List ℕ)) (plans : List Plan) (p : Plan) �
 routes_of-pass names [] p w e = cc
 routes_of-pass names (q ∷ []) p w e =
     let same : q ≡ p = cc in
-    let k : p.kind ≡ Pass = is_pass p.kind in
+    let k : p.kind ≡ Pass = w.passes p e in
     let r : p.readers ≡ 0 ∷ [] = w.reads p e in
     let o : p.out ≡ 1 = w.writes p e in
     ap (λ (x : Plan). route_of x ∷ []) same

@@ -6,4 +6,9 @@ pub mod World
 pub mod Pass
 pub mod PassWiring
 pub mod WorldOf
+pub mod Plain
+pub mod Events
+pub mod Sound
+pub mod LawfulRun
+pub mod Laws
 pub mod Kept

@@ -3,7 +3,7 @@ use Rattle.std.specs.Prelude.{ℕ, ◌+◌, false, List, [], ◌∷◌, map, Som
 use Rattle.cy_msg.specs.declared.token.Token.{Token}
 use Rattle.cy_msg.specs.declared.token.Tuple.TheVariants.{One}
 use Rattle.cy_fuse.specs.Fusion.{Arrival}
-use Rattle.cy_comp.specs.declared.call.Kind.TheVariants.{Pass}
+use Rattle.cy_comp.specs.declared.kind.Kind.TheVariants.{Pass}
 use Rattle.cy_comp.specs.declared.call.Call.{Call}
 use Rattle.cy_comp.specs.Step.{passed}
 use Rattle.cy_comp.specs.Calls.{output}
@@ -26,7 +26,8 @@ run_of arrivals calls tape clock = record {
 abbrev pub passed_calls_after : ℕ → List Token → List Call
 passed_calls_after before [] = []
 passed_calls_after before (t ∷ rest) =
-    record { position = before + 1; tail = before + 1; tuple = One t; out = Some (passed t) } ∷ passed_calls_after (before + 1) rest
+    record { position = before + 1; tail = before + 1; tuple = One t; out = Some (passed t) }
+    ∷ passed_calls_after (before + 1) rest
 
 abbrev pub passed_calls : List Token → List Call
 passed_calls tokens = passed_calls_after 0 tokens
@@ -34,11 +35,13 @@ passed_calls tokens = passed_calls_after 0 tokens
 -- Messages, each followed by what its call puts out on channel 1, behind so many outputs.
 abbrev pub passed_tape_after : ℕ → List Token → List Token
 passed_tape_after before [] = []
-passed_tape_after before (t ∷ rest) = t ∷ output 1 (before + 1) (passed t) ∷ passed_tape_after (before + 1) rest
+passed_tape_after before (t ∷ rest) = t ∷ output 1 (before + 1) (passed t)
+    ∷ passed_tape_after (before + 1) rest
 
 abbrev pub passed_tape : List Token → List Token
 passed_tape tokens = passed_tape_after 0 tokens
 
 -- The run after these messages.
 abbrev pub passed_run : List Token → ℕ → Run
-passed_run tokens clock = run_of (map (λ t. (0, t)) tokens) (passed_calls tokens) (passed_tape tokens) clock
+passed_run tokens clock = run_of (map (λ t. (0, t)) tokens) (passed_calls tokens)
+    (passed_tape tokens) clock

@@ -1,15 +1,19 @@
--- What a run has come to, as its components and channels show it: no flags, states, phases or threads.
-use Rattle.std.specs.Prelude.{ℕ, ◌+◌, ◌==◌, if◌then◌else◌, Bool, false, List, [], ◌∷◌, ◌++◌, length, map, Option, Some, None, filter, is_some, not}
+-- What a run has come to, as its components and channels show it: no flags, states, phases or
+-- threads.
+use Rattle.std.specs.Prelude.{ℕ, ◌+◌, ◌==◌, if◌then◌else◌, Bool, false, List, [], ◌∷◌, ◌++◌, length}
+use Rattle.std.specs.Prelude.{map, Option, Some, None, filter, is_some, not}
 use Rattle.cy_msg.specs.declared.token.Token.{Token}
 use Rattle.cy_msg.specs.Tokens.{on_channel}
 use Rattle.cy_fuse.specs.Fusion.{Arrival, fused}
 use Rattle.cy_fuse.specs.Fetch.{fetch}
-use Rattle.cy_comp.specs.declared.call.Kind.{Kind}
+use Rattle.cy_comp.specs.declared.kind.Kind.{Kind}
 use Rattle.cy_comp.specs.declared.call.Call.{Call}
 use Rattle.cy_comp.specs.declared.plan.Plan.{Plan}
+use Rattle.cy_comp.specs.Wiring.{writer_from}
 use Rattle.cy_comp.specs.Calls.{cursor_after, outs}
 
--- What a run needs of a component: its class, the channels that it reads, how many tuples it keeps, and its own channel.
+-- What a run needs of a component: its class, the channels that it reads, how many tuples it keeps,
+-- and its own channel.
 pub record Route : Type 0 where
   pub kind : Kind
   pub readers : List ℕ
@@ -22,8 +26,8 @@ route_of p = record { kind = p.kind; readers = p.readers; queue = p.queue; out =
 abbrev pub routes_of : List Plan → List Route
 routes_of plans = map route_of plans
 
--- Of each component, by its number: what arrived, its calls, and whether its last output waits to be sent. Of all: the
--- messages in the order in which they were sent, and the clock.
+-- Of each component, by its number: what arrived, its calls, and whether its last output waits to
+-- be sent. Of all: the messages in the order in which they were sent, and the clock.
 pub record Run : Type 0 where
   pub arrivals : ℕ → List Arrival
   pub calls : ℕ → List Call
@@ -43,11 +47,13 @@ set_at i x f k = if k == i then x else f k
 abbrev pub roles_of : (channel component role : ℕ) → List ℕ → List (ℕ × ℕ)
 roles_of channel component role [] = []
 roles_of channel component role (r ∷ rest) =
-    if r == channel then (component, role) ∷ roles_of channel component (role + 1) rest else roles_of channel component (role + 1) rest
+    if r == channel then (component, role)
+    ∷ roles_of channel component (role + 1) rest else roles_of channel component (role + 1) rest
 
 abbrev pub readers_from : (channel component : ℕ) → List Route → List (ℕ × ℕ)
 readers_from channel component [] = []
-readers_from channel component (x ∷ rest) = roles_of channel component 0 x.readers ++ readers_from channel (component + 1) rest
+readers_from channel component (x ∷ rest) = roles_of channel component 0 x.readers
+    ++ readers_from channel (component + 1) rest
 
 -- The readers of a channel, in the order of the components.
 abbrev pub readers_of : List Route → ℕ → List (ℕ × ℕ)
@@ -60,7 +66,11 @@ arrive (r ∷ rest) t at = arrive rest t (set_at r.0 (at r.0 ++ (r.1, t) ∷ [])
 
 -- A message is sent: it stands on the tape and arrives at each reader of its channel.
 abbrev pub put : List Route → Token → Run → Run
-put routes t w = record w { tape = w.tape ++ t ∷ []; arrivals = arrive (readers_of routes t.channel) t w.arrivals }
+put routes t w = record w {
+  tape = w.tape ++ t
+      ∷ [];
+  arrivals = arrive (readers_of routes t.channel) t w.arrivals;
+}
 
 -- How many tuples were fused at a component.
 abbrev pub tail_of : Route → Run → ℕ → ℕ
@@ -72,10 +82,10 @@ finds x w c = fetch (cursor_after (w.calls c)) (tail_of x w c) x.queue
 
 -- The component that writes a channel, where one does.
 abbrev pub writes_from : ℕ → List Route → ℕ → Option ℕ
-writes_from component [] channel = None
-writes_from component (x ∷ rest) channel = if x.out == channel then Some component else writes_from (component + 1) rest channel
+writes_from component routes channel = writer_from (λ (x : Route). x.out) component routes channel
 
--- The history of a channel: of a component's channel what its calls put out, of another what was played on it.
+-- The history of a channel: of a component's channel what its calls put out, of another what was
+-- played on it.
 abbrev pub history_by : Option ℕ → ℕ → Run → List Token
 history_by None channel w = on_channel channel w.tape
 history_by (Some c) channel w = outs channel (w.calls c)

@@ -1,5 +1,8 @@
--- The serial run: one message is played, and components are resumed in the order of the scan until none can be.
-use Rattle.std.specs.Prelude.{ℕ, ◌-◌, ◌^◌, ◌&&◌, nat_lt, not, is_some, if◌then◌else◌, Bool, true, false, List, [], ◌∷◌, ◌++◌, length, Option, Some, None, option_map, slice_get, find}
+-- The serial run: one message is played, and components are resumed in the order of the scan until
+-- none can be.
+use Rattle.std.specs.Prelude.{ℕ, ◌-◌, ◌^◌, ◌&&◌, nat_lt, not, is_some, if◌then◌else◌, Bool, true}
+use Rattle.std.specs.Prelude.{false, List, [], ◌∷◌, ◌++◌, length, Option, Some, None, option_map}
+use Rattle.std.specs.Prelude.{slice_get, find}
 use Rattle.cy_msg.specs.declared.token.Token.{Token}
 use Rattle.cy_msg.specs.declared.token.Tuple.{Tuple}
 use Rattle.cy_fuse.specs.Fusion.{fused}
@@ -15,12 +18,13 @@ abbrev pub is_past : Option ℕ → ℕ → Bool
 is_past None clock = false
 is_past (Some until) clock = nat_lt until clock
 
--- Whether a component can be resumed: its last call was not its last of all, and either its held output is due, or it holds
--- none and a fetch finds something.
+-- Whether a component can be resumed: its last call was not its last of all, and either its held
+-- output is due, or it holds none and a fetch finds something.
 abbrev pub can_resume : Route → Run → ℕ → Bool
 can_resume x w c =
     let last = last_outcome x.kind (w.calls c) in
-    not (is_last last) && (if w.unsent c then is_past (held_until last) w.clock else is_some (finds x w c))
+    not (is_last last) && (if w.unsent c then is_past (held_until last) w.clock else is_some
+    (finds x w c))
 
 abbrev pub is_runnable : List Route → Run → ℕ → Bool
 is_runnable routes w c = is_runnable_at (slice_get routes c)
@@ -51,18 +55,26 @@ call_on routes x c position (Some tuple) w =
     let outcome = outcome_after x.kind (tuples_of (w.calls c)) tuple in
     follow routes x c outcome (record w {
       calls = set_at c (w.calls c
-          ++ record { position = position; tail = tail_of x w c; tuple = tuple; out = out_of outcome } ∷ []) w.calls;
+          ++ record {
+            position = position;
+            tail = tail_of x w c;
+            tuple = tuple;
+            out = out_of outcome;
+          } ∷ []) w.calls;
     })
 
 abbrev pub call_at : List Route → Route → ℕ → Option ℕ → Run → Run
 call_at routes x c None w = w
 call_at routes x c (Some position) w =
-    call_on routes x c position (slice_get (fused (w.arrivals c) (length x.readers)) (position - 1)) w
+    call_on routes x c position (slice_get (fused (w.arrivals c) (length x.readers)) (position - 1))
+    w
 
--- A component is resumed: its held output is sent where there is one, and otherwise it is called on what a fetch finds.
+-- A component is resumed: its held output is sent where there is one, and otherwise it is called on
+-- what a fetch finds.
 abbrev pub resume_by : List Route → Route → ℕ → Run → Run
 resume_by routes x c w =
-    if w.unsent c then send routes x c (last_out (last_outcome x.kind (w.calls c))) (record w { unsent = set_at c false w.unsent })
+    if w.unsent c then send routes x c (last_out (last_outcome x.kind (w.calls c)))
+    (record w { unsent = set_at c false w.unsent })
     else call_at routes x c (finds x w c) w
 
 abbrev pub resume : List Route → Run → ℕ → Run
@@ -86,5 +98,6 @@ last_clock = 2 ^ 64 - 1
 
 -- The serial run of a list of messages ends here.
 abbrev pub SerialRun : List Route → List ℕ → List Token → Run → Type 0
-SerialRun routes scan tokens end = (m : Run) × Runs (next routes scan) (play routes) tokens opening m
+SerialRun routes scan tokens end = (m : Run)
+    × Runs (next routes scan) (play routes) tokens opening m
     × Settles (next routes scan) (record m { clock = last_clock }) end

@@ -1,18 +1,25 @@
 //! The world of a run, and the serial run.
 //!
-//! `specs/Run` has what a run has come to and how a message is sent, `specs/Serial` the serial run over the steps of
-//! `specs/Settle`, `specs/Planned` how many entries a run can come to have, and `specs/World` what a world shows of itself.
-//! Those are for any wiring; a [`World`] is that of one component which passes messages on (`specs/WorldOf`, `specs/Pass`).
+//! `specs/Run` has what a run has come to and how a message is sent, `specs/Serial` the serial run
+//! over the steps of `specs/Settle`, `specs/Planned` how many entries a run can come to have, and
+//! `specs/World` what a world shows of itself. Those are for any wiring; a [`World`] is that of one
+//! component which passes messages on (`specs/WorldOf`, `specs/Pass`).
+//!
+//! `specs/Plain` has the plain world, with flags, states and threads; `specs/Events` the thirteen
+//! events between two of them; `specs/Sound` what holds of every one that events reach;
+//! `specs/LawfulRun` how a run ends. The laws of the events (`specs/Laws`) are the contracts of
+//! [`laws`].
 #![tactic(auto)]
 
 mod entries;
 mod error;
+pub mod laws;
+mod phase;
 mod serial_run;
-#[cfg(test)]
-mod tests;
 mod world;
 
 pub use entries::{MOST_PLANNED, planned};
 pub use error::CoreError;
+pub use phase::Phase;
 pub use serial_run::serial;
 pub use world::World;

@@ -15,4 +15,4 @@ pub returns-in-None-clause-next : goal.returns-in-None-clause-next
 unfolding world_of
 returns-in-None-clause-next c =
     kept_none _ _ _ _ _ _ c.args.self.now.kept
-    (found_none _ _ _ _ _ _ c.as_slice.ensures.value c.cursor_of.ensures (omega (arith, c.len-tail.ensures)) c.in-None.ensures)
+    (found_none _ _ _ _ _ _ c.as_slice.ensures.value c.next_cursor.ensures (omega (arith, c.len-tail.ensures)) c.in-None.ensures)

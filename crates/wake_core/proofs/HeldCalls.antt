@@ -1,0 +1,174 @@
+-- What a call, and an output that is sent, keep of holders, phases and states.
+use Rattle.std.proofs.Common.{ℕ, ◌≡◌, ◌≢◌, ◌≤◌, ◌<◌, ◌+◌, refl, sym, ◌∙◌, ap, subst, inl, inr, arith, Option, Some, None}
+use mathlib.Core.Path.{fun_ext}
+use Rattle.cy_comp.specs.declared.call.Outcome.{Outcome}
+use Rattle.cy_comp.specs.Calls.{is_last, held_until}
+use Rattle.wake_core.specs.Run.{set_at}
+use Rattle.wake_core.specs.Plain.{Hand, hand, State, Ready, DataWait, Sleep, Woken, Known, Asked, Empty, Running, Sending}
+use Rattle.wake_core.specs.Sound.{Held, NotRunning}
+use Rattle.wake_core.proofs.Places.{place, set_at_there}
+use Rattle.wake_core.proofs.HeldLaws.{not_running, moved, not_running_of}
+
+-- A call more of one component, with this outcome.
+pub record OneCall (c : ℕ) (outcome : Outcome) (last last' : ℕ → Option Outcome) (made made' : ℕ → ℕ) : Type 0 where
+  pub outcome_of : last' c ≡ Some outcome
+  pub more : made c ≤ made' c
+  pub put : held_until (Some outcome) ≢ None → made c < made' c
+  pub last_other : (k : ℕ) → k ≢ c → last' k ≡ last k
+  pub made_other : (k : ℕ) → k ≢ c → made' k ≡ made k
+
+-- An output more of one component on the tape.
+pub record OneTaped (c : ℕ) (taped taped' : ℕ → ℕ) : Type 0 where
+  pub one : taped' c ≡ taped c + 1
+  pub other : (k : ℕ) → k ≢ c → taped' k ≡ taped k
+
+module _ {size : ℕ} {hands : ℕ → Option Hand} {states : ℕ → State} {last last' : ℕ → Option Outcome} {made made' taped : ℕ → ℕ} where
+  pub call_held : (p c : ℕ) (outcome : Outcome) → hands p ≡ hand c Asked → OneCall c outcome last last' made made'
+      → Held size hands states last made taped → Held size (set_at p (hand c Running) hands) states last' made' taped
+  call_held p c outcome held more h =
+      let is : states c ≡ DataWait = h.asked p c held in
+      let before : (k : ℕ) → k ≢ c → NotRunning (set_at p (hand c Running) hands) k → NotRunning hands k = λ k n.
+      not_running hands p (hand c Running) k (λ r. n (grind (arith, held, r))) in
+      let runs : (k : ℕ) → k ≡ c → NotRunning (set_at p (hand c Running) hands) k → ⊥ = λ k e no. no p (set_at_there p (hand c Running) hands p refl ∙ ap (λ n. hand n Running) (sym e)) in
+      let of_last : (k : ℕ) → k ≢ c → last' k ≡ last k = more.last_other in
+      let of_made : (k : ℕ) → k ≢ c → made' k ≡ made k = more.made_other in
+      record {
+        known = λ a k f e. elim (moved p c Asked Running held h a k f e) [ inl i ↦ rw i.1 (h.known p c Asked held) | inr i ↦ h.known a k f i.2 ];
+        one = λ k a b f g e d. elim (moved p c Asked Running held h a k f e) [
+          | inl i ↦ elim (moved p c Asked Running held h b k g d) [ inl j ↦ i.0 ∙ sym j.0 | inr j ↦ absurd (j.1 i.1) ]
+          | inr i ↦ elim (moved p c Asked Running held h b k g d) [ inl j ↦ absurd (i.1 j.1) | inr j ↦ h.one k a b f g i.2 j.2 ]
+        ];
+        woken = λ a k e. elim (moved p c Asked Running held h a k Woken e) [ inl i ↦ ap states i.1 ∙ is | inr i ↦ h.woken a k i.2 ];
+        asked = λ a k e. elim (moved p c Asked Running held h a k Asked e) [ inl i ↦ ap states i.1 ∙ is | inr i ↦ h.asked a k i.2 ];
+        empty = λ a k e. elim (moved p c Asked Running held h a k Empty e) [ inl i ↦ ap states i.1 ∙ is | inr i ↦ h.empty a k i.2 ];
+        running = λ a k e. elim (moved p c Asked Running held h a k Running e) [ inl i ↦ ap states i.1 ∙ is | inr i ↦ h.running a k i.2 ];
+        sending = λ a k e. elim (moved p c Asked Running held h a k Sending e) [ inl i ↦ cc | inr i ↦ h.sending a k i.2 ];
+        sleeps = λ k u e. elim (place k c) [ inl i ↦ let waits : states k ≡ DataWait = ap states i ∙ is in cc | inr i ↦ ap held_until (of_last k i) ∙ h.sleeps k u e ];
+        asleep = λ k u e. elim (place k c) [
+          | inl i ↦ absurd (waits_not_sleeps u (sym is ∙ ap states (sym i) ∙ e))
+          | inr i ↦ let was = h.asleep k u e in rw (of_made k i) was
+        ];
+        finished = λ k e. elim (place k c) [ inl i ↦ let waits : states k ≡ DataWait = ap states i ∙ is in cc | inr i ↦ ap is_last (of_last k i) ∙ h.finished k e ];
+        ended = λ k l no. elim (place k c) [ inl i ↦ absurd (runs k i no) | inr i ↦ h.ended k (ap is_last (sym (of_last k i)) ∙ l) (before k i no) ];
+        called = λ a k e none. elim (moved p c Asked Running held h a k Running e) [
+          | inl i ↦ let some : last' k ≡ Some outcome = ap last' i.1 ∙ more.outcome_of in cc
+          | inr i ↦ h.called a k i.2 (sym (of_last k i.1) ∙ none)
+        ];
+        holds = λ a k u e g. elim (moved p c Asked Running held h a k Running e) [
+          | inl i ↦ rw i.1 (held_more u (h.few c) (ap held_until (sym (ap last' i.1 ∙ more.outcome_of)) ∙ g) more.put)
+          | inr i ↦ let was = h.holds a k u i.2 (ap held_until (sym (of_last k i.1)) ∙ g) in rw (of_made k i.1) was
+        ];
+        few = λ k. elim (place k c) [ inl i ↦ rw i (few_more (h.few c) more.more) | inr i ↦ let was = h.few k in rw (of_made k i) was ];
+        held_back = λ k l no e. elim (place k c) [
+          | inl i ↦ runs k i no
+          | inr i ↦ h.held_back k (rw (of_made k i) at l) (before k i no) (ap held_until (sym (of_last k i)) ∙ e)
+        ];
+        resting = λ k l no. elim (place k c) [ inl i ↦ absurd (runs k i no) | inr i ↦ h.resting k (rw (of_made k i) at l) (before k i no) ];
+      }
+    where
+      waits_not_sleeps : (u : ℕ) → DataWait ≡ Sleep u → ⊥
+      waits_not_sleeps u e = cc
+
+      held_more : (u : ℕ) → taped c ≤ made c → held_until (Some outcome) ≡ Some u → (held_until (Some outcome) ≢ None → made c < made' c) → taped c < made' c
+      held_more u few is put = let more : made c < made' c = put (λ none. some_none u (sym is ∙ none)) in omega arith
+        where
+          some_none : (u : ℕ) → Some u ≡ None → ⊥
+          some_none u e = cc
+
+      few_more : taped c ≤ made c → made c ≤ made' c → taped c ≤ made' c
+      few_more few more = omega arith
+
+module _ {size : ℕ} {hands : ℕ → Option Hand} {states : ℕ → State} {last : ℕ → Option Outcome} {made taped taped' : ℕ → ℕ} where
+  -- An output is sent after a call that doesn't hold it back, ..
+  pub send_running_held : (p c : ℕ) → hands p ≡ hand c Running → held_until (last c) ≡ None → taped c < made c → OneTaped c taped taped'
+      → Held size hands states last made taped → Held size hands states last made taped'
+  send_running_held p c held now unsent more h =
+      let is : states c ≡ DataWait = h.running p c held in
+      let runs : (k : ℕ) → k ≡ c → NotRunning hands k → ⊥ = λ k e no. no p (held ∙ ap (λ n. hand n Running) (sym e)) in
+      record {
+        known = h.known;
+        one = h.one;
+        woken = h.woken;
+        asked = h.asked;
+        empty = h.empty;
+        running = h.running;
+        sending = h.sending;
+        sleeps = h.sleeps;
+        asleep = λ k u e. elim (place k c) [
+          | inl i ↦ absurd (waits_not_sleeps u (sym is ∙ ap states (sym i) ∙ e))
+          | inr i ↦ let was = h.asleep k u e in rw (more.other k i) was
+        ];
+        finished = h.finished;
+        ended = h.ended;
+        called = h.called;
+        holds = λ a k u e g. elim (place k c) [
+          | inl i ↦ absurd (some_none u (sym g ∙ ap (λ n. held_until (last n)) i ∙ now))
+          | inr i ↦ let was = h.holds a k u e g in rw (more.other k i) was
+        ];
+        few = λ k. elim (place k c) [ inl i ↦ rw (i, more.one) (fits unsent) | inr i ↦ let was = h.few k in rw (more.other k i) was ];
+        held_back = λ k l no e. elim (place k c) [ inl i ↦ runs k i no | inr i ↦ h.held_back k (rw (more.other k i) at l) no e ];
+        resting = λ k l no. elim (place k c) [ inl i ↦ absurd (runs k i no) | inr i ↦ h.resting k (rw (more.other k i) at l) no ];
+      }
+    where
+      waits_not_sleeps : (u : ℕ) → DataWait ≡ Sleep u → ⊥
+      waits_not_sleeps u e = cc
+
+      some_none : (u : ℕ) → Some u ≡ None → ⊥
+      some_none u e = cc
+
+      fits : taped c < made c → taped c + 1 ≤ made c
+      fits l = omega arith
+
+  -- .. or when it was held back and the component is READY.
+  pub send_held_held : (p c : ℕ) → hands p ≡ hand c Known → states c ≡ Ready → taped c < made c → OneTaped c taped taped'
+      → Held size hands states last made taped → Held size (set_at p (hand c Sending) hands) states last made taped'
+  send_held_held p c held ready unsent more h =
+      let no_c = not_running_of p c Known held (λ e. cc) h in
+      let before : (k : ℕ) → k ≢ c → NotRunning (set_at p (hand c Sending) hands) k → NotRunning hands k = λ k n.
+      not_running hands p (hand c Sending) k (λ r. n (grind (arith, held, r))) in
+      record {
+        known = λ a k f e. elim (moved p c Known Sending held h a k f e) [ inl i ↦ rw i.1 (h.known p c Known held) | inr i ↦ h.known a k f i.2 ];
+        one = λ k a b f g e d. elim (moved p c Known Sending held h a k f e) [
+          | inl i ↦ elim (moved p c Known Sending held h b k g d) [ inl j ↦ i.0 ∙ sym j.0 | inr j ↦ absurd (j.1 i.1) ]
+          | inr i ↦ elim (moved p c Known Sending held h b k g d) [ inl j ↦ absurd (i.1 j.1) | inr j ↦ h.one k a b f g i.2 j.2 ]
+        ];
+        woken = λ a k e. elim (moved p c Known Sending held h a k Woken e) [ inl i ↦ cc | inr i ↦ h.woken a k i.2 ];
+        asked = λ a k e. elim (moved p c Known Sending held h a k Asked e) [ inl i ↦ cc | inr i ↦ h.asked a k i.2 ];
+        empty = λ a k e. elim (moved p c Known Sending held h a k Empty e) [ inl i ↦ cc | inr i ↦ h.empty a k i.2 ];
+        running = λ a k e. elim (moved p c Known Sending held h a k Running e) [ inl i ↦ cc | inr i ↦ h.running a k i.2 ];
+        sending = λ a k e. elim (moved p c Known Sending held h a k Sending e) [ inl i ↦ ap states i.1 ∙ ready | inr i ↦ h.sending a k i.2 ];
+        sleeps = h.sleeps;
+        asleep = λ k u e. elim (place k c) [
+          | inl i ↦ absurd (ready_not_sleeps u (sym ready ∙ ap states (sym i) ∙ e))
+          | inr i ↦ let was = h.asleep k u e in rw (more.other k i) was
+        ];
+        finished = h.finished;
+        ended = λ k l no. elim (place k c) [ inl i ↦ h.ended k l (λ q r. no_c q (r ∙ ap (λ n. hand n Running) i)) | inr i ↦ h.ended k l (before k i no) ];
+        called = λ a k e. elim (moved p c Known Sending held h a k Running e) [ inl i ↦ cc | inr i ↦ h.called a k i.2 ];
+        holds = λ a k u e g. elim (moved p c Known Sending held h a k Running e) [
+          | inl i ↦ absurd (sending_not_running i.2)
+          | inr i ↦ let was = h.holds a k u i.2 g in rw (more.other k i.1) was
+        ];
+        few = λ k. elim (place k c) [ inl i ↦ rw (i, more.one) (fits unsent) | inr i ↦ let was = h.few k in rw (more.other k i) was ];
+        held_back = λ k l no e. elim (place k c) [
+          | inl i ↦ h.held_back c unsent no_c (ap (λ n. held_until (last n)) (sym i) ∙ e)
+          | inr i ↦ h.held_back k (rw (more.other k i) at l) (before k i no) e
+        ];
+        resting = λ k l no e. elim (place k c) [
+          | inl i ↦ h.resting c unsent no_c (ap states (sym i) ∙ e)
+          | inr i ↦ h.resting k (rw (more.other k i) at l) (before k i no) e
+        ];
+      }
+    where
+      ready_not_sleeps : (u : ℕ) → Ready ≡ Sleep u → ⊥
+      ready_not_sleeps u e = cc
+
+      sending_not_running : Sending ≡ Running → ⊥
+      sending_not_running e = cc
+
+      fits : taped c < made c → taped c + 1 ≤ made c
+      fits l = omega arith
+
+  -- Where nobody's outputs on the tape became more.
+  pub same_taped_held : ((k : ℕ) → taped' k ≡ taped k) → Held size hands states last made taped → Held size hands states last made taped'
+  same_taped_held same h = subst (Held size hands states last made) (sym (fun_ext same)) h

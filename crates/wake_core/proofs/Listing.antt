@@ -1,0 +1,110 @@
+-- Lists that got one more element, and what is among them.
+use Rattle.std.proofs.Common.{ℕ, zero, suc, ◌+◌, ◌≡◌, ◌≢◌, ◌⊎◌, ◌≤◌, ◌<◌, Bool, true, false, refl, sym, ◌∙◌, ap, ap₂, subst, inl, inr, arith, List, [], ◌∷◌, ◌++◌, length, Some, None, ◌==◌, ◌||◌, slice_get, take, le_of_lt}
+use Rattle.std.proofs.lemmas.Bool.Decides.{nat_tests}
+use Rattle.std.proofs.lemmas.Option.{slice_get_within}
+use Rattle.std.proofs.lemmas.List.{take-append-le}
+use Rattle.std.proofs.Math.Seq.{take-append_seam}
+use Rattle.wake_core.specs.Plain.{lists}
+
+-- What stands in a list stands in a longer one.
+pub get_append : {X : Type 0} (xs ys : List X) (n : ℕ) (x : X) → slice_get xs n ≡ Some x → slice_get (xs ++ ys) n ≡ Some x
+get_append [] ys n x e = cc
+get_append (y ∷ xs) ys zero x e = e
+get_append (y ∷ xs) ys (suc n) x e = get_append xs ys n x e
+
+-- What stands in a list with one more stood there before, or is that one.
+pub get_snoc : {X : Type 0} (xs : List X) (y : X) (n : ℕ) (x : X) → slice_get (xs ++ y ∷ []) n ≡ Some x
+    → (slice_get xs n ≡ Some x) ⊎ ((n ≡ length xs) × (y ≡ x))
+get_snoc [] y zero x e = inr (refl, cc)
+get_snoc [] y (suc n) x e = cc
+get_snoc (z ∷ xs) y zero x e = inl e
+get_snoc (z ∷ xs) y (suc n) x e = elim (get_snoc xs y n x e) [ inl h ↦ inl h | inr h ↦ inr (ap suc h.0, h.1) ]
+
+pub get_last : {X : Type 0} (xs : List X) (y : X) → slice_get (xs ++ y ∷ []) (length xs) ≡ Some y
+get_last [] y = refl
+get_last (x ∷ xs) y = get_last xs y
+
+-- What is said of each by those before it holds of one more.
+pub snoc_at : {X : Type 0} (P : List X → X → Type 0) (xs : List X) (y : X)
+    → ((n : ℕ) (x : X) → slice_get xs n ≡ Some x → P (take n xs) x) → P xs y
+    → (n : ℕ) (x : X) → slice_get (xs ++ y ∷ []) n ≡ Some x → P (take n (xs ++ y ∷ [])) x
+snoc_at P xs y old new n x e = elim (get_snoc xs y n x e) [
+  | inl h ↦ let l : n ≤ length xs = le_of_lt (slice_get_within xs n x h) in rw (take-append-le n xs (y ∷ []) l) (old n x h)
+  | inr h ↦ subst (λ z. P (take n (xs ++ y ∷ [])) z) h.1 (rw (h.0, take-append_seam xs (y ∷ [])) new)
+]
+
+-- The first so many and one more.
+take_suc : {X : Type 0} (xs : List X) (n : ℕ) (x : X) → slice_get xs n ≡ Some x → take (suc n) xs ≡ take n xs ++ x ∷ []
+take_suc [] n x e = cc
+take_suc (y ∷ xs) zero x e = cc
+take_suc (y ∷ xs) (suc n) x e = ap (λ l. y ∷ l) (take_suc xs n x e)
+
+pub take_next : {X : Type 0} (xs : List X) (n : ℕ) (x : X) → slice_get xs n ≡ Some x → take (n + 1) xs ≡ take n xs ++ x ∷ []
+take_next xs n x e = let more : n + 1 ≡ suc n = omega arith in ap (λ k. take k xs) more ∙ take_suc xs n x e
+
+-- One behind the last is there only where the list is longer.
+pub get_in : {X : Type 0} (xs : List X) (n : ℕ) → n < length xs → slice_get xs n ≢ None
+get_in [] n l = λ e. absurd (omega arith)
+get_in (x ∷ xs) zero l = λ e. cc
+get_in (x ∷ xs) (suc n) l = get_in xs n (omega arith)
+
+or_false : (a b : Bool) → a || b ≡ false → (a ≡ false) × (b ≡ false)
+or_false true b e = cc
+or_false false b e = (refl, e)
+
+or_right : (a b : Bool) → b ≡ true → a || b ≡ true
+or_right true b e = refl
+or_right false b e = e
+
+pub either : (a b : Bool) → a || b ≡ true → (a ≡ true) ⊎ (b ≡ true)
+either true b e = inl refl
+either false b e = inr e
+
+pub lists-append : (k : ℕ) (xs ys : List ℕ) → lists k (xs ++ ys) ≡ lists k xs || lists k ys
+lists-append k [] ys = refl
+lists-append k (x ∷ xs) ys = ap (λ b. x == k || b) (lists-append k xs ys) ∙ or_assoc (x == k) (lists k xs) (lists k ys)
+  where
+    or_assoc : (a b c : Bool) → a || (b || c) ≡ (a || b) || c
+    or_assoc true b c = refl
+    or_assoc false b c = refl
+
+-- None of a whole is none of its parts.
+pub lists_parts : (k : ℕ) (xs ys : List ℕ) → lists k (xs ++ ys) ≡ false → (lists k xs ≡ false) × (lists k ys ≡ false)
+lists_parts k xs ys e = or_false (lists k xs) (lists k ys) (sym (lists-append k xs ys) ∙ e)
+
+pub lists_whole : (k c : ℕ) (xs ys : List ℕ) → k ≢ c → lists k (xs ++ ys) ≡ false → lists k (xs ++ c ∷ ys) ≡ false
+lists_whole k c [] ys n e = grind (arith, nat_tests, e)
+lists_whole k c (x ∷ xs) ys n e =
+    let h = or_false (x == k) (lists k (xs ++ ys)) e in
+    ap₂ (λ a b. a || b) h.0 (lists_whole k c xs ys n h.1)
+
+-- One of a part is one of the whole.
+pub lists_left : (k : ℕ) (xs ys : List ℕ) → lists k xs ≡ true → lists k (xs ++ ys) ≡ true
+lists_left k [] ys e = cc
+lists_left k (x ∷ xs) ys e = elim (either (x == k) (lists k xs) e) [
+  | inl h ↦ ap (λ b. b || lists k (xs ++ ys)) h
+  | inr h ↦ or_right (x == k) (lists k (xs ++ ys)) (lists_left k xs ys h)
+]
+
+pub lists_wider : (k c : ℕ) (xs ys : List ℕ) → lists k (xs ++ ys) ≡ true → lists k (xs ++ c ∷ ys) ≡ true
+lists_wider k c [] ys e = or_right (c == k) (lists k ys) e
+lists_wider k c (x ∷ xs) ys e = elim (either (x == k) (lists k (xs ++ ys)) e) [
+  | inl h ↦ ap (λ b. b || lists k (xs ++ c ∷ ys)) h
+  | inr h ↦ or_right (x == k) (lists k (xs ++ c ∷ ys)) (lists_wider k c xs ys h)
+]
+
+-- One of a list with one more is that one, or was there.
+pub lists_snoc : (k c : ℕ) (xs : List ℕ) → lists k (xs ++ c ∷ []) ≡ true → (lists k xs ≡ true) ⊎ (k ≡ c)
+lists_snoc k c xs e = elim (either (lists k xs) (lists k (c ∷ [])) (sym (lists-append k xs (c ∷ [])) ∙ e)) [
+  | inl h ↦ inl h
+  | inr h ↦ inr (only k c h)
+]
+  where
+    only : (k c : ℕ) → lists k (c ∷ []) ≡ true → k ≡ c
+    only k c h = grind (arith, nat_tests, h)
+
+pub lists_first : (c : ℕ) (xs : List ℕ) → lists c (c ∷ xs) ≡ true
+lists_first c xs = grind (arith, nat_tests)
+
+pub lists_rest : (k c : ℕ) (xs : List ℕ) → lists k xs ≡ true → lists k (c ∷ xs) ≡ true
+lists_rest k c xs e = or_right (c == k) (lists k xs) e

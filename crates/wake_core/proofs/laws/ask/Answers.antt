@@ -1,0 +1,15 @@
+-- The laws, from the lemmas on each part.
+use Rattle.std.proofs.Common.{ap}
+use Rattle.wake_core.specs.Plain.{Plain}
+use Rattle.wake_core.proofs.Consisting.{ask_in, ask_consistent}
+use Rattle.wake_core.proofs.Sounding.{ask_sound}
+use Rattle.wake_core.proofs.Runs.{same_calls}
+use Rattle.wake_core.proofs.laws.ask.Goals as goal
+
+pub returns : goal.returns
+returns k = record {
+  held = ask_in;
+  consistent = ask_consistent;
+  sound = ask_sound;
+  calls = λ p c w v e. same_calls w v (ap (λ (u : Plain). u.calls) e.effect);
+}

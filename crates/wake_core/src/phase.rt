@@ -1,0 +1,22 @@
+// How far a thread is with the croutine that it holds.
+
+/// The phase of a croutine that a thread has in hand.
+#[derive(Clone, Copy, Debug, PartialEq, Eq)]
+pub enum Phase {
+    /// It was acquired, and nothing is known of it yet.
+    Fresh,
+    /// Its flag was found clear while it waited for a message.
+    Woken,
+    /// Its state is known.
+    Known,
+    /// It is to be resumed: it waits for a message again, and its fetch comes next.
+    Asked,
+    /// Its fetch found nothing.
+    Empty,
+    /// It was called.
+    Running,
+    /// The output that it held back was sent.
+    Sending,
+    /// What it is to do next is stored.
+    Done,
+}
