@@ -87,22 +87,22 @@ cut_last_parts mark [] p h = absurd (none-some p h)
 cut_last_parts mark (x ∷ xs) p h =
     cut_last_joined mark x xs (cut_last mark xs) p (x == mark) (eqb-true x mark) (λ q. cut_last_parts mark xs q) h
 
--- what stands behind a front
-pub behind_finds : (front xs : List ℕ) → behind front (front ++ xs) ≡ Some xs
+-- what stands behind a prefix
+pub behind_finds : (prefix xs : List ℕ) → behind prefix (prefix ++ xs) ≡ Some xs
 unfolding behind
 behind_finds [] xs = refl
-behind_finds (c ∷ front) xs = rw (eq-eqb c c refl, behind_finds front xs) refl
+behind_finds (c ∷ prefix) xs = rw (eq-eqb c c refl, behind_finds prefix xs) refl
 
-behind_joined : (c x : ℕ) (b : Bool) (found : Option (List ℕ)) (front xs rest : List ℕ) → (b ≡ true → x ≡ c) → (found ≡ Some rest → xs ≡ front ++ rest)
-    → cond b found None ≡ Some rest → x ∷ xs ≡ c ∷ (front ++ rest)
-behind_joined c x true found front xs rest is more h = let same : x ≡ c = is refl in rw (same, more h) refl
-behind_joined c x false found front xs rest is more h = absurd (none-some rest h)
+behind_joined : (c x : ℕ) (b : Bool) (found : Option (List ℕ)) (prefix xs rest : List ℕ) → (b ≡ true → x ≡ c) → (found ≡ Some rest → xs ≡ prefix ++ rest)
+    → cond b found None ≡ Some rest → x ∷ xs ≡ c ∷ (prefix ++ rest)
+behind_joined c x true found prefix xs rest is more h = let same : x ≡ c = is refl in rw (same, more h) refl
+behind_joined c x false found prefix xs rest is more h = absurd (none-some rest h)
 
-pub behind_parts : (front xs rest : List ℕ) → behind front xs ≡ Some rest → xs ≡ front ++ rest
+pub behind_parts : (prefix xs rest : List ℕ) → behind prefix xs ≡ Some rest → xs ≡ prefix ++ rest
 unfolding behind
 behind_parts [] xs rest h = same_Some xs rest h
-behind_parts (c ∷ front) [] rest h = absurd (none-some rest h)
-behind_parts (c ∷ front) (x ∷ xs) rest h = behind_joined c x (x == c) (behind front xs) front xs rest (eqb-true x c) (behind_parts front xs rest) h
+behind_parts (c ∷ prefix) [] rest h = absurd (none-some rest h)
+behind_parts (c ∷ prefix) (x ∷ xs) rest h = behind_joined c x (x == c) (behind prefix xs) prefix xs rest (eqb-true x c) (behind_parts prefix xs rest) h
 
 -- the places of a loop that looks for a mark
 pub cut_at : (mark k : ℕ) (xs : List ℕ) → k < length xs → get_or xs k 0 ≡ mark → lacks mark (take k xs) ≡ true → Some (take k xs, drop (k + 1) xs) ≡ cut mark xs
@@ -126,25 +126,25 @@ pub lacks_before : (mark k : ℕ) (xs : List ℕ) → k < length xs → (get_or 
 lacks_before mark k xs there other after =
     rw (drop_more xs k 0 there) (and_from (not (get_or xs k 0 == mark)) (lacks mark (drop (k + 1) xs)) (ap not (ne_eqb (get_or xs k 0) mark other)) after)
 
--- a front that is compared byte by byte
-pub behind_same : (front bytes : List ℕ) → true ≡ pointwise nat_eq (take (length front) bytes) front → Some (drop (length front) bytes) ≡ behind front bytes
-behind_same front bytes h =
-    let whole : bytes ≡ front ++ drop (length front) bytes =
-    sym (take-append-drop (length front) bytes) ∙ ap (λ (xs : List ℕ). xs ++ drop (length front) bytes) (same_text (take (length front) bytes) front h) in
-    sym (ap (behind front) whole ∙ behind_finds front (drop (length front) bytes))
+-- a prefix that is compared byte by byte
+pub behind_same : (prefix bytes : List ℕ) → true ≡ pointwise nat_eq (take (length prefix) bytes) prefix → Some (drop (length prefix) bytes) ≡ behind prefix bytes
+behind_same prefix bytes h =
+    let whole : bytes ≡ prefix ++ drop (length prefix) bytes =
+    sym (take-append-drop (length prefix) bytes) ∙ ap (λ (xs : List ℕ). xs ++ drop (length prefix) bytes) (same_text (take (length prefix) bytes) prefix h) in
+    sym (ap (behind prefix) whole ∙ behind_finds prefix (drop (length prefix) bytes))
 
 none_there : (o : Option (List ℕ)) → ((rest : List ℕ) → o ≡ Some rest → ⊥) → None ≡ o
 none_there None h = refl
 none_there (Some rest) h = absurd (h rest refl)
 
-pub behind_other : (front bytes : List ℕ) → false ≡ pointwise nat_eq (take (length front) bytes) front → None ≡ behind front bytes
-behind_other front bytes h =
-    none_there (behind front bytes) (λ rest e.
-    other_text (take (length front) bytes) front h (ap (take (length front)) (behind_parts front bytes rest e) ∙ take_at front rest (length front) refl))
+pub behind_other : (prefix bytes : List ℕ) → false ≡ pointwise nat_eq (take (length prefix) bytes) prefix → None ≡ behind prefix bytes
+behind_other prefix bytes h =
+    none_there (behind prefix bytes) (λ rest e.
+    other_text (take (length prefix) bytes) prefix h (ap (take (length prefix)) (behind_parts prefix bytes rest e) ∙ take_at prefix rest (length prefix) refl))
 
-pub behind_result : (front bytes : List ℕ) (r : Option (Bor (List ℕ)))
-    → MatchOption r (pointwise nat_eq (take (length front) bytes) front ≡ false)
-    (λ x. (pointwise nat_eq (take (length front) bytes) front ≡ true) × (x.now ≡ drop (length front) bytes) × (length x.now + length front ≡ length bytes))
-    → option_map (λ (x : Bor (List ℕ)). x.now) r ≡ behind front bytes
-behind_result front bytes None h = behind_other front bytes (sym h)
-behind_result front bytes (Some x) h = ap (λ (rest : List ℕ). Some rest) h.1 ∙ behind_same front bytes (sym h.0)
+pub behind_result : (prefix bytes : List ℕ) (r : Option (Bor (List ℕ)))
+    → MatchOption r (pointwise nat_eq (take (length prefix) bytes) prefix ≡ false)
+    (λ x. (pointwise nat_eq (take (length prefix) bytes) prefix ≡ true) × (x.now ≡ drop (length prefix) bytes) × (length x.now + length prefix ≡ length bytes))
+    → option_map (λ (x : Bor (List ℕ)). x.now) r ≡ behind prefix bytes
+behind_result prefix bytes None h = behind_other prefix bytes (sym h)
+behind_result prefix bytes (Some x) h = ap (λ (rest : List ℕ). Some rest) h.1 ∙ behind_same prefix bytes (sym h.0)

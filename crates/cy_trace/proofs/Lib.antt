@@ -1,6 +1,5 @@
 pub mod CutLaws
-pub mod Ends
-pub mod Fronts
+pub mod Prefixes
 pub mod LineLaws
 pub mod NameLaws
 pub mod NumeralLaws

@@ -43,12 +43,12 @@ module _ {A B : Type 0} {ta : A → List ℕ} {fa : A → Type 0} {ra : List ℕ
   }
 
 module _ {A : Type 0} {ta : A → List ℕ} {fa : A → Type 0} {ra : List ℕ → Option A} (reader : IsReader ta fa ra) where
-  -- behind a front
-  pub after_reader : (front : List ℕ) → IsReader (λ (a : A). front ++ ta a) fa (after front ra)
-  after_reader front = record {
-    sound = λ bytes v h. option_and_then_some ra (behind front bytes) v h (λ rest found read.
-        let r = reader.sound rest v read in (r.0, behind_parts front bytes rest found ∙ ap (λ xs. front ++ xs) r.1));
-    complete = λ v fits. rw (behind_finds front (ta v)) (reader.complete v fits);
+  -- behind a prefix
+  pub after_reader : (prefix : List ℕ) → IsReader (λ (a : A). prefix ++ ta a) fa (after prefix ra)
+  after_reader prefix = record {
+    sound = λ bytes v h. option_and_then_some ra (behind prefix bytes) v h (λ rest found read.
+        let r = reader.sound rest v read in (r.0, behind_parts prefix bytes rest found ∙ ap (λ xs. prefix ++ xs) r.1));
+    complete = λ v fits. rw (behind_finds prefix (ta v)) (reader.complete v fits);
   }
 
   -- the same values in another form

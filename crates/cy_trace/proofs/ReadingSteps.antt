@@ -15,7 +15,7 @@ use Rattle.cy_trace.proofs.CutLaws.{cut_parts, uncut}
 
 -- more numbers in front
 abbrev pub onto : List ℕ → Option (List ℕ) → Option (List ℕ)
-onto front rest = option_map (λ ns. front ++ ns) rest
+onto prefix rest = option_map (λ ns. prefix ++ ns) rest
 
 pub split_found : (xs ys : List ℕ) → lacks 32 xs ≡ true → slice_split (λ b. b == 32) (xs ++ 32 ∷ ys) ≡ xs ∷ slice_split (λ b. b == 32) ys
 split_found [] ys h = slice_split-cons_yes (λ b. b == 32) 32 ys refl
@@ -57,35 +57,35 @@ name_no_text bytes text is h =
     rw (← is) (rw no refl)
 
 -- one more number
-onto_more : (front : List ℕ) (n : ℕ) (rest : Option (List ℕ)) → onto (front ++ n ∷ []) rest ≡ onto front (option_map (λ (p : ℕ × List ℕ). p.0 ∷ p.1) (both (Some n) rest))
-onto_more front n None = refl
-onto_more front n (Some ns) = ap (λ (xs : List ℕ). Some xs) (append_assoc front (n ∷ []) ns)
+onto_more : (prefix : List ℕ) (n : ℕ) (rest : Option (List ℕ)) → onto (prefix ++ n ∷ []) rest ≡ onto prefix (option_map (λ (p : ℕ × List ℕ). p.0 ∷ p.1) (both (Some n) rest))
+onto_more prefix n None = refl
+onto_more prefix n (Some ns) = ap (λ (xs : List ℕ). Some xs) (append_assoc prefix (n ∷ []) ns)
 
-module _ (front : List ℕ) (whole : Option (List ℕ)) where
-  module _ (k : ℕ) (bytes : List ℕ) (reading : onto front (digits (drop k bytes)) ≡ whole) where
-    at_digit : k < length bytes → onto front (option_map (λ (p : ℕ × List ℕ). p.0 ∷ p.1) (both (role (get_or bytes k 0)) (digits (drop (k + 1) bytes)))) ≡ whole
+module _ (prefix : List ℕ) (whole : Option (List ℕ)) where
+  module _ (k : ℕ) (bytes : List ℕ) (reading : onto prefix (digits (drop k bytes)) ≡ whole) where
+    at_digit : k < length bytes → onto prefix (option_map (λ (p : ℕ × List ℕ). p.0 ∷ p.1) (both (role (get_or bytes k 0)) (digits (drop (k + 1) bytes)))) ≡ whole
     unfolding digits
     at_digit there = rw (drop_more bytes k 0 there) at reading
 
-    pub digit_read : (r : ℕ) → k < length bytes → role (get_or bytes k 0) ≡ Some r → onto (front ++ r ∷ []) (digits (drop (k + 1) bytes)) ≡ whole
-    digit_read r there is = onto_more front r (digits (drop (k + 1) bytes)) ∙ (rw is at (at_digit there))
+    pub digit_read : (r : ℕ) → k < length bytes → role (get_or bytes k 0) ≡ Some r → onto (prefix ++ r ∷ []) (digits (drop (k + 1) bytes)) ≡ whole
+    digit_read r there is = onto_more prefix r (digits (drop (k + 1) bytes)) ∙ (rw is at (at_digit there))
 
     pub digit_fails : k < length bytes → role (get_or bytes k 0) ≡ None → whole ≡ None
     digit_fails there is = sym (rw is at (at_digit there))
 
-    pub digits_end : length bytes ≤ k → whole ≡ Some front
+    pub digits_end : length bytes ≤ k → whole ≡ Some prefix
     unfolding digits
-    digits_end ends = sym (rw (drop_all k bytes ends) at reading) ∙ ap (λ (xs : List ℕ). Some xs) (append-nil front)
+    digits_end ends = sym (rw (drop_all k bytes ends) at reading) ∙ ap (λ (xs : List ℕ). Some xs) (append-nil prefix)
 
-  module _ (words : List (List ℕ)) (word : List ℕ) (more : List (List ℕ)) (reading : onto front (numbers words) ≡ whole) (cuts : words ≡ word ∷ more) where
-    pub number_read : (n : ℕ) → short word ≡ Some n → onto (front ++ n ∷ []) (numbers more) ≡ whole
-    number_read n is = onto_more front n (numbers more) ∙ (rw is at (rw cuts at reading))
+  module _ (words : List (List ℕ)) (word : List ℕ) (more : List (List ℕ)) (reading : onto prefix (numbers words) ≡ whole) (cuts : words ≡ word ∷ more) where
+    pub number_read : (n : ℕ) → short word ≡ Some n → onto (prefix ++ n ∷ []) (numbers more) ≡ whole
+    number_read n is = onto_more prefix n (numbers more) ∙ (rw is at (rw cuts at reading))
 
     pub number_fails : short word ≡ None → whole ≡ None
     number_fails is = sym (rw is at (rw cuts at reading))
 
-  pub numbers_end : onto front (Some []) ≡ whole → whole ≡ Some front
-  numbers_end reading = sym reading ∙ ap (λ (xs : List ℕ). Some xs) (append-nil front)
+  pub numbers_end : onto prefix (Some []) ≡ whole → whole ≡ Some prefix
+  numbers_end reading = sym reading ∙ ap (λ (xs : List ℕ). Some xs) (append-nil prefix)
 
 -- what is left to read in words
 abbrev pub bytes_left : Option (Bor (List ℕ)) → ℕ

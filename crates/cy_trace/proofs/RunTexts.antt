@@ -50,9 +50,9 @@ end_same : (finished : Bool) (next : ℕ) → end_line finished next ≡ whole_l
 unfolding line_text
 end_same finished next = refl
 
-joined_component : (front name newline middle roles calls end : List ℕ)
-    → front ++ name ++ newline ++ middle ++ roles ++ newline ++ calls ++ end ≡ (front ++ name ++ newline) ++ ((middle ++ roles ++ newline) ++ (calls ++ end))
-joined_component front name newline middle roles calls end = simp append_assoc
+joined_component : (prefix name newline middle roles calls end : List ℕ)
+    → prefix ++ name ++ newline ++ middle ++ roles ++ newline ++ calls ++ end ≡ (prefix ++ name ++ newline) ++ ((middle ++ roles ++ newline) ++ (calls ++ end))
+joined_component prefix name newline middle roles calls end = simp append_assoc
 
 component_same : (p : Plan) (arrivals : List Arrival) (calls : List Call) → component_text p arrivals calls ≡ flat_map whole_line (lines_of_component (trace_component p arrivals calls))
 unfolding line_text

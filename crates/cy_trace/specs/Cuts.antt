@@ -1,5 +1,6 @@
 -- Bytes cut at marks.
-use Rattle.std.specs.Prelude.{ℕ, ◌==◌, ◌&&◌, not, Bool, true, List, [], ◌∷◌, Option, Some, None, option_map, if◌then◌else◌}
+use Rattle.std.specs.Prelude.{ℕ, ◌==◌, ◌&&◌, not, Bool, true, List, [], ◌∷◌, Option, Some, None}
+use Rattle.std.specs.Prelude.{option_map, if◌then◌else◌}
 use Rattle.std.specs.Option.{option_and_then}
 
 -- The bytes lack a mark.
@@ -10,7 +11,8 @@ lacks mark (b ∷ bs) = not (b == mark) && lacks mark bs
 -- What stands before the first mark, and what stands behind it.
 unfoldable pub cut : ℕ → List ℕ → Option (List ℕ × List ℕ)
 cut mark [] = None
-cut mark (b ∷ bs) = if b == mark then Some ([], bs) else option_map (λ p. (b ∷ p.0, p.1)) (cut mark bs)
+cut mark (b ∷ bs) = if b == mark then Some ([], bs) else option_map (λ p. (b ∷ p.0, p.1))
+    (cut mark bs)
 
 abbrev pub or_else : {A : Type 0} → Option A → Option A → Option A
 or_else None other = other
@@ -19,13 +21,14 @@ or_else (Some x) other = Some x
 -- What stands before the last mark, and what stands behind it.
 unfoldable pub cut_last : ℕ → List ℕ → Option (List ℕ × List ℕ)
 cut_last mark [] = None
-cut_last mark (b ∷ bs) = or_else (option_map (λ p. (b ∷ p.0, p.1)) (cut_last mark bs)) (if b == mark then Some ([], bs) else None)
+cut_last mark (b ∷ bs) = or_else (option_map (λ p. (b ∷ p.0, p.1)) (cut_last mark bs))
+    (if b == mark then Some ([], bs) else None)
 
--- What stands behind a front.
+-- What stands behind a prefix.
 unfoldable pub behind : List ℕ → List ℕ → Option (List ℕ)
 behind [] bytes = Some bytes
-behind (c ∷ front) [] = None
-behind (c ∷ front) (b ∷ bytes) = if b == c then behind front bytes else None
+behind (c ∷ prefix) [] = None
+behind (c ∷ prefix) (b ∷ bytes) = if b == c then behind prefix bytes else None
 
 -- Both readings, where both are there.
 abbrev pub both : {A B : Type 0} → Option A → Option B → Option (A × B)

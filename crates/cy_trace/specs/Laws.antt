@@ -5,7 +5,8 @@ use Rattle.wake_core.specs.Run.{Run}
 use Rattle.cy_trace.specs.declared.line.Line.{Line}
 use Rattle.cy_trace.specs.declared.trace.Trace.{Trace}
 use Rattle.cy_trace.specs.LineReading.{line_of}
-use Rattle.cy_trace.specs.TraceForm.{IsFirstBad, IsLine, IsTrace, IsTraceText, line_text, text_of_trace}
+use Rattle.cy_trace.specs.TraceForm.{IsFirstBad, IsLine, IsTrace, IsTraceText, line_text}
+use Rattle.cy_trace.specs.TraceForm.{text_of_trace}
 use Rattle.cy_trace.specs.TraceOfRun.{trace_of_run}
 use Rattle.cy_trace.specs.TraceText.{trace_text}
 
@@ -15,7 +16,8 @@ LinesReadBack = (line : Line) → IsLine line → line_of (line_text line) ≡ S
 
 -- Bytes that are read as a line are its text.
 abbrev pub LinesAreSpelled : Type 0
-LinesAreSpelled = (bytes : List ℕ) (line : Line) → line_of bytes ≡ Some line → IsLine line × (bytes ≡ line_text line)
+LinesAreSpelled = (bytes : List ℕ) (line : Line) → line_of bytes ≡ Some line → IsLine line
+    × (bytes ≡ line_text line)
 
 -- No two traces have one text.
 abbrev pub TextsTellTraces : Type 0
@@ -31,4 +33,5 @@ TextsOfTracesAreGood = (text : List ℕ) (n : ℕ) → IsFirstBad text n → ¬ 
 
 -- What is written of a run is the text of its trace.
 abbrev pub RunsAreTraces : Type 0
-RunsAreTraces = (names : List (List ℕ)) (plans : List Plan) (shadowed : ℕ) (w : Run) → trace_text names plans shadowed w ≡ text_of_trace (trace_of_run names plans shadowed w)
+RunsAreTraces = (names : List (List ℕ)) (plans : List Plan) (shadowed : ℕ) (w : Run)
+    → trace_text names plans shadowed w ≡ text_of_trace (trace_of_run names plans shadowed w)

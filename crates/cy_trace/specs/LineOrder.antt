@@ -8,33 +8,48 @@ use Rattle.cy_trace.specs.declared.error.TraceError.TheVariants as trace_error
 use Rattle.cy_trace.specs.declared.fault.Fault.{Fault}
 use Rattle.cy_trace.specs.declared.fault.Fault.TheVariants as fault
 use Rattle.cy_trace.specs.declared.line.Line.{Line}
-use Rattle.cy_trace.specs.declared.line.Line.TheVariants.{Title, Played, Component, Roles, Call, End, Tape}
+use Rattle.cy_trace.specs.declared.line.Line.TheVariants.{Title, Played, Component, Roles, Call}
+use Rattle.cy_trace.specs.declared.line.Line.TheVariants.{End, Tape}
 use Rattle.cy_trace.specs.declared.building.Building.{Building}
-use Rattle.cy_trace.specs.declared.building.Front.{Front}
+use Rattle.cy_trace.specs.declared.building.Prefix.{Prefix}
 use Rattle.cy_trace.specs.declared.trace.TapeEntry.{TapeEntry}
 use Rattle.cy_trace.specs.declared.trace.TraceComponent.{TraceComponent}
-use Rattle.cy_trace.specs.declared.building.Building.TheVariants.{Start, Titled, Between, Named, Called, Taped}
+use Rattle.cy_trace.specs.declared.building.Building.TheVariants.{Start, Titled, Between, Named}
+use Rattle.cy_trace.specs.declared.building.Building.TheVariants.{Called, Taped}
 
 -- More components behind those that are there.
-abbrev pub with_components : Front → List TraceComponent → Front
-with_components front components = record { played = front.played; shadowed = front.shadowed; components = front.components ++ components }
+abbrev pub with_components : Prefix → List TraceComponent → Prefix
+with_components prefix components = record {
+  played = prefix.played;
+  shadowed = prefix.shadowed;
+  components = prefix.components ++ components;
+}
 
 -- The trace with a tape.
-abbrev pub trace_with : Front → List TapeEntry → Trace
-trace_with front tape = record { played = front.played; shadowed = front.shadowed; components = front.components; tape = tape }
+abbrev pub trace_with : Prefix → List TapeEntry → Trace
+trace_with prefix tape = record {
+  played = prefix.played;
+  shadowed = prefix.shadowed;
+  components =
+      prefix.components;
+  tape = tape;
+}
 
--- The title comes first, then the counts. A component is its name, its roles, its calls and its end. Once the tape has begun
--- there is nothing else.
+-- The title comes first, then the counts. A component is its name, its roles, its calls and its
+-- end. Once the tape has begun there is nothing else.
 unfoldable pub step : Building → Line → Option Building
 step Start Title = Some Titled
 step Titled (Played p s) = Some (Between (record { played = p; shadowed = s; components = [] }))
-step (Between front) (Component name) = Some (Named front name)
-step (Between front) (Tape entry) = Some (Taped front (entry ∷ []))
-step (Named front name) (Roles roles) = Some (Called front name roles [])
-step (Called front name roles calls) (Call call) = Some (Called front name roles (calls ++ call ∷ []))
-step (Called front name roles calls) (End finished next) =
-    Some (Between (with_components front ((record { name = name; roles = roles; calls = calls; finished = finished; next = next }) ∷ [])))
-step (Taped front tape) (Tape entry) = Some (Taped front (tape ++ entry ∷ []))
+step (Between prefix) (Component name) = Some (Named prefix name)
+step (Between prefix) (Tape entry) = Some (Taped prefix (entry ∷ []))
+step (Named prefix name) (Roles roles) = Some (Called prefix name roles [])
+step (Called prefix name roles calls) (Call call) = Some (Called prefix name roles (calls ++ call
+    ∷ []))
+step (Called prefix name roles calls) (End finished next) =
+    Some (Between (with_components prefix
+    ((record { name = name; roles = roles; calls = calls; finished = finished; next = next })
+    ∷ [])))
+step (Taped prefix tape) (Tape entry) = Some (Taped prefix (tape ++ entry ∷ []))
 step building line = None
 
 -- The same, of a line's bytes.
@@ -43,8 +58,8 @@ next building bytes = option_and_then (λ line. step building line) (line_of byt
 
 -- A trace may end behind its counts, behind a component, and behind a message of the tape.
 unfoldable pub finish : Building → Option Trace
-finish (Between front) = Some (trace_with front [])
-finish (Taped front tape) = Some (trace_with front tape)
+finish (Between prefix) = Some (trace_with prefix [])
+finish (Taped prefix tape) = Some (trace_with prefix tape)
 finish building = None
 
 -- The error of a line, from 1, where reading it failed.

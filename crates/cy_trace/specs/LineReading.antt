@@ -1,5 +1,7 @@
 -- What the lines of a trace say.
-use Rattle.std.specs.Prelude.{ℕ, ℤ, ◌≡◌, ◌+◌, ◌-◌, ◌*◌, ◌%◌, ◌==◌, ◌&&◌, nat_lt, Bool, true, false, List, [], ◌∷◌, ◌++◌, length, Option, Some, None, option_map, option_to_list, Result, Ok, Err, Vec, if◌then◌else◌, codes}
+use Rattle.std.specs.Prelude.{ℕ, ℤ, ◌≡◌, ◌+◌, ◌-◌, ◌*◌, ◌%◌, ◌==◌, ◌&&◌, nat_lt, Bool, true, false}
+use Rattle.std.specs.Prelude.{List, [], ◌∷◌, ◌++◌, length, Option, Some, None, option_map}
+use Rattle.std.specs.Prelude.{option_to_list, Result, Ok, Err, Vec, if◌then◌else◌, codes}
 use Rattle.std.specs.Option.{option_and_then}
 use Rattle.std.specs.List.{slice_split}
 use Rattle.std.specs.Str.{bytes_eq, is_utf8}
@@ -14,7 +16,8 @@ use Rattle.cy_trace.specs.declared.trace.TraceOutput.{TraceOutput}
 use Rattle.cy_trace.specs.declared.trace.TraceCall.{TraceCall}
 use Rattle.cy_trace.specs.declared.trace.TapeEntry.{TapeEntry}
 use Rattle.cy_trace.specs.declared.line.Line.{Line}
-use Rattle.cy_trace.specs.declared.line.Line.TheVariants.{Title, Played, Component, Roles, Call, End, Tape}
+use Rattle.cy_trace.specs.declared.line.Line.TheVariants.{Title, Played, Component, Roles, Call}
+use Rattle.cy_trace.specs.declared.line.Line.TheVariants.{End, Tape}
 
 -- What was returned is what the reading says, unless memory ran out.
 abbrev pub Gives : {X : Type 0} → Result X Fault → Option X → Type 0
@@ -28,15 +31,18 @@ GivesItems (Err fault.Bad) reading = reading ≡ None
 GivesItems (Err fault.Memory) reading = Unit {0}
 
 -- Two readings, of what stands before a mark and behind it.
-abbrev pub pair : {A B : Type 0} → ℕ → (List ℕ → Option A) → (List ℕ → Option B) → List ℕ → Option (A × B)
+abbrev pub pair : {A B : Type 0} → ℕ → (List ℕ → Option A) → (List ℕ → Option B) → List ℕ
+    → Option (A × B)
 pair mark first second bytes = option_and_then (λ p. both (first p.0) (second p.1)) (cut mark bytes)
 
-abbrev pub pair_last : {A B : Type 0} → ℕ → (List ℕ → Option A) → (List ℕ → Option B) → List ℕ → Option (A × B)
-pair_last mark first second bytes = option_and_then (λ p. both (first p.0) (second p.1)) (cut_last mark bytes)
+abbrev pub pair_last : {A B : Type 0} → ℕ → (List ℕ → Option A) → (List ℕ → Option B) → List ℕ
+    → Option (A × B)
+pair_last mark first second bytes = option_and_then (λ p. both (first p.0) (second p.1))
+    (cut_last mark bytes)
 
--- A reading of what stands behind a front.
+-- A reading of what stands behind a prefix.
 abbrev pub after : {A : Type 0} → List ℕ → (List ℕ → Option A) → List ℕ → Option A
-after front read bytes = option_and_then read (behind front bytes)
+after prefix read bytes = option_and_then read (behind prefix bytes)
 
 abbrev pub short : List ℕ → Option ℕ
 short = number 4294967295
@@ -61,7 +67,8 @@ output_of p = record { seq = p.0; time = p.1.0; value = p.1.1 }
 
 -- What a call put out, or a dash.
 unfoldable pub output : List ℕ → Option (Option TraceOutput)
-output bytes = if bytes_eq bytes (codes "-") then Some None else option_map (λ p. Some (output_of p)) (pair 64 short timed bytes)
+output bytes = if bytes_eq bytes (codes "-") then Some None else option_map
+    (λ p. Some (output_of p)) (pair 64 short timed bytes)
 
 abbrev pub numbers : List (List ℕ) → Option (List ℕ)
 numbers [] = Some []
@@ -74,7 +81,8 @@ words_left (Some words) = slice_split (λ b. b == 32) words
 
 -- One to four numbers, with single spaces between.
 unfoldable pub seqs : List ℕ → Option (List ℕ)
-seqs bytes = option_and_then (λ ns. if nat_lt 4 (length ns) then None else Some ns) (numbers (words_left (Some bytes)))
+seqs bytes = option_and_then (λ ns. if nat_lt 4 (length ns) then None else Some ns)
+    (numbers (words_left (Some bytes)))
 
 abbrev pub call_of : (ℕ × ℕ) × (List ℕ × Option TraceOutput) → TraceCall
 call_of p = record { position = p.0.0; tail = p.0.1; seqs = p.1.0; out = p.1.1 }
@@ -91,15 +99,18 @@ digits (b ∷ bytes) = option_map (λ p. p.0 ∷ p.1) (both (role b) (digits byt
 
 -- A digit for each role, or a dash.
 unfoldable pub roles : List ℕ → Option (List ℕ)
-roles bytes = if bytes_eq bytes (codes "-") then Some [] else (if length bytes == 0 then None else digits bytes)
+roles bytes = if bytes_eq bytes (codes "-") then Some [] else
+    (if length bytes == 0 then None else digits bytes)
 
 abbrev pub state : List ℕ → Option Bool
-state bytes = if bytes_eq bytes (codes "FINISHED") then Some true else (if bytes_eq bytes (codes "DATA_WAIT") then Some false else None)
+state bytes = if bytes_eq bytes (codes "FINISHED") then Some true else
+    (if bytes_eq bytes (codes "DATA_WAIT") then Some false else None)
 
 -- How a byte in quotes goes on: outside of an escape, or in one.
 unfoldable pub escape_after : Escape → ℕ → Escape
 escape_after Outside b = if b == 92 then Backslash else Outside
-escape_after Backslash b = if nat_lt b 48 then Outside else (if nat_lt b 50 then First b else Outside)
+escape_after Backslash b = if nat_lt b 48 then Outside else
+    (if nat_lt b 50 then First b else Outside)
 escape_after (First a) b = Second a b
 escape_after (Second a b) c = Outside
 
@@ -114,7 +125,8 @@ byte_at (Second a b) c = Some (a % 2 * 64 + b % 8 * 8 + c % 8)
 
 abbrev pub unquoted_from : Escape → List ℕ → List ℕ
 unquoted_from escape [] = []
-unquoted_from escape (b ∷ bytes) = option_to_list (byte_at escape b) ++ unquoted_from (escape_after escape b) bytes
+unquoted_from escape (b ∷ bytes) = option_to_list (byte_at escape b) ++ unquoted_from
+    (escape_after escape b) bytes
 
 -- What quotes are around, with the bytes that escapes stand for.
 unfoldable pub unquoted : List ℕ → List ℕ
@@ -122,13 +134,15 @@ unquoted bytes = unquoted_from Outside bytes
 
 -- The name which these bytes are in quotes.
 unfoldable pub name : List ℕ → Option (List ℕ)
-name bytes = let text = unquoted bytes in if is_utf8 text && bytes_eq bytes (quoted true text) then Some text else None
+name bytes = let text = unquoted bytes in if is_utf8 text && bytes_eq bytes
+    (quoted true text) then Some text else None
 
 unfoldable pub title : List ℕ → Option Line
 title bytes = if bytes_eq bytes (codes "1") then Some Title else None
 
 unfoldable pub played : List ℕ → Option Line
-played bytes = option_map (λ p. Played p.0 p.1) (pair 32 short (after (codes "shadowed ") short) bytes)
+played bytes = option_map (λ p. Played p.0 p.1)
+    (pair 32 short (after (codes "shadowed ") short) bytes)
 
 unfoldable pub ended : List ℕ → Option Line
 ended bytes = option_map (λ p. End p.0 p.1) (pair 32 state (after (codes "next ") long) bytes)

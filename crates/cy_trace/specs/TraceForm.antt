@@ -1,5 +1,7 @@
 -- The text of a trace, line by line.
-use Rattle.std.specs.Prelude.{ℕ, ℤ, pos, negsuc, ◌≡◌, ◌+◌, ◌<◌, ◌≤◌, ◌==◌, Bool, true, List, [], ◌∷◌, ◌++◌, length, take, map, Option, Some, None, if◌then◌else◌, codes}
+use Rattle.std.specs.Prelude.{ℕ, ℤ, pos, negsuc, ◌≡◌, ◌+◌, ◌<◌, ◌≤◌, ◌==◌, Bool, true, List, []}
+use Rattle.std.specs.Prelude.{◌∷◌, ◌++◌, length, take, map, Option, Some, None, if◌then◌else◌}
+use Rattle.std.specs.Prelude.{codes}
 use Rattle.std.specs.List.{flat_map}
 use Rattle.std.specs.Fmt.{decimal}
 use Rattle.std.specs.Str.{IsUtf8}
@@ -9,7 +11,8 @@ use Rattle.cy_trace.specs.declared.trace.TraceOutput.{TraceOutput}
 use Rattle.cy_trace.specs.declared.trace.TraceComponent.{TraceComponent}
 use Rattle.cy_trace.specs.declared.trace.Trace.{Trace}
 use Rattle.cy_trace.specs.declared.line.Line.{Line}
-use Rattle.cy_trace.specs.declared.line.Line.TheVariants.{Title, Played, Component, Roles, Call, End, Tape}
+use Rattle.cy_trace.specs.declared.line.Line.TheVariants.{Title, Played, Component, Roles, Call}
+use Rattle.cy_trace.specs.declared.line.Line.TheVariants.{End, Tape}
 
 -- What a call put out: a dash, or its number, its time and its value.
 abbrev pub output_text : Option TraceOutput → List ℕ
@@ -31,11 +34,14 @@ state_text finished = if finished then codes "FINISHED" else codes "DATA_WAIT"
 -- A line, without its newline.
 unfoldable pub line_text : Line → List ℕ
 line_text Title = codes "cyber-trace 1"
-line_text (Played played shadowed) = codes "played " ++ decimal played ++ codes " shadowed " ++ decimal shadowed
+line_text (Played played shadowed) = codes "played " ++ decimal played ++ codes " shadowed "
+    ++ decimal shadowed
 line_text (Component name) = codes "component " ++ quoted true name
 line_text (Roles roles) = codes "roles " ++ digits_text roles
-line_text (Call x) = codes "call " ++ decimal x.position ++ codes "/" ++ decimal x.tail ++ numbers_text x.seqs ++ codes " " ++ output_text x.out
-line_text (End finished next) = codes "end " ++ state_text finished ++ codes " next " ++ decimal next
+line_text (Call x) = codes "call " ++ decimal x.position ++ codes "/" ++ decimal x.tail
+    ++ numbers_text x.seqs ++ codes " " ++ output_text x.out
+line_text (End finished next) = codes "end " ++ state_text finished ++ codes " next "
+    ++ decimal next
 line_text (Tape entry) = codes "tape " ++ quoted true entry.name ++ codes " " ++ decimal entry.seq
 
 abbrev pub whole_line : Line → List ℕ
@@ -43,11 +49,13 @@ whole_line line = line_text line ++ 10 ∷ []
 
 -- The lines of a component: its name, its arrivals, its calls, and its end.
 abbrev pub lines_of_component : TraceComponent → List Line
-lines_of_component c = Component c.name ∷ Roles c.roles ∷ map Call c.calls ++ End c.finished c.next ∷ []
+lines_of_component c = Component c.name ∷ Roles c.roles ∷ map Call c.calls ++ End c.finished c.next
+    ∷ []
 
 -- The lines of a trace: the title, the counts, the components, and the tape.
 abbrev pub lines_of_trace : Trace → List Line
-lines_of_trace t = Title ∷ Played t.played t.shadowed ∷ flat_map lines_of_component t.components ++ map Tape t.tape
+lines_of_trace t = Title ∷ Played t.played t.shadowed ∷ flat_map lines_of_component t.components
+    ++ map Tape t.tape
 
 -- The text of a trace.
 unfoldable pub text_of_trace : Trace → List ℕ
@@ -79,7 +87,8 @@ IsOutput (Some out) = IsShort out.seq × (IsLong out.time × IsValue out.value)
 abbrev pub IsSeqs : List ℕ → Type 0
 IsSeqs seqs = Each IsShort seqs × (0 < length seqs) × (length seqs ≤ 4)
 
--- Every number of a line fits its type, a call has one to four messages, a role is one digit, and a name is a text.
+-- Every number of a line fits its type, a call has one to four messages, a role is one digit, and a
+-- name is a text.
 abbrev pub IsLine : Line → Type 0
 IsLine Title = Unit {0}
 IsLine (Played played shadowed) = IsShort played × IsShort shadowed
@@ -108,16 +117,18 @@ onto_line b (line ∷ lines) = (b ∷ line) ∷ lines
 -- A text cut behind each newline. Its last line may lack one.
 unfoldable pub cut_lines : List ℕ → List (List ℕ)
 cut_lines [] = []
-cut_lines (b ∷ bytes) = if b == 10 then (b ∷ []) ∷ cut_lines bytes else onto_line b (cut_lines bytes)
+cut_lines (b ∷ bytes) = if b == 10 then (b ∷ []) ∷ cut_lines bytes else onto_line b
+    (cut_lines bytes)
 
 -- These lines are the first ones of a text of the form.
-abbrev pub IsFront : List (List ℕ) → Type 0
-IsFront lines = (t : Trace) × (rest : List (List ℕ)) × IsTrace t × (map whole_line (lines_of_trace t) ≡ lines ++ rest)
+abbrev pub IsPrefix : List (List ℕ) → Type 0
+IsPrefix lines = (t : Trace) × (rest : List (List ℕ)) × IsTrace t
+    × (map whole_line (lines_of_trace t) ≡ lines ++ rest)
 
--- So many lines are the first ones of a text of the form, and with the next one they are of none; where there is no next one,
--- the text ends too early.
+-- So many lines are the first ones of a text of the form, and with the next one they are of none;
+-- where there is no next one, the text ends too early.
 pub record IsFirstBad (text : List ℕ) (before : ℕ) : Type 0 where
   pub there : before ≤ length (cut_lines text)
-  pub front : IsFront (take before (cut_lines text))
-  pub bad : before < length (cut_lines text) → ¬ (IsFront (take (before + 1) (cut_lines text)))
+  pub prefix : IsPrefix (take before (cut_lines text))
+  pub bad : before < length (cut_lines text) → ¬ (IsPrefix (take (before + 1) (cut_lines text)))
   pub early : before ≡ length (cut_lines text) → ¬ (IsTraceText text)

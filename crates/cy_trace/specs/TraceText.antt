@@ -1,7 +1,9 @@
 -- The text of a trace: what was played, each component's arrivals and calls, and the tape.
-use Rattle.std.specs.Prelude.{ℕ, ℤ, ◌+◌, Bool, true, if◌then◌else◌, is_some, List, [], ◌∷◌, ◌++◌, length, map, Option, Some, None, unwrap_or, slice_get, codes}
+use Rattle.std.specs.Prelude.{ℕ, ℤ, ◌+◌, Bool, true, if◌then◌else◌, is_some, List, [], ◌∷◌, ◌++◌}
+use Rattle.std.specs.Prelude.{length, map, Option, Some, None, codes}
 use Rattle.std.specs.List.{flat_map}
 use Rattle.std.specs.Fmt.{decimal, signed_decimal}
+use Rattle.cy_msg.specs.Names.{channel_name}
 use Rattle.cy_msg.specs.Quoted.{quoted}
 use Rattle.cy_msg.specs.Tuple.{messages_of}
 use Rattle.cy_msg.specs.declared.token.Token.{Token}
@@ -18,7 +20,8 @@ abbrev pub title : List ℕ
 title = codes "cyber-trace 1\n"
 
 abbrev pub played_line : (played shadowed : ℕ) → List ℕ
-played_line played shadowed = codes "played " ++ decimal played ++ codes " shadowed " ++ decimal shadowed ++ codes "\n"
+played_line played shadowed = codes "played " ++ decimal played ++ codes " shadowed "
+    ++ decimal shadowed ++ codes "\n"
 
 -- A digit for each arrival, its role; a dash where there is none.
 abbrev pub roles_text : List Arrival → List ℕ
@@ -30,10 +33,12 @@ abbrev pub value_text : Option ℤ → List ℕ
 value_text None = []
 value_text (Some value) = codes "=" ++ signed_decimal value
 
--- What a call put out, behind so many earlier outputs: a dash, or its number, its time and its value.
+-- What a call put out, behind so many earlier outputs: a dash, or its number, its time and its
+-- value.
 abbrev pub out_text : ℕ → Option Out → List ℕ
 out_text before None = codes "-"
-out_text before (Some out) = decimal (before + 1) ++ codes "@" ++ decimal out.time ++ value_text out.whole
+out_text before (Some out) = decimal (before + 1) ++ codes "@" ++ decimal out.time
+    ++ value_text out.whole
 
 abbrev pub seqs_text : Tuple → List ℕ
 seqs_text tuple = flat_map (λ (m : Token). codes " " ++ decimal m.seq) (messages_of tuple)
@@ -41,35 +46,39 @@ seqs_text tuple = flat_map (λ (m : Token). codes " " ++ decimal m.seq) (message
 -- A call: its position and tail, the numbers of its messages, and its output.
 abbrev pub call_line : ℕ → Call → List ℕ
 call_line before x =
-    codes "call " ++ decimal x.position ++ codes "/" ++ decimal x.tail ++ seqs_text x.tuple ++ codes " " ++ out_text before x.out ++ codes "\n"
+    codes "call " ++ decimal x.position ++ codes "/" ++ decimal x.tail ++ seqs_text x.tuple
+    ++ codes " " ++ out_text before x.out ++ codes "\n"
 
 -- Calls, behind so many outputs of earlier calls.
 abbrev pub call_lines : ℕ → List Call → List ℕ
 call_lines before [] = []
-call_lines before (x ∷ rest) = call_line before x ++ call_lines (before + (if is_some x.out then 1 else 0)) rest
+call_lines before (x ∷ rest) = call_line before x
+    ++ call_lines (before + (if is_some x.out then 1 else 0)) rest
 
 -- Whether the component has ended, and where its next fetch would begin.
 abbrev pub end_line : Bool → ℕ → List ℕ
-end_line finished next = codes "end " ++ (if finished then codes "FINISHED" else codes "DATA_WAIT") ++ codes " next " ++ decimal next ++ codes "\n"
+end_line finished next = codes "end " ++ (if finished then codes "FINISHED" else codes "DATA_WAIT")
+    ++ codes " next " ++ decimal next ++ codes "\n"
 
 abbrev pub component_text : Plan → List Arrival → List Call → List ℕ
 component_text p arrivals calls =
-    codes "component " ++ quoted true p.name ++ codes "\n" ++ codes "roles " ++ roles_text arrivals ++ codes "\n"
+    codes "component " ++ quoted true p.name ++ codes "\n" ++ codes "roles " ++ roles_text arrivals
+    ++ codes "\n"
     ++ call_lines 0 calls ++ end_line (is_last (last_outcome p.kind calls)) (cursor_after calls)
 
 -- The components from a number on.
 abbrev pub components_text : Run → ℕ → List Plan → List ℕ
 components_text w c [] = []
-components_text w c (p ∷ rest) = component_text p (w.arrivals c) (w.calls c) ++ components_text w (c + 1) rest
-
--- The name of a channel, by its number.
-abbrev pub channel_name : List (List ℕ) → ℕ → List ℕ
-channel_name names channel = unwrap_or (slice_get names channel) []
+components_text w c (p ∷ rest) = component_text p (w.arrivals c) (w.calls c) ++ components_text w
+    (c + 1) rest
 
 abbrev pub tape_line : List (List ℕ) → Token → List ℕ
-tape_line names t = codes "tape " ++ quoted true (channel_name names t.channel) ++ codes " " ++ decimal t.seq ++ codes "\n"
+tape_line names t = codes "tape " ++ quoted true (channel_name names t.channel) ++ codes " "
+    ++ decimal t.seq ++ codes "\n"
 
--- The trace of a run of these components over these channels, of whose messages so many were shadowed.
+-- The trace of a run of these components over these channels, beside which so many messages were
+-- shadowed.
 unfoldable pub trace_text : List (List ℕ) → List Plan → ℕ → Run → List ℕ
 trace_text names plans shadowed w =
-    title ++ played_line (length (played_of (routes_of plans) w.tape)) shadowed ++ components_text w 0 plans ++ flat_map (tape_line names) w.tape
+    title ++ played_line (length (played_of (routes_of plans) w.tape)) shadowed
+    ++ components_text w 0 plans ++ flat_map (tape_line names) w.tape

@@ -9,9 +9,9 @@ use crate::{TapeEntry, Trace, TraceCall, TraceComponent};
 use cy_msg::{Items, Text};
 use std::alloc::Global;
 
-/// What stands in front of a component or of the tape.
+/// What the lines before a component or the tape say.
 #[derive(Drop)]
-pub(crate) struct Front {
+pub(crate) struct Prefix {
     pub(crate) played: u32,
     pub(crate) shadowed: u32,
     pub(crate) components: Items<TraceComponent>,
@@ -25,16 +25,16 @@ pub(crate) enum Building {
     /// The title.
     Titled,
     /// The counts, or the end of a component.
-    Between(Front),
+    Between(Prefix),
     /// The name of a component.
-    Named(Front, Text),
+    Named(Prefix, Text),
     /// The roles or a call of a component.
-    Called(Front, Text, Items<u8>, Items<TraceCall>),
+    Called(Prefix, Text, Items<u8>, Items<TraceCall>),
     /// A message of the tape.
-    Taped(Front, Items<TapeEntry>),
+    Taped(Prefix, Items<TapeEntry>),
 }
 
-/// The items with one more.
+// The items with one more.
 fn with<T: Drop>(items: Items<T>, item: T) -> Result<Items<T>, Fault>
     ensures { Gives result (Some (items ++ item ∷ [])) }
 {
@@ -43,36 +43,36 @@ fn with<T: Drop>(items: Items<T>, item: T) -> Result<Items<T>, Fault>
     Ok(Items::new(items))
 }
 
-/// No items.
+// No items.
 fn none<T>(alloc: Global) -> Items<T>
     ensures { result ≡ [] }
 {
     Items::new(Vec::new(alloc))
 }
 
-impl Front {
-    /// The same with one more component.
-    fn with(self, component: TraceComponent) -> Result<Front, Fault>
+impl Prefix {
+    // The same with one more component.
+    fn with(self, component: TraceComponent) -> Result<Prefix, Fault>
         ensures { Gives result (Some (with_components self (component ∷ []))) }
     {
-        let Front {
+        let Prefix {
             played,
             shadowed,
             components,
         } = self;
         let components = with(components, component)?;
-        Ok(Front {
+        Ok(Prefix {
             played,
             shadowed,
             components,
         })
     }
 
-    /// The trace with this tape.
+    // The trace with this tape.
     fn finish(self, tape: Items<TapeEntry>) -> Trace
         ensures { result ≡ trace_with self tape }
     {
-        let Front {
+        let Prefix {
             played,
             shadowed,
             components,
@@ -87,27 +87,27 @@ impl Front {
 }
 
 impl Building {
-    /// The same with one more line, where it may come next.
+    // The same with one more line, where it may come next.
     #[tactic(auto, unfolding(crate::specs::LineOrder::step))]
     fn step(self, alloc: Global, line: Line) -> Result<Building, Fault>
         ensures { Gives result (step self line) }
     {
         match (self, line) {
             (Building::Start, Line::Title) => Ok(Building::Titled),
-            (Building::Titled, Line::Played(played, shadowed)) => Ok(Building::Between(Front {
+            (Building::Titled, Line::Played(played, shadowed)) => Ok(Building::Between(Prefix {
                 played,
                 shadowed,
                 components: none(alloc),
             })),
-            (Building::Between(front), Line::Component(name)) => Ok(Building::Named(front, name)),
-            (Building::Named(front, name), Line::Roles(roles)) => {
-                Ok(Building::Called(front, name, roles, none(alloc)))
+            (Building::Between(prefix), Line::Component(name)) => Ok(Building::Named(prefix, name)),
+            (Building::Named(prefix, name), Line::Roles(roles)) => {
+                Ok(Building::Called(prefix, name, roles, none(alloc)))
             }
-            (Building::Called(front, name, roles, calls), Line::Call(call)) => {
+            (Building::Called(prefix, name, roles, calls), Line::Call(call)) => {
                 let calls = with(calls, call)?;
-                Ok(Building::Called(front, name, roles, calls))
+                Ok(Building::Called(prefix, name, roles, calls))
             }
-            (Building::Called(front, name, roles, calls), Line::End(finished, next)) => {
+            (Building::Called(prefix, name, roles, calls), Line::End(finished, next)) => {
                 let component = TraceComponent {
                     name,
                     roles,
@@ -115,13 +115,13 @@ impl Building {
                     finished,
                     next,
                 };
-                Ok(Building::Between(front.with(component)?))
+                Ok(Building::Between(prefix.with(component)?))
             }
-            (Building::Between(front), Line::Tape(entry)) => {
-                Ok(Building::Taped(front, with(none(alloc), entry)?))
+            (Building::Between(prefix), Line::Tape(entry)) => {
+                Ok(Building::Taped(prefix, with(none(alloc), entry)?))
             }
-            (Building::Taped(front, tape), Line::Tape(entry)) => {
-                Ok(Building::Taped(front, with(tape, entry)?))
+            (Building::Taped(prefix, tape), Line::Tape(entry)) => {
+                Ok(Building::Taped(prefix, with(tape, entry)?))
             }
             _ => Err(Fault::Bad),
         }
@@ -142,8 +142,8 @@ impl Building {
         ensures { result ≡ finish self }
     {
         match self {
-            Building::Between(front) => Some(front.finish(none(alloc))),
-            Building::Taped(front, tape) => Some(front.finish(tape)),
+            Building::Between(prefix) => Some(prefix.finish(none(alloc))),
+            Building::Taped(prefix, tape) => Some(prefix.finish(tape)),
             _ => None,
         }
     }

@@ -1,6 +1,7 @@
 // Calls and arrivals.
 ghost use Rattle.std.specs.Prelude.{◌≡◌, ◌<◌, ◌≤◌, ◌∷◌, Some, length, IfSome, option_map};
-ghost use Rattle.cy_trace.specs.LineReading.{Gives, call, digits, output, pair, pair_last, place, role, roles, seqs, timed};
+ghost use Rattle.cy_trace.specs.LineReading.{Gives, call, digits, output, pair, pair_last, place};
+ghost use Rattle.cy_trace.specs.LineReading.{role, roles, seqs, timed};
 ghost use Rattle.cy_trace.specs.Numerals.{number, signed};
 ghost use Rattle.cy_trace.specs.LineReading.{GivesItems, numbers, words_left};
 
@@ -10,10 +11,10 @@ use crate::{TraceCall, TraceOutput};
 use cy_msg::Items;
 use std::alloc::Global;
 
-/// The most messages that a call takes.
+// The most messages that a call takes.
 const MOST_MESSAGES: usize = 4;
 
-/// The position and the tail of a call.
+// The position and the tail of a call.
 #[tactic(auto, unfolding(crate::specs::LineReading::place))]
 fn place(word: &[u8]) -> Option<(u64, u64)>
     ensures { result ≡ place word.now }
@@ -24,7 +25,7 @@ fn place(word: &[u8]) -> Option<(u64, u64)>
     Some((position, tail))
 }
 
-/// A time, and a value where there is one.
+// A time, and a value where there is one.
 #[tactic(auto, unfolding(crate::specs::LineReading::timed))]
 fn timed(word: &[u8]) -> Option<(u64, Option<i64>)>
     ensures { result ≡ timed word.now }
@@ -42,7 +43,7 @@ fn timed(word: &[u8]) -> Option<(u64, Option<i64>)>
     }
 }
 
-/// What a call put out, or a dash.
+// What a call put out, or a dash.
 #[tactic(auto, unfolding(crate::specs::LineReading::output))]
 fn output(word: &[u8]) -> Option<Option<TraceOutput>>
     ensures { result ≡ output word.now }
@@ -56,9 +57,10 @@ fn output(word: &[u8]) -> Option<Option<TraceOutput>>
     Some(Some(TraceOutput { seq, time, value }))
 }
 
-/// The first of some words with single spaces between, and the others, of which there may be none.
+// The first of some words with single spaces between, and the others, of which there may be none.
 fn first_word(words: &[u8]) -> (&[u8], Option<&[u8]>)
-    ensures parts { words_left (Some words.now) ≡ result.0.now ∷ words_left (option_map (λ w. w.now) result.1) }
+    ensures parts { words_left (Some words.now) ≡ result.0.now
+        ∷ words_left (option_map (λ w. w.now) result.1) }
     ensures shorter { IfSome result.1 (λ w. length w.now < length words.now) }
 {
     match cut(words, b' ') {
@@ -67,7 +69,7 @@ fn first_word(words: &[u8]) -> (&[u8], Option<&[u8]>)
     }
 }
 
-/// Numbers with single spaces between.
+// Numbers with single spaces between.
 fn numbers(alloc: Global, bytes: &[u8]) -> Result<Vec<u32>, Fault>
     ensures { GivesItems result (numbers (words_left (Some bytes.now))) }
 {
@@ -84,7 +86,7 @@ fn numbers(alloc: Global, bytes: &[u8]) -> Result<Vec<u32>, Fault>
     Ok(numbers)
 }
 
-/// The numbers of the messages of a call, with single spaces between.
+// The numbers of the messages of a call, with single spaces between.
 #[tactic(auto, unfolding(crate::specs::LineReading::seqs))]
 fn seqs(alloc: Global, bytes: &[u8]) -> Result<Items<u32>, Fault>
     ensures { Gives result (seqs bytes.now) }
@@ -122,7 +124,7 @@ pub(crate) fn call(alloc: Global, bytes: &[u8]) -> Result<TraceCall, Fault>
     })
 }
 
-/// The role that a digit is.
+// The role that a digit is.
 fn role(byte: u8) -> Option<u8>
     ensures { result ≡ role byte }
 {
@@ -132,7 +134,7 @@ fn role(byte: u8) -> Option<u8>
     }
 }
 
-/// A digit for each arrival, its role.
+// A digit for each arrival, its role.
 fn digits(alloc: Global, bytes: &[u8]) -> Result<Items<u8>, Fault>
     ensures { Gives result (digits bytes.now) }
 {

@@ -11,7 +11,7 @@ pub enum TraceError {
     /// The text is outside the form.
     #[error("line {line} is of no trace")]
     Bad {
-        /// The first line, from 1, with which the lines so far are the front of no trace.
+        /// The first line, from 1, with which the lines so far are a prefix of no trace.
         line: u32,
     },
     /// There is no memory.

@@ -1,5 +1,6 @@
 // What holds of the texts of traces.
-ghost use Rattle.cy_trace.specs.Laws.{FirstBadIsOne, LinesAreSpelled, LinesReadBack, RunsAreTraces, TextsOfTracesAreGood, TextsTellTraces};
+ghost use Rattle.cy_trace.specs.Laws.{FirstBadIsOne, LinesAreSpelled, LinesReadBack, RunsAreTraces};
+ghost use Rattle.cy_trace.specs.Laws.{TextsOfTracesAreGood, TextsTellTraces};
 
 /// A line that is written is read back, and whatever is read is just how a line is written.
 pub fn lines_read_back()

@@ -12,8 +12,6 @@ mod line;
 mod lines;
 mod name;
 mod read;
-#[cfg(test)]
-mod tests;
 mod text;
 mod trace;
 mod word;

@@ -1,7 +1,8 @@
 // The lines of a trace, each as a value.
 ghost use Rattle.std.specs.Prelude.{◌≡◌, option_map};
 ghost use Rattle.std.specs.Str.{bytes_eq};
-ghost use Rattle.cy_trace.specs.LineReading.{Gives, call, ended, line_by, line_of, pair, pair_last, played, state, taped, title};
+ghost use Rattle.cy_trace.specs.LineReading.{Gives, call, ended, line_by, line_of, pair, pair_last};
+ghost use Rattle.cy_trace.specs.LineReading.{played, state, taped, title};
 
 use crate::call::{call, roles};
 use crate::fault::Fault;
@@ -30,7 +31,7 @@ pub(crate) enum Line {
     Tape(TapeEntry),
 }
 
-/// The first line, of which this is the form's version.
+// The first line, of which this is the form's version.
 #[tactic(auto, unfolding(crate::specs::LineReading::title))]
 fn title(rest: &[u8]) -> Option<Line>
     ensures { result ≡ title rest.now }
@@ -42,7 +43,7 @@ fn title(rest: &[u8]) -> Option<Line>
     }
 }
 
-/// How many messages were played and shadowed.
+// How many messages were played and shadowed.
 #[tactic(auto, unfolding(crate::specs::LineReading::played))]
 fn played(rest: &[u8]) -> Option<Line>
     ensures { result ≡ played rest.now }
@@ -53,7 +54,7 @@ fn played(rest: &[u8]) -> Option<Line>
     Some(Line::Played(played, shadowed))
 }
 
-/// Whether a component has ended.
+// Whether a component has ended.
 fn state(word: &[u8]) -> Option<bool>
     ensures { result ≡ state word.now }
 {
@@ -66,7 +67,7 @@ fn state(word: &[u8]) -> Option<bool>
     }
 }
 
-/// The end of a component.
+// The end of a component.
 #[tactic(auto, unfolding(crate::specs::LineReading::ended))]
 fn ended(rest: &[u8]) -> Option<Line>
     ensures { result ≡ ended rest.now }
@@ -77,7 +78,7 @@ fn ended(rest: &[u8]) -> Option<Line>
     Some(Line::End(finished, next))
 }
 
-/// A message of the tape.
+// A message of the tape.
 #[tactic(auto, unfolding(crate::specs::LineReading::taped))]
 fn taped(alloc: Global, rest: &[u8]) -> Result<TapeEntry, Fault>
     ensures { Gives result (taped rest.now) }
@@ -92,14 +93,14 @@ fn taped(alloc: Global, rest: &[u8]) -> Result<TapeEntry, Fault>
     Ok(TapeEntry { name, seq })
 }
 
-/// The value of a reading that needs no memory.
+// The value of a reading that needs no memory.
 fn found(line: Option<Line>) -> Result<Line, Fault>
     ensures { Gives result line }
 {
     line.ok_or(Fault::Bad)
 }
 
-/// The line with a first word and what follows it.
+// The line with a first word and what follows it.
 #[tactic(auto, unfolding(crate::specs::LineReading::line_by))]
 fn line_by(alloc: Global, word: &[u8], rest: &[u8]) -> Result<Line, Fault>
     ensures { Gives result (line_by word.now rest.now) }

@@ -4,9 +4,11 @@ ghost use Rattle.std.specs.List.{flat_map};
 ghost use Rattle.cy_msg.specs.declared.token.Token.{Token};
 ghost use Rattle.cy_fuse.specs.Fusion.{Arrival};
 ghost use Rattle.cy_comp.specs.Calls.{last_outcome, is_last, cursor_after};
-ghost use Rattle.cy_trace.specs.TraceText.{title, played_line, roles_text, value_text, out_text, seqs_text, call_line, call_lines, end_line, component_text, tape_line};
+ghost use Rattle.cy_trace.specs.TraceText.{title, played_line, roles_text, value_text, out_text};
+ghost use Rattle.cy_trace.specs.TraceText.{seqs_text, call_line, call_lines, end_line};
+ghost use Rattle.cy_trace.specs.TraceText.{component_text, tape_line};
 
-use cy_comp::{Call, Kind, Out, Plan};
+use cy_comp::{Call, Kind, Out, Plan, is_finished, next_cursor};
 use cy_msg::{Names, Token, Tuple, push_quoted};
 use std::io;
 use std::io::Write;
@@ -96,20 +98,10 @@ fn push_roles(to: &mut Vec<u8>, arrivals: &[(u8, Token)]) -> io::Result<()>
     Ok(())
 }
 
-// Whether a component of a class has ended, after these calls.
-#[tactic(auto, using(crate::proofs::Ends::goes_on))]
-fn is_finished(kind: &Kind, _calls: &[Call]) -> bool
-    ensures { result ≡ is_last (last_outcome kind.now _calls.now) }
-{
-    match kind {
-        // None of its answers is its last.
-        Kind::Pass => false,
-    }
-}
-
 // Whether a component has ended, and where its next fetch would begin.
 fn push_end_line(to: &mut Vec<u8>, kind: &Kind, calls: &[Call]) -> io::Result<()>
-    ensures { OnOk result (to.new.items ≡ to.old.items ++ end_line (is_last (last_outcome kind.now calls.now)) (cursor_after calls.now)) }
+    ensures { OnOk result (to.new.items ≡ to.old.items
+        ++ end_line (is_last (last_outcome kind.now calls.now)) (cursor_after calls.now)) }
 {
     let state = if is_finished(kind, calls) {
         "FINISHED"
@@ -120,24 +112,6 @@ fn push_end_line(to: &mut Vec<u8>, kind: &Kind, calls: &[Call]) -> io::Result<()
     writeln!(to, "end {state} next {next}")
 }
 
-// The position after one.
-fn position_after(position: u64) -> u128
-    ensures { result ≡ position + 1 }
-{
-    u128::from(position) + 1
-}
-
-// Where the fetch after these calls would begin.
-#[tactic(auto, using(crate::proofs::Ends::cursor_after_none, crate::proofs::Ends::cursor_after_last))]
-fn next_cursor(calls: &[Call]) -> u128
-    ensures { result ≡ cursor_after calls.now }
-{
-    match calls.last() {
-        None => 0,
-        Some(last) => position_after(last.position),
-    }
-}
-
 // A component: its name, what arrived, its calls, and its end.
 pub(crate) fn push_component(
     to: &mut Vec<u8>,
@@ -146,7 +120,8 @@ pub(crate) fn push_component(
     calls: &[Call],
 ) -> io::Result<()>
     requires { (n : ℕ) (a : Arrival) → slice_get arrivals.now n ≡ Some a → a.0 < 10 }
-    ensures { OnOk result (to.new.items ≡ to.old.items ++ component_text plan.now arrivals.now calls.now) }
+    ensures { OnOk result (to.new.items ≡ to.old.items
+        ++ component_text plan.now arrivals.now calls.now) }
 {
     write!(to, "component ")?;
     push_quoted(to, plan.name.as_str().as_bytes(), true)?;
@@ -177,6 +152,3 @@ pub(crate) fn push_tape_lines(to: &mut Vec<u8>, names: &Names, tape: &[Token]) -
     }
     Ok(())
 }
-
-#[cfg(test)]
-mod tests;

@@ -24,7 +24,7 @@ pub(crate) enum Escape {
 }
 
 impl Escape {
-    /// Where the byte behind `byte` stands.
+    // Where the byte behind `byte` stands.
     #[tactic(auto, unfolding(crate::specs::LineReading::escape_after))]
     fn after(self, byte: u8) -> Escape
         ensures { result ≡ escape_after self byte }
@@ -37,7 +37,7 @@ impl Escape {
         }
     }
 
-    /// The byte that is whole with this one.
+    // The byte that is whole with this one.
     #[tactic(auto, unfolding(crate::specs::LineReading::byte_at))]
     fn byte(self, byte: u8) -> Option<u8>
         ensures { result ≡ byte_at self byte }
@@ -60,7 +60,7 @@ impl Escape {
     }
 }
 
-/// What quotes are around, if the bytes are a name in quotes. Of other bytes it is of no account.
+// What quotes are around, if the bytes are a name in quotes. Of other bytes it is of no account.
 #[tactic(auto, unfolding(crate::specs::LineReading::unquoted))]
 fn unquoted(alloc: Global, bytes: &[u8]) -> Result<Vec<u8>, AllocError>
     ensures { IfOk result (λ text. text.items ≡ unquoted bytes.now) }
@@ -76,7 +76,7 @@ fn unquoted(alloc: Global, bytes: &[u8]) -> Result<Vec<u8>, AllocError>
     Ok(text)
 }
 
-/// Whether the bytes are just this text in quotes, as a trace has names.
+// Whether the bytes are just this text in quotes, as a trace has names.
 fn is_quoted(alloc: Global, bytes: &[u8], text: &[u8]) -> Result<bool, AllocError>
     ensures { IfOk result (λ same. same ≡ bytes_eq bytes.now (quoted true text.now)) }
 {

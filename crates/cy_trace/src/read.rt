@@ -11,7 +11,7 @@ use crate::word::cut;
 use crate::{Trace, TraceError};
 use std::alloc::Global;
 
-/// The error of a line, from 1, where reading it failed.
+// The error of a line, from 1, where reading it failed.
 fn error_at(line: u32, fault: Fault) -> TraceError
     ensures { result ≡ error_at line fault }
 {
@@ -21,15 +21,19 @@ fn error_at(line: u32, fault: Fault) -> TraceError
     }
 }
 
-/// The trace whose text the bytes are, of which there are at most 4,294,967,294. `Bad` has the first line, from 1, with which
-/// the lines so far are the front of no trace's text; a last line without a newline is such a line, and where the text ends too
-/// early it is the line after the last one. `Memory` alone is free.
+/// The trace whose text the bytes are, of which there are at most 4,294,967,294. `Bad` has the
+/// first line, from 1, with which the lines so far are a prefix of no trace's text; a last line
+/// without a newline is such a line, and where the text ends too early it is the line after the
+/// last one. `Memory` alone is free.
 pub fn read_trace(alloc: Global, bytes: &[u8]) -> Result<Trace, TraceError>
     requires { length bytes.now ≤ 4294967294 }
     ensures text { IfOk result (λ t. IsTrace t × (bytes.now ≡ text_of_trace t)) }
-    ensures bad { IfErr result (λ e. (e ≡ trace_error.Memory) ⊎ ((before : ℕ) × (e ≡ trace_error.Bad (before + 1)) × IsFirstBad bytes.now before)) }
-    ensures back { (t : Trace) → IsTrace t → bytes.now ≡ text_of_trace t → IfOk result (λ u. u ≡ t) }
-    ensures memory { (t : Trace) → IsTrace t → bytes.now ≡ text_of_trace t → IfErr result (λ e. e ≡ trace_error.Memory) }
+    ensures bad { IfErr result (λ e. (e ≡ trace_error.Memory)
+        ⊎ ((before : ℕ) × (e ≡ trace_error.Bad (before + 1)) × IsFirstBad bytes.now before)) }
+    ensures back { (t : Trace) → IsTrace t → bytes.now ≡ text_of_trace t
+        → IfOk result (λ u. u ≡ t) }
+    ensures memory { (t : Trace) → IsTrace t → bytes.now ≡ text_of_trace t
+        → IfErr result (λ e. e ≡ trace_error.Memory) }
 {
     let mut building = Building::Start;
     let mut rest = bytes;
@@ -50,6 +54,3 @@ pub fn read_trace(alloc: Global, bytes: &[u8]) -> Result<Trace, TraceError>
         None => Err(TraceError::Bad { line }),
     }
 }
-
-#[cfg(test)]
-mod tests;

@@ -12,8 +12,8 @@ use std::alloc::Global;
 use std::io;
 use wake_core::World;
 
-/// The trace of a world that was made for a wiring: what was played and how many messages were shadowed, each component's
-/// arrivals, calls and end, and the tape. Its only error is `Memory`.
+/// The trace of a world that was made for a wiring: what was played and how many messages were
+/// shadowed, each component's arrivals, calls and end, and the tape. Its only error is `Memory`.
 pub fn trace_text(
     alloc: Global,
     world: &World,
@@ -22,7 +22,8 @@ pub fn trace_text(
 ) -> Result<Bytes, TraceError>
     requires routes { (world_of world.now).routes ≡ routes_of wiring.now.plans }
     requires channels { (world_of world.now).channels ≡ length wiring.now.names }
-    ensures text { IfOk result (λ t. t ≡ text_of wiring.now.names wiring.now.plans shadowed (world_of world.now).run) }
+    ensures text { IfOk result (λ t. t ≡ text_of wiring.now.names wiring.now.plans shadowed
+        (world_of world.now).run) }
     ensures memory { IfErr result (λ e. e ≡ TraceError.Memory) }
 {
     let mut to = Vec::new(alloc);
@@ -38,7 +39,8 @@ pub fn trace_text(
 fn push_trace(to: &mut Vec<u8>, world: &World, wiring: &Wiring, shadowed: u32) -> io::Result<()>
     requires routes { (world_of world.now).routes ≡ routes_of wiring.now.plans }
     requires channels { (world_of world.now).channels ≡ length wiring.now.names }
-    ensures { OnOk result (to.new.items ≡ to.old.items ++ text_of wiring.now.names wiring.now.plans shadowed (world_of world.now).run) }
+    ensures { OnOk result (to.new.items ≡ to.old.items
+        ++ text_of wiring.now.names wiring.now.plans shadowed (world_of world.now).run) }
 {
     push_head(to, world.played(), shadowed)?;
     push_components(to, world, wiring.plans.as_slice())?;
@@ -49,7 +51,8 @@ fn push_trace(to: &mut Vec<u8>, world: &World, wiring: &Wiring, shadowed: u32) -
 fn push_components(to: &mut Vec<u8>, world: &World, plans: &[Plan]) -> io::Result<()>
     requires routes { (world_of world.now).routes ≡ routes_of plans.now }
     requires few { length plans.now ≤ 64 }
-    ensures { OnOk result (to.new.items ≡ to.old.items ++ components_text (world_of world.now).run 0 plans.now) }
+    ensures { OnOk result (to.new.items ≡ to.old.items ++ components_text
+        (world_of world.now).run 0 plans.now) }
 {
     for (place, plan) in plans.iter().enumerate() {
         let component = place as u32;

@@ -52,7 +52,8 @@ pub struct TapeEntry {
 pub struct Trace {
     /// How many messages were played.
     pub played: u32,
-    /// How many of them were shadowed.
+    /// How many messages were shadowed: those stood on a channel that a component writes, and were
+    /// not played.
     pub shadowed: u32,
     pub components: Items<TraceComponent>,
     pub tape: Items<TapeEntry>,

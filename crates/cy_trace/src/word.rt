@@ -1,5 +1,6 @@
 // The parts between marks, and the numbers that they spell.
-ghost use Rattle.std.specs.Prelude.{◌≡◌, ◌<◌, ◌≤◌, ◌+◌, ◌^◌, length, IfSome, option_map, option_and_then, slice_index, ◌≢◌, ◌⊎◌, IsTrue};
+ghost use Rattle.std.specs.Prelude.{◌≡◌, ◌<◌, ◌≤◌, ◌+◌, ◌^◌, length, IfSome, option_map};
+ghost use Rattle.std.specs.Prelude.{option_and_then, slice_index, ◌≢◌, ◌⊎◌, IsTrue};
 ghost use Rattle.cy_trace.specs.Cuts.{cut, cut_last, behind};
 ghost use Rattle.cy_trace.specs.Numerals.{number, below_zero, signed};
 ghost use Rattle.std.specs.Str.{bytes_eq};
@@ -31,11 +32,11 @@ pub(crate) fn cut_last(bytes: &[u8], mark: u8) -> Option<(&[u8], &[u8])>
     None
 }
 
-/// What stands behind a front, where the bytes begin with it.
-pub(crate) fn behind<'a>(bytes: &'a [u8], front: &[u8]) -> Option<&'a [u8]>
-    ensures { option_map (λ rest. rest.now) result ≡ behind front.now bytes.now }
+/// What stands behind a prefix, where the bytes begin with it.
+pub(crate) fn behind<'a>(bytes: &'a [u8], prefix: &[u8]) -> Option<&'a [u8]>
+    ensures { option_map (λ rest. rest.now) result ≡ behind prefix.now bytes.now }
 {
-    bytes.strip_prefix(front)
+    bytes.strip_prefix(prefix)
 }
 
 /// Whether the bytes are just these.
@@ -45,10 +46,12 @@ pub(crate) fn is_word(bytes: &[u8], word: &[u8]) -> bool
     bytes == word
 }
 
-/// Whether the bytes begin with no `+`, and with no zero before others.
+// Whether the bytes begin with no `+`, and with no zero before others.
 fn is_plain(word: &[u8]) -> bool
-    ensures yes { IsTrue result → (slice_index word.now 0 ≢ 43) × (slice_index word.now 0 ≡ 48 → length word.now ≤ 1) }
-    ensures no { ¬ (IsTrue result) → (slice_index word.now 0 ≡ 43) ⊎ ((slice_index word.now 0 ≡ 48) × (1 < length word.now)) }
+    ensures yes { IsTrue result → (slice_index word.now 0 ≢ 43) × (slice_index word.now 0 ≡ 48
+        → length word.now ≤ 1) }
+    ensures no { ¬ (IsTrue result) → (slice_index word.now 0 ≡ 43) ⊎ ((slice_index word.now 0 ≡ 48)
+        × (1 < length word.now)) }
 {
     !matches!(word, [b'+', ..] | [b'0', _, ..])
 }
@@ -85,7 +88,7 @@ pub(crate) fn long(word: &[u8]) -> Option<u64>
     number(word, u64::MAX)
 }
 
-/// The number below 0 whose digits behind the sign these are.
+// The number below 0 whose digits behind the sign these are.
 fn negative(digits: &[u8]) -> Option<i64>
     ensures { result ≡ option_and_then below_zero (number 9223372036854775808 digits.now) }
 {

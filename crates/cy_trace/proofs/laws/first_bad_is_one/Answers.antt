@@ -1,4 +1,4 @@
-use Rattle.cy_trace.proofs.Fronts.{one_bad, not_bad}
+use Rattle.cy_trace.proofs.Prefixes.{one_bad, not_bad}
 use Rattle.cy_trace.proofs.laws.first_bad_is_one.Goals as goal
 
 pub returns-clause-one : goal.returns-clause-one

@@ -1,4 +1,4 @@
-use Rattle.cy_trace.proofs.Fronts.{texts_tell}
+use Rattle.cy_trace.proofs.Prefixes.{texts_tell}
 use Rattle.cy_trace.proofs.laws.texts_tell_traces.Goals as goal
 
 pub returns : goal.returns

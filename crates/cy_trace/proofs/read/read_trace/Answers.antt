@@ -1,7 +1,7 @@
 use Rattle.std.proofs.Common.{◌<◌, length, sym, ◌∙◌, arith}
 use Rattle.std.proofs.lemmas.Bool.{eqb-true, eqb-false}
 use Rattle.std.proofs.lemmas.Option.{same_Some}
-use Rattle.cy_trace.proofs.Fronts.{Faulty, no_newline, not_next, stepped, finishes_as, finished, ends_early, bad_at, failed, only_memory}
+use Rattle.cy_trace.proofs.Prefixes.{Faulty, no_newline, not_next, stepped, finishes_as, finished, ends_early, bad_at, failed, only_memory}
 use Rattle.cy_trace.proofs.Order.{lines_so_far}
 use Rattle.cy_trace.proofs.read.read_trace.Goals as goal
 use Rattle.cy_trace.specs.declared.error.TraceError.TheVariants as trace_error

@@ -1,5 +1,5 @@
 use Rattle.std.proofs.Common.{length}
-use Rattle.cy_trace.proofs.Fronts.{Reached}
+use Rattle.cy_trace.proofs.Prefixes.{Reached}
 use Rattle.cy_trace.proofs.read.read_trace.Given as goal
 
 abbrev pub invariant-loop-rest : goal.invariant-loop-rest

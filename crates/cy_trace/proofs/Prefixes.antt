@@ -13,7 +13,7 @@ use Rattle.cy_trace.specs.declared.error.TraceError.{TraceError}
 use Rattle.cy_trace.specs.declared.error.TraceError.TheVariants as trace_error
 use Rattle.cy_trace.specs.declared.fault.Fault.{Fault}
 use Rattle.cy_trace.specs.declared.fault.Fault.TheVariants as fault
-use Rattle.cy_trace.specs.TraceForm.{IsLine, AreLines, IsTrace, IsFront, IsFirstBad, line_text, whole_line, lines_of_trace, text_of_trace, cut_lines, onto_line}
+use Rattle.cy_trace.specs.TraceForm.{IsLine, AreLines, IsTrace, IsPrefix, IsFirstBad, line_text, whole_line, lines_of_trace, text_of_trace, cut_lines, onto_line}
 use Rattle.cy_trace.specs.declared.trace.Trace.{Trace}
 use Rattle.cy_trace.specs.declared.line.Line.{Line}
 use Rattle.cy_trace.specs.declared.building.Building.{Building}
@@ -54,13 +54,13 @@ cons_parts : {A : Type 0} (x y : A) (xs ys : List A) → x ∷ xs ≡ y ∷ ys �
 cons_parts x y xs ys h = (cc, cc)
 
 -- lines that begin with the texts of some others begin with these
-pub known_front : (ks ls : List Line) (rest : List (List ℕ)) → AreLines ks → AreLines ls → map whole_line ks ≡ map whole_line ls ++ rest
+pub known_prefix : (ks ls : List Line) (rest : List (List ℕ)) → AreLines ks → AreLines ls → map whole_line ks ≡ map whole_line ls ++ rest
     → (more : List Line) × (ks ≡ ls ++ more) × (map whole_line more ≡ rest) × AreLines more
-known_front ks [] rest fk fl h = (ks, refl, h, fk)
-known_front [] (l ∷ ls) rest fk fl h = cc
-known_front (k ∷ ks) (l ∷ ls) rest fk fl h =
+known_prefix ks [] rest fk fl h = (ks, refl, h, fk)
+known_prefix [] (l ∷ ls) rest fk fl h = cc
+known_prefix (k ∷ ks) (l ∷ ls) rest fk fl h =
     let p = cons_parts (whole_line k) (whole_line l) (map whole_line ks) (map whole_line ls ++ rest) h in
-    let r = known_front ks ls rest fk.1 fl.1 p.1 in
+    let r = known_prefix ks ls rest fk.1 fl.1 p.1 in
     (r.0, ap (λ (x : Line). x ∷ ks) (same_line k l fk.0 fl.0 p.0) ∙ ap (λ (xs : List Line). l ∷ xs) r.1, r.2, r.3)
 
 -- where the lines so far end, `rest` stands behind them
@@ -127,19 +127,19 @@ module _ (bytes rest : List ℕ) (b : Building) (line : ℕ) (at : Reached bytes
   cut_so_far : cut_lines bytes ≡ map whole_line (lines_so_far b) ++ cut_lines rest
   cut_so_far = ap cut_lines at.text ∙ lines_cut (lines_so_far b) rest at.fits
 
-  is_front : IsFront (map whole_line (lines_so_far b))
-  is_front =
+  is_prefix : IsPrefix (map whole_line (lines_so_far b))
+  is_prefix =
       let c = continues b in
       let fits : AreLines (lines_of_trace c.0) = subst AreLines (sym c.2) (are_lines-append (lines_so_far b) c.1 at.fits c.3) in
       (c.0, map whole_line c.1, trace_fits c.0 fits, ap (map whole_line) c.2 ∙ map-append whole_line (lines_so_far b) c.1)
 
-  front_taken : IsFront (take (length (lines_so_far b)) (cut_lines bytes))
-  front_taken =
-      let front : take (length (lines_so_far b)) (map whole_line (lines_so_far b) ++ cut_lines rest) ≡ map whole_line (lines_so_far b) =
+  prefix_taken : IsPrefix (take (length (lines_so_far b)) (cut_lines bytes))
+  prefix_taken =
+      let prefix : take (length (lines_so_far b)) (map whole_line (lines_so_far b) ++ cut_lines rest) ≡ map whole_line (lines_so_far b) =
       take_at (map whole_line (lines_so_far b)) (cut_lines rest) (length (lines_so_far b)) (length-map (lines_so_far b) whole_line) in
-      rw (cut_so_far, front) is_front
+      rw (cut_so_far, prefix) is_prefix
 
-  -- with the next line the lines so far are the front of no text
+  -- with the next line the lines so far are a prefix of no text
   bad_next : (z : List ℕ) (zs : List (List ℕ)) → cut_lines rest ≡ z ∷ zs
       → ((t : Trace) (l : Line) (ls : List Line) → IsLine l → whole_line l ≡ z → lines_of_trace t ≡ lines_so_far b ++ l ∷ ls → ⊥) → IsFirstBad bytes (length (lines_so_far b))
   bad_next z zs next_line never =
@@ -151,15 +151,15 @@ module _ (bytes rest : List ℕ) (b : Building) (line : ℕ) (at : Reached bytes
       ap length whole ∙ length-append (map whole_line (lines_so_far b) ++ z ∷ []) zs ∙ ap (λ (n : ℕ). n + length zs) counted in
       record {
         there = omega arith;
-        front = front_taken;
-        bad = λ less front.
+        prefix = prefix_taken;
+        bad = λ less prefix.
             let taken : take (length (lines_so_far b) + 1) (cut_lines bytes) ≡ map whole_line (lines_so_far b) ++ z ∷ [] =
             ap (take (length (lines_so_far b) + 1)) whole ∙ take_at (map whole_line (lines_so_far b) ++ z ∷ []) zs (length (lines_so_far b) + 1) counted in
-            let same : map whole_line (lines_of_trace front.0) ≡ map whole_line (lines_so_far b) ++ z ∷ front.1 =
-            front.3 ∙ ap (λ (xs : List (List ℕ)). xs ++ front.1) taken ∙ append_assoc (map whole_line (lines_so_far b)) (z ∷ []) front.1 in
-            let k = known_front (lines_of_trace front.0) (lines_so_far b) (z ∷ front.1) (lines_of_fitting front.0 front.2) at.fits same in
-            let m = more_cases k.0 z front.1 k.3 k.2 in
-            never front.0 m.0 m.1 m.3 m.4 (k.1 ∙ ap (λ (ls : List Line). lines_so_far b ++ ls) m.2);
+            let same : map whole_line (lines_of_trace prefix.0) ≡ map whole_line (lines_so_far b) ++ z ∷ prefix.1 =
+            prefix.3 ∙ ap (λ (xs : List (List ℕ)). xs ++ prefix.1) taken ∙ append_assoc (map whole_line (lines_so_far b)) (z ∷ []) prefix.1 in
+            let k = known_prefix (lines_of_trace prefix.0) (lines_so_far b) (z ∷ prefix.1) (lines_of_fitting prefix.0 prefix.2) at.fits same in
+            let m = more_cases k.0 z prefix.1 k.3 k.2 in
+            never prefix.0 m.0 m.1 m.3 m.4 (k.1 ∙ ap (λ (ls : List Line). lines_so_far b ++ ls) m.2);
         early = λ end. absurd (omega (arith, end, total));
       }
 
@@ -215,7 +215,7 @@ module _ (bytes rest : List ℕ) (b : Building) (line : ℕ) (at : Reached bytes
     pub finishes_as : (t : Trace) → IsTrace t → bytes ≡ text_of_trace t → finish b ≡ Some t
     finishes_as t fits is =
         let same : map whole_line (lines_of_trace t) ≡ map whole_line (lines_so_far b) ++ [] = sym (text_cut t bytes fits is) ∙ cut_all ∙ sym (append-nil (map whole_line (lines_so_far b))) in
-        let k = known_front (lines_of_trace t) (lines_so_far b) [] (lines_of_fitting t fits) at.fits same in
+        let k = known_prefix (lines_of_trace t) (lines_so_far b) [] (lines_of_fitting t fits) at.fits same in
         let lines : lines_of_trace t ≡ lines_so_far b = k.1 ∙ ap (λ (ls : List Line). lines_so_far b ++ ls) (no_lines k.0 k.2) ∙ append-nil (lines_so_far b) in
         let built_is : built t ≡ b = same_Some (built t) b (sym (run_trace t) ∙ ap (run Start) lines ∙ at.reached) in
         ap finish (sym built_is) ∙ finish_built t
@@ -226,7 +226,7 @@ module _ (bytes rest : List ℕ) (b : Building) (line : ℕ) (at : Reached bytes
         let total : length (cut_lines bytes) ≡ length (lines_so_far b) = ap length cut_all ∙ length-map (lines_so_far b) whole_line in
         record {
           there = omega arith;
-          front = front_taken;
+          prefix = prefix_taken;
           bad = λ less. absurd (omega arith);
           early = λ end found. none-some found.0 (sym none ∙ finishes_as found.0 found.1 found.2);
         }
@@ -261,23 +261,23 @@ pub texts_tell : (t u : Trace) → IsTrace t → IsTrace u → text_of_trace t �
 texts_tell t u ft fu h =
     let same : map whole_line (lines_of_trace t) ≡ map whole_line (lines_of_trace u) ++ [] =
     sym (text_cut t (text_of_trace t) ft refl) ∙ text_cut u (text_of_trace t) fu h ∙ sym (append-nil (map whole_line (lines_of_trace u))) in
-    let k = known_front (lines_of_trace t) (lines_of_trace u) [] (lines_of_fitting t ft) (lines_of_fitting u fu) same in
+    let k = known_prefix (lines_of_trace t) (lines_of_trace u) [] (lines_of_fitting t ft) (lines_of_fitting u fu) same in
     let lines : lines_of_trace t ≡ lines_of_trace u = k.1 ∙ ap (λ (ls : List Line). lines_of_trace u ++ ls) (no_lines k.0 k.2) ∙ append-nil (lines_of_trace u) in
     let builds : built t ≡ built u = same_Some (built t) (built u) (sym (run_trace t) ∙ ap (run Start) lines ∙ run_trace u) in
     same_Some t u (sym (finish_built t) ∙ ap finish builds ∙ finish_built u)
 
--- fewer lines of a front are a front
-front_before : (m n : ℕ) (lines : List (List ℕ)) → m ≤ n → IsFront (take n lines) → IsFront (take m lines)
-front_before m n lines less front = (
-  front.0,
-  drop m (take n lines) ++ front.1,
-  front.2,
-  front.3 ∙ ap (λ (xs : List (List ℕ)). xs ++ front.1) (sym (take-append-drop m (take n lines)) ∙ ap (λ (xs : List (List ℕ)). xs ++ drop m (take n lines)) (take-take m n lines less))
-      ∙ append_assoc (take m lines) (drop m (take n lines)) front.1,
+-- fewer lines of a prefix are a prefix
+prefix_before : (m n : ℕ) (lines : List (List ℕ)) → m ≤ n → IsPrefix (take n lines) → IsPrefix (take m lines)
+prefix_before m n lines less prefix = (
+  prefix.0,
+  drop m (take n lines) ++ prefix.1,
+  prefix.2,
+  prefix.3 ∙ ap (λ (xs : List (List ℕ)). xs ++ prefix.1) (sym (take-append-drop m (take n lines)) ∙ ap (λ (xs : List (List ℕ)). xs ++ drop m (take n lines)) (take-take m n lines less))
+      ∙ append_assoc (take m lines) (drop m (take n lines)) prefix.1,
 )
 
 earlier_bad : (text : List ℕ) (m n : ℕ) → IsFirstBad text m → IsFirstBad text n → m < n → ⊥
-earlier_bad text m n first second less = first.bad (omega (arith, second.there)) (front_before (m + 1) n (cut_lines text) (omega arith) second.front)
+earlier_bad text m n first second less = first.bad (omega (arith, second.there)) (prefix_before (m + 1) n (cut_lines text) (omega arith) second.prefix)
 
 pub one_bad : (text : List ℕ) (m n : ℕ) → IsFirstBad text m → IsFirstBad text n → m ≡ n
 one_bad text m n first second =

@@ -1,9 +1,9 @@
 // Texts of traces, and texts that are of none.
-use super::*;
-use crate::{TapeEntry, TraceCall, TraceOutput};
+use cy_trace::{TapeEntry, Trace, TraceCall, TraceError, TraceOutput, read_trace};
+use std::alloc::Global;
 use std::test::Fail;
 
-/// The trace of a component that passed one message on.
+// The trace of a component that passed one message on.
 const PASSED: &str = r#"cyber-trace 1
 played 1 shadowed 0
 component "pass"
@@ -15,15 +15,15 @@ tape "/out" 1
 "#;
 
 // The trace of a text.
-fn read(alloc: Global, text: &str) -> Result<Trace, TraceError> {
+fn read(alloc: Global, text: &[u8]) -> Result<Trace, TraceError> {
     if text.len() > 4_294_967_294 {
         return Err(TraceError::Memory);
     }
-    read_trace(alloc, text.as_bytes())
+    read_trace(alloc, text)
 }
 
 // The line at which a text is bad; 0 where it is none.
-fn bad_line(alloc: Global, text: &str) -> Result<u32, Fail> {
+fn bad_line(alloc: Global, text: &[u8]) -> Result<u32, Fail> {
     match read(alloc, text) {
         Ok(_) => Ok(0),
         Err(TraceError::Bad { line }) => Ok(line),
@@ -50,7 +50,7 @@ fn is_entry(entry: &TapeEntry, name: &str, seq: u32) -> bool {
 
 #[test]
 fn reads_a_trace(rt: HostRuntime) -> Result<(), Fail> {
-    let trace = read(rt.alloc(), PASSED)?;
+    let trace = read(rt.alloc(), PASSED.as_bytes())?;
     assert_eq!(rt; (trace.played, trace.shadowed), (1, 0));
     let [component] = trace.components.as_slice() else {
         return Err(Fail::from("one component"));
@@ -90,7 +90,7 @@ call 4/4 0 0 0 2@5=0
 call 5/5 1 3@6
 end DATA_WAIT next 18446744073709551615
 "#;
-    let trace = read(rt.alloc(), text)?;
+    let trace = read(rt.alloc(), text.as_bytes())?;
     assert_eq!(rt; (trace.played, trace.shadowed), (u32::MAX, u32::MAX));
     let [first, second] = trace.components.as_slice() else {
         return Err(Fail::from("two components"));
@@ -122,8 +122,8 @@ end DATA_WAIT next 18446744073709551615
     Ok(())
 }
 
-/// The lines of that trace in other spellings, none of which is of the form, and other lines where they may not stand: each
-/// behind its number, between bars.
+// The lines of that trace in other spellings, none of which is of the form, and other lines where
+// they may not stand: each behind its number, between bars.
 const BAD: &str = r#"1|cyber-trace 2|
 1|cyber-trace 1 |
 1||
@@ -234,26 +234,48 @@ fn finds_bad_lines(rt: HostRuntime) -> Result<(), Fail> {
         };
         let number = number.parse::<u32>()?;
         let text = with_line(rt.alloc(), number.saturating_sub(1) as usize, new)?;
-        assert_eq!(rt; bad_line(rt.alloc(), &text)?, number, "{row}");
+        assert_eq!(rt; bad_line(rt.alloc(), text.as_bytes())?, number, "{row}");
     }
     for (number, new) in [(1, "cyber-trace 1\r"), (3, "component \"a\tb\"")] {
         let text = with_line(rt.alloc(), number - 1, new)?;
-        assert_eq!(rt; bad_line(rt.alloc(), &text)? as usize, number, "{new}");
+        assert_eq!(rt;
+            bad_line(rt.alloc(), text.as_bytes())? as usize,
+            number,
+            "{new}"
+        );
     }
     Ok(())
 }
 
-// Every front of a trace is bad at the line that it ends in, but those that are the text of a trace.
+// A name is a text: other bytes in it are bad where they stand, and not want of memory.
+#[test]
+fn refuses_names_that_are_no_text(rt: HostRuntime) -> Result<(), Fail> {
+    for (text, line) in [
+        (
+            b"cyber-trace 1\nplayed 0 shadowed 0\ncomponent \"\xff\"\nroles -\n".as_slice(),
+            3,
+        ),
+        (
+            b"cyber-trace 1\nplayed 0 shadowed 0\ntape \"/in\" 1\ntape \"a\xc3\" 2\n",
+            4,
+        ),
+    ] {
+        assert_eq!(rt; bad_line(rt.alloc(), text)?, line);
+    }
+    Ok(())
+}
+
+// Every prefix of a trace is bad at the line that it ends in, but those that are a trace's text.
 #[test]
 fn finds_where_a_text_ends(rt: HostRuntime) -> Result<(), Fail> {
     let mut line = 1u32;
     for (len, byte) in PASSED.as_bytes().iter().enumerate() {
-        let Some(front) = PASSED.get(..len) else {
+        let Some(prefix) = PASSED.get(..len) else {
             return Err(Fail::from("not in ASCII"));
         };
-        let is_trace = (line == 3 || line >= 7) && front.ends_with('\n');
+        let is_trace = (line == 3 || line >= 7) && prefix.ends_with('\n');
         let want = if is_trace { 0 } else { line };
-        assert_eq!(rt; bad_line(rt.alloc(), front)?, want, "{len}");
+        assert_eq!(rt; bad_line(rt.alloc(), prefix.as_bytes())?, want, "{len}");
         if *byte == b'\n' {
             line = line.saturating_add(1);
         }

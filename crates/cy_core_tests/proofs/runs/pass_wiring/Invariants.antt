@@ -1,9 +1,8 @@
 use Rattle.std.proofs.Common.{[], slice_index_or}
-use Rattle.cy_comp.specs.declared.call.Kind.TheVariants.{Pass}
+use Rattle.cy_comp.specs.declared.kind.Kind.TheVariants.{Pass}
 use Rattle.cy_comp.specs.declared.plan.Plan.{Plan}
-use Rattle.cy_trace.proofs.tests.pass_wiring.Given as goal
+use Rattle.cy_core_tests.proofs.runs.pass_wiring.Given as goal
 
--- what stands where the list has no plan
 abbrev no_plan : Plan
 no_plan = record { name = []; kind = Pass; readers = []; queue = 0; out = 0; out_type = [] }
 

@@ -1,0 +1,8 @@
+//! Tests of the plain types, of the serial run and of the text of its trace: worked examples, and
+//! that calls succeed where there is memory.
+#![tactic(auto)]
+
+#[cfg(test)]
+mod messages;
+#[cfg(test)]
+mod runs;

@@ -1,0 +1,5 @@
+//! Tests of the reading of a trace: texts of traces, and texts that are of none.
+#![tactic(auto)]
+
+#[cfg(test)]
+mod reading;
