@@ -4,7 +4,7 @@ use Rattle.std.specs.List.{Contains}
 use Rattle.std.specs.Str.{bytes_eq}
 use Rattle.std.proofs.lemmas.Bool.{true≢false}
 use Rattle.std.proofs.lemmas.Slice.Eq.{bytes_eq-Decides}
-use Rattle.cy_comp.specs.declared.call.Kind.TheVariants as kind
+use Rattle.cy_comp.specs.declared.kind.Kind.TheVariants as kind
 use Rattle.cy_comp.specs.declared.plan.Plan.{Plan}
 
 -- the first plan, or an empty one

@@ -1,15 +1,13 @@
 -- The two files of `pass`, written one after the other.
-use Rattle.std.proofs.Common.{◌≡◌, ℕ, ◌≤◌, List, [], ◌∷◌, ◌++◌, drop, Option, Some, None, Err, IsErrOf, refl, sym, ap, ◌∙◌, subst, inl, inr}
+use Rattle.std.proofs.Common.{◌≡◌, ℕ, List, [], ◌∷◌, ◌++◌, drop, Option, Err, IsErrOf, refl, sym, ap, ◌∙◌, subst}
 use Rattle.std.specs.Option.{option_map}
-use Rattle.std.specs.FinMap.{get}
-use Rattle.std.proofs.lemmas.Option.{none-some}
-use Rattle.cy_store.specs.Files.{Files, Lacks}
+use Rattle.cy_store.specs.Files.{Files}
 use Rattle.cy_store.specs.Write.{Write, Create, name_of, after_writes}
-use Rattle.cy_store.specs.Store.{StoreView, StoreRose}
+use Rattle.cy_store.specs.Store.{StoreView}
 use Rattle.cy_writer.specs.declared.error.WriteError.{WriteError}
 use Rattle.cy_writer.specs.declared.error.WriteError.TheVariants as write_error
-use Rattle.cy_writer.specs.Writes.{file_after, puts_into, Makes, StopsAt, StopsBefore}
-use Rattle.cy_writer.proofs.Puts.{put_of, get-inserted, rose_more, StopsAt-first, StopsAt-then, StopsBefore-first, StopsBefore-then}
+use Rattle.cy_writer.specs.Writes.{puts_into, Makes, StopsAt, StopsBefore}
+use Rattle.cy_writer.proofs.Puts.{put_of, StopsAt-first, StopsAt-then, StopsBefore-first, StopsBefore-then}
 use Rattle.cyber_cli.specs.declared.failure.File.{File}
 use Rattle.cyber_cli.specs.declared.failure.File.TheVariants as file
 use Rattle.cyber_cli.specs.declared.failure.Failure.{Failure}
@@ -17,7 +15,6 @@ use Rattle.cyber_cli.specs.declared.failure.Failure.TheVariants as failure
 use Rattle.cyber_cli.specs.Words.{PassWords}
 use Rattle.cyber_cli.specs.Writes.{file_writes}
 use Rattle.cyber_cli.specs.Views.{name_of_file}
-use Rattle.cyber_cli.proofs.Files.{after_file}
 
 -- an answer to a failed write, by its file
 abbrev pub FailsAt : PassWords → File → List Write → Option Files → Option Files → Type 0
@@ -91,16 +88,3 @@ pub second_starves : (p : PassWords) (xs : List Write) (ys : List (ℕ × List �
 second_starves p xs ys old mid new error found done blames made e =
     let P : Option Files → Type 0 = λ files. StopsBefore (file_writes p.trace ys) files new.files in
     StopsBefore-then xs (file_writes p.trace ys) old.files new.files (subst P done (made.starved (rw (starved error found file.Trace blames e) refl)))
-
--- a file that was written is there, where files are told
-not_lacking : (name any : List ℕ) (puts : List (ℕ × List ℕ)) (files : Option Files) → Lacks (option_map (after_writes (file_writes name puts)) files) name → Lacks files any
-not_lacking name any puts None lacks = tt
-not_lacking name any puts (Some m) lacks =
-    absurd (none-some (file_after [] puts) (sym lacks ∙ ap (λ (n : Files). get n name) (after_file puts m name) ∙ get-inserted m name (file_after [] puts)))
-
--- so a fault at the second file is no miss there
-pub second_rose : (name any : List ℕ) (puts : List (ℕ × List ℕ)) (old mid new : StoreView) → mid.files ≡ option_map (after_writes (file_writes name puts)) old.files
-    → old.faults ≤ mid.faults → old.misses ≤ mid.misses → StoreRose mid new name → StoreRose old new any
-second_rose name any puts old mid new done faults misses (inl rose) = inl (rose_more old.faults mid.faults new.faults faults rose)
-second_rose name any puts old mid new done faults misses (inr (rose, lacks)) =
-    inr (rose_more old.misses mid.misses new.misses misses rose, not_lacking name any puts old.files (subst (λ (files : Option Files). Lacks files name) done lacks))

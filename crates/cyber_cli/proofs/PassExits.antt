@@ -1,10 +1,10 @@
 -- How `pass` ends, at each place where it may.
-use Rattle.std.proofs.Common.{◌≡◌, ℕ, ◌≤◌, List, [], ◌∷◌, ◌++◌, true, Option, Some, None, Err, IsErrOf, refl, sym, ap, ◌∙◌, subst, inl, inr}
+use Rattle.std.proofs.Common.{◌≡◌, ℕ, List, [], ◌∷◌, ◌++◌, true, Option, Some, None, Err, IsErrOf, refl, sym, ap, ◌∙◌, subst, inl, inr, arith}
 use Rattle.std.specs.Option.{option_map}
 use Rattle.std.specs.FinMap.{insert}
-use Rattle.cy_store.specs.Files.{Files, Holds, Lacks}
+use Rattle.cy_store.specs.Files.{Files, Holds}
 use Rattle.cy_store.specs.Write.{Write, after_writes}
-use Rattle.cy_store.specs.Store.{StoreView, StoreRose}
+use Rattle.cy_store.specs.Store.{StoreView, StoreRose, WriteRose, SameCounts}
 use Rattle.cy_writer.specs.Writes.{StopsAt, StopsBefore}
 use Rattle.cy_writer.proofs.Puts.{rose_more}
 use Rattle.wake_core.specs.Run.{Run}
@@ -61,19 +61,19 @@ done p i made bytes old mid new words m held input same written = record {
 
 -- a write failed, or memory ran out between two
 pub stopped : (p : PassWords) (i : Input) (made : Made) (bytes : List ℕ) (old mid new : StoreView) (found : Failure) → is_pass p ≡ true → IsMade p i made → Holds old.files p.input (λ told. told ≡ bytes) → IsInput p bytes i
-    → mid.files ≡ old.files → old.faults ≤ mid.faults → old.misses ≤ mid.misses
+    → mid.files ≡ old.files → SameCounts old mid
     → ((f : File) → IsErrOf {T = Unit {0}} (Err found) (failure.Store f) → FailsAt p f (writes_of p i made) mid.files new.files)
     → (IsErrOf {T = Unit {0}} (Err found) failure.Memory → StopsBefore (writes_of p i made) mid.files new.files)
     → (IsErrOf {T = Unit {0}} (Err found) failure.NotBuilt → ⊥)
-    → ((f : File) (any : List ℕ) → IsErrOf {T = Unit {0}} (Err found) (failure.Store f) → StoreRose mid new any)
+    → ((f : File) → IsErrOf {T = Unit {0}} (Err found) (failure.Store f) → WriteRose mid new)
     → PassEnds p old new (Err found)
-stopped p i made bytes old mid new failure.NotBuilt words m held input same faults misses failed starved built rose = absurd (built refl)
-stopped p i made bytes old mid new (failure.Store f) words m held input same faults misses failed starved built rose =
+stopped p i made bytes old mid new failure.NotBuilt words m held input same counts failed starved built rose = absurd (built refl)
+stopped p i made bytes old mid new (failure.Store f) words m held input same counts failed starved built rose =
     let at = failed f refl in
     let P : List Write → Type 0 = λ writes. StopsAt writes at.0 mid.files new.files in
     let Q : Option Files → Type 0 = λ files. StopsAt (pass_writes p i (run_of made) (tape_chunks p i (run_of made).tape)) at.0 files new.files in
     record {
-      rose = rose_since old mid new p.input same faults misses (rose f p.input refl);
+      rose = rose_since old mid new p.input same counts (rose f refl);
       stands = inr (record {
         input = i;
         run = run_of made;
@@ -85,11 +85,11 @@ stopped p i made bytes old mid new (failure.Store f) words m held input same fau
       });
     }
   where
-    rose_since : (old mid new : StoreView) (name : List ℕ) → mid.files ≡ old.files → old.faults ≤ mid.faults → old.misses ≤ mid.misses → StoreRose mid new name → StoreRose old new name
-    rose_since old mid new name same faults misses (inl rose) = inl (rose_more old.faults mid.faults new.faults faults rose)
-    rose_since old mid new name same faults misses (inr (rose, lacks)) =
-        inr (rose_more old.misses mid.misses new.misses misses rose, subst (λ (files : Option Files). Lacks files name) same lacks)
-stopped p i made bytes old mid new failure.Memory words m held input same faults misses failed starved built rose =
+    rose_since : (old mid new : StoreView) (name : List ℕ) → mid.files ≡ old.files → SameCounts old mid → WriteRose mid new → StoreRose old new name
+    rose_since old mid new name same counts (inl rose) = inl (rose_more old.faults mid.faults new.faults (omega (arith, counts.faults)) rose)
+    rose_since old mid new name same counts (inr (rose, untold)) =
+        inr (rose_more old.misses mid.misses new.misses (omega (arith, counts.misses)) rose, rw (sym same ∙ untold) tt)
+stopped p i made bytes old mid new failure.Memory words m held input same counts failed starved built rose =
     let P : List Write → Type 0 = λ writes. StopsBefore writes mid.files new.files in
     let Q : Option Files → Type 0 = λ files. StopsBefore (pass_writes p i (run_of made) (tape_chunks p i (run_of made).tape)) files new.files in
     inr (record {
@@ -99,3 +99,7 @@ stopped p i made bytes old mid new failure.Memory words m held input same faults
       accepted = accepted p i made bytes old.files words m held input;
       stops = subst Q same (subst P (writes-made p i made m) (starved refl));
     })
+
+-- nothing was changed
+pub unchanged : (old new : StoreView) → new.files ≡ old.files → SameCounts old new → new ≡ old
+unchanged old new files counts = rw (files, counts.faults, counts.misses) refl

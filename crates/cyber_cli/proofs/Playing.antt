@@ -19,6 +19,7 @@ pub wired : (i : Input) (names : List (List ℕ)) (plans : List Plan) → length
 wired i names plans two e = record {
   channels = two;
   one = ap length e;
+  passes = λ p h. ap (λ (q : Plan). q.kind) (sym (same_Some (pass_plan i) p (ap (λ ps. slice_get ps 0) (sym e) ∙ h)));
   reads = λ p h. ap (λ (q : Plan). q.readers) (sym (same_Some (pass_plan i) p (ap (λ ps. slice_get ps 0) (sym e) ∙ h)));
   writes = λ p h. ap (λ (q : Plan). q.out) (sym (same_Some (pass_plan i) p (ap (λ ps. slice_get ps 0) (sym e) ∙ h)));
 }

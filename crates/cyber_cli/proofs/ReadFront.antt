@@ -1,11 +1,10 @@
--- A buffer that is filled from the front of a file.
-use Rattle.std.proofs.Common.{◌≡◌, ℕ, ◌+◌, ◌-◌, ◌≤◌, List, ◌++◌, length, take, drop, Option, Some, None, Result, refl, sym, ap, ◌∙◌, subst, inl, inr, arith, IfSome, length-append, length-drop, take-add}
+-- A buffer that is filled with the prefix of a file.
+use Rattle.std.proofs.Common.{◌≡◌, ℕ, ◌+◌, ◌-◌, ◌≤◌, List, ◌++◌, length, take, drop, Option, Some, None, refl, sym, ap, ◌∙◌, subst, inl, inr, arith, IfSome, length-append, length-drop, take-add}
 use Rattle.std.specs.Prelude.{◌⊎◌, IsSomeAnd}
 use Rattle.std.proofs.lemmas.List.{take_at, take_all, length-take-le}
 use Rattle.std.specs.FinMap.{get}
 use Rattle.cy_store.specs.Files.{Files, Holds}
-use Rattle.cy_store.specs.Store.{StoreView, HasCause}
-use Rattle.cy_store.specs.declared.error.StoreError.{StoreError}
+use Rattle.cy_store.specs.Store.{StoreView, SameCounts}
 use Rattle.cy_store.proofs.Filling.{take-filled}
 
 -- Where the map is told and the name is there, its bytes have P.
@@ -41,16 +40,14 @@ pub record IsReadTo (name : List ℕ) (n : ℕ) (buffer : List ℕ) (old new : S
   pub within : n ≤ length buffer
   pub front : MayHold old.files name (λ bytes. take n buffer ≡ take n bytes)
   pub same : new.files ≡ old.files
-  pub faults : old.faults ≤ new.faults
-  pub misses : old.misses ≤ new.misses
+  pub counts : SameCounts old new
 
 pub nothing_read : (name buffer : List ℕ) (view : StoreView) → IsReadTo name 0 buffer view view
 nothing_read name buffer view = record {
   within = omega arith;
   front = may_always view.files name (λ _. refl);
   same = refl;
-  faults = omega arith;
-  misses = omega arith;
+  counts = record { faults = refl; misses = refl };
 }
 
 front_more : (n k : ℕ) (buffer was part rest bytes : List ℕ) → n ≤ length buffer → k ≤ length was → length part ≡ length was
@@ -71,15 +68,14 @@ front_read name n k buffer was part rest old mid so_far few size value =
     both_held old.files name (λ bytes. front_more n k buffer was part rest bytes so_far.within few size) so_far.front
     (subst (λ (files : Option Files). Holds files name (λ bytes. part ≡ take k (drop n bytes) ++ drop k was)) so_far.same value)
 
-pub read_more : {T : Type 0} {r : Result T StoreError} (name : List ℕ) (n k : ℕ) (buffer was part rest : List ℕ) (old mid new : StoreView) → IsReadTo name n buffer old mid
+pub read_more : (name : List ℕ) (n k : ℕ) (buffer was part rest : List ℕ) (old mid new : StoreView) → IsReadTo name n buffer old mid
     → k ≤ length was → length part ≡ length was → Holds mid.files name (λ bytes. part ≡ take k (drop n bytes) ++ drop k was)
-    → new.files ≡ mid.files → HasCause mid new name r → IsReadTo name (n + k) (take n buffer ++ (part ++ rest)) old new
-read_more name n k buffer was part rest old mid new so_far few size value same cause = record {
+    → new.files ≡ mid.files → SameCounts mid new → IsReadTo name (n + k) (take n buffer ++ (part ++ rest)) old new
+read_more name n k buffer was part rest old mid new so_far few size value same counts = record {
   within = simp length-append (omega (arith, length-take-le n buffer so_far.within));
   front = may_hold (λ bytes. take (n + k) (take n buffer ++ (part ++ rest)) ≡ take (n + k) bytes) old.files name (front_read name n k buffer was part rest old mid so_far few size value);
   same = same ∙ so_far.same;
-  faults = omega (arith, so_far.faults, cause.faults_stay);
-  misses = omega (arith, so_far.misses, cause.misses_stay);
+  counts = record { faults = counts.faults ∙ so_far.counts.faults; misses = counts.misses ∙ so_far.counts.misses };
 }
 
 short : (n k size : ℕ) (was now bytes : List ℕ) → n + length was ≡ size → k ≡ 0 → now ≡ take (n + k) bytes → (length was ≡ 0) ⊎ (length bytes ≤ n) → now ≡ take size bytes

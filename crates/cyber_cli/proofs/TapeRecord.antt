@@ -1,5 +1,5 @@
 -- A record while it is written, and how its writing ends.
-use Rattle.std.proofs.Common.{◌≡◌, ℕ, zero, suc, ◌+◌, ◌≤◌, ◌<◌, List, [], ◌∷◌, ◌++◌, length, take, drop, Option, Some, None, Result, IsErrOf, IfSome, refl, sym, ap, subst, ◌∙◌, arith, append_assoc, length-append, true}
+use Rattle.std.proofs.Common.{◌≡◌, ℕ, zero, suc, ◌+◌, ◌<◌, List, [], ◌∷◌, ◌++◌, length, take, drop, Option, Some, None, Result, IsErrOf, IfSome, refl, sym, ap, subst, ◌∙◌, arith, append_assoc, length-append, true}
 use Rattle.std.specs.Prelude.{slice_get, OnOk}
 use Rattle.std.specs.Option.{option_map}
 use Rattle.std.proofs.lemmas.List.{map-append, take-append-drop, take_more, drop_more}
@@ -9,21 +9,20 @@ use Rattle.std.proofs.lemmas.Slice.Eq.{bytes_eq-Decides}
 use Rattle.std.proofs.lemmas.Option.{none-some, same_Some, slice_get_within, get_or_from_slice_get}
 use Rattle.cy_msg.specs.declared.token.Token.{Token}
 use Rattle.cy_store.specs.Write.{Write, Create, Put, after_writes}
-use Rattle.cy_store.specs.Store.{StoreView}
+use Rattle.cy_store.specs.Store.{StoreView, SameCounts, HasWriteCauses}
 use Rattle.cy_section.specs.declared.types.SectionKind.TheVariants as kind
 use Rattle.cy_section.specs.Section.{section, channel_body}
 use Rattle.cy_section.specs.declared.types.Channel.{Channel}
 use Rattle.cy_section.specs.declared.types.BodyMessage.{BodyMessage}
-use Rattle.cy_trace.specs.TraceText.{channel_name}
+use Rattle.cy_msg.specs.Names.{channel_name}
 use Rattle.cy_writer.specs.declared.error.WriteError.{WriteError}
 use Rattle.cy_writer.specs.declared.error.WriteError.TheVariants as write_error
 use Rattle.cy_writer.specs.declared.writer.RecordWriter.{RecordWriter}
 use Rattle.cy_writer.specs.declared.writing.Writing.{Writing}
-use Rattle.cy_writer.specs.Causes.{HasCauses}
 use Rattle.cy_writer.specs.Given.{Given, nothing_given, with_message, message_on, front_of, start_puts, channel_puts, message_puts, close_puts, chunks_of, messages_of}
-use Rattle.cy_writer.specs.Stands.{Stands, StandsFor, IsBroken, HasChannel, IsThere, IsHeld, IsNewName}
+use Rattle.cy_writer.specs.Stands.{Stands, StandsFor, IsBroken, HasChannel, IsThere, IsNewName}
 use Rattle.cy_writer.specs.Writes.{puts_into, Makes}
-use Rattle.cy_writer.proofs.Puts.{put_of, held_some, map-after_writes, makes_first, makes_same, makes_then, causes_then, lacks_untold, untold_map}
+use Rattle.cy_writer.proofs.Puts.{put_of, held_some, map-after_writes, makes_first, makes_same, makes_then, causes_then, untold_map}
 use Rattle.cy_writer.proofs.Closing.{length-kept_channels}
 use Rattle.cy_writer.proofs.Standing.{length-front_of}
 use Rattle.cyber_cli.specs.Words.{PassWords, is_pass}
@@ -53,16 +52,15 @@ has_channel w g n c stands here =
     let count = ap length found.1.1.channels ∙ length-kept_channels 2064 (messages_of g) g.channels in
     is_there w.writing found.0 (λ (o : Writing). n < length o.channels.items) found.1.0 (omega (arith, within, count))
 
--- the causes of a call behind others
-pub causes_later : {U : Type 0} (answer : Result U WriteError) (w : RecordWriter) (g : Given) (any : List ℕ) (writes : List Write) (old mid new : StoreView)
-    → Stands w g → IsThere w mid.files → mid.files ≡ option_map (after_writes writes) old.files → old.faults ≤ mid.faults → old.misses ≤ mid.misses
-    → ((name : List ℕ) → HasCauses mid new name answer) → HasCauses old new any answer
-causes_later answer w g any writes old mid new stands there files faults misses causes =
-    let found = held_some w.writing (λ o. StandsFor o g) stands in
-    let name = found.0.name in
-    causes_then answer name any old mid new faults misses (causes name)
-    (lacks_untold name any (λ (bytes : List ℕ). found.0.place ≤ length bytes) old.files mid.files (untold_map (after_writes writes) old.files mid.files files)
-    (there_is w.writing found.0 (λ o. IsHeld o mid.files) found.1.0 there))
+-- the counts are as they were after a call that left them so
+pub counts_then : (old mid new : StoreView) → SameCounts old mid → SameCounts mid new → SameCounts old new
+counts_then old mid new first second = record { faults = second.faults ∙ first.faults; misses = second.misses ∙ first.misses }
+
+-- the causes of a call behind others that made writes
+pub causes_later : {F : Type 0} (writes : List Write) (old mid new : StoreView) → mid.files ≡ option_map (after_writes writes) old.files
+    → SameCounts old mid → HasWriteCauses F mid new → HasWriteCauses F old new
+causes_later writes old mid new files counts causes =
+    causes_then old mid new counts (untold_map (after_writes writes) old.files mid.files files) causes
 
 -- The writes.
 
@@ -128,15 +126,14 @@ pub record IsUnderWay (name : List ℕ) (channels : List Channel) (messages : Li
   pub stands : Stands w (given name channels messages)
   pub files : new.files ≡ option_map (after_writes (front_writes name channels messages)) old.files
   pub there : IsThere w new.files
-  pub faults : old.faults ≤ new.faults
-  pub misses : old.misses ≤ new.misses
+  pub counts : SameCounts old new
 
 pub stepped : (name : List ℕ) (channels : List Channel) (messages : List BodyMessage) (m : BodyMessage) (v w : RecordWriter) (old mid new : StoreView)
     → IsUnderWay name channels messages v old mid → Stands w (with_message (given name channels messages) m)
     → new.files ≡ option_map (after_writes (puts_into (given name channels messages).name (message_puts (given name channels messages) m))) mid.files
-    → IsThere w new.files → mid.faults ≤ new.faults → mid.misses ≤ new.misses
+    → IsThere w new.files → SameCounts mid new
     → IsUnderWay name channels (messages ++ m ∷ []) w old new
-stepped name channels messages m v w old mid new so_far stands files there faults misses =
+stepped name channels messages m v w old mid new so_far stands files there counts =
     let g = given name channels messages in
     let step = puts_into g.name (message_puts g m) in
     record {
@@ -146,8 +143,7 @@ stepped name channels messages m v w old mid new so_far stands files there fault
           ∙ map-after_writes (front_writes name channels messages) step old.files
           ∙ ap (λ (ws : List Write). option_map (after_writes ws) old.files) (step_writes name channels messages m);
       there = there;
-      faults = omega (arith, so_far.faults, faults);
-      misses = omega (arith, so_far.misses, misses);
+      counts = counts_then old mid new so_far.counts counts;
     }
 
 -- the record could not be begun
@@ -222,14 +218,6 @@ made_channel g d e xs whole old mid new same files made writes =
     ∙ ap (option_map (after_writes ys)) files
     ∙ map-after_writes xs ys old.files
     ∙ ap (λ (ws : List Write). option_map (after_writes ws) old.files) (ap (λ (c : Channel). xs ++ puts_into g.name (channel_puts g c)) same ∙ writes)
-
-pub causes_done : {T U V : Type 0} (r : Result T WriteError) (s : Result U WriteError) (answer : Result V WriteError) (any : List ℕ) (old mid new : StoreView)
-    → HasCauses old mid any r → HasCauses mid new any s → (IsErrOf answer write_error.Failed → ⊥) → HasCauses old new any answer
-causes_done r s answer any old mid new first second unfailed = record {
-  faults_stay = omega (arith, first.faults_stay, second.faults_stay);
-  misses_stay = omega (arith, first.misses_stay, second.misses_stay);
-  failed = λ e. absurd (unfailed e);
-}
 
 -- the second one has a name of its own
 pub new_name : (p : PassWords) (i : Input) → is_pass p ≡ true → IsNewName p.to (input_channel p i ∷ [])

@@ -1,5 +1,6 @@
 -- What bytes have in the places of a record's parts, whether or not they are a record.
-use Rattle.std.specs.Prelude.{ℕ, zero, suc, ◌≡◌, nat_lt, if◌then◌else◌, List, [], ◌∷◌, length, take, drop, Option, Some, None}
+use Rattle.std.specs.Prelude.{ℕ, zero, suc, ◌≡◌, nat_lt, if◌then◌else◌, List, [], ◌∷◌, length, take}
+use Rattle.std.specs.Prelude.{drop, Option, Some, None}
 use Rattle.cy_wire.specs.Front.{front_number}
 use Rattle.cy_wire.specs.Zigzag.{unzigzag}
 use Rattle.cyber_cli.specs.declared.input.Sample.{Sample}
@@ -64,7 +65,8 @@ message_samples (suc more) bytes = do
   rest ← message_samples more first.1
   Some (first.0 ∷ rest)
 
--- What is found without reading messages: a channel's type and description, how many messages there are, and where they begin.
+-- What is found without reading messages: a channel's type and description, how many messages there
+-- are, and where they begin.
 unfoldable pub candidate_parts : List ℕ → Option ((List ℕ × List ℕ) × (ℕ × List ℕ))
 candidate_parts bytes = do
   channel ← channel_fields (drop 16 (drop 2064 bytes))

@@ -1,5 +1,6 @@
 -- Which records `pass` plays.
-use Rattle.std.specs.Prelude.{slice_get, Some, ◌+◌, ℕ, ◌≡◌, ◌≤◌, ◌<◌, ◌^◌, IsTrue, FitsSigned, List, [], ◌∷◌, length, map, All}
+use Rattle.std.specs.Prelude.{slice_get, Some, ◌+◌, ℕ, ◌≡◌, ◌≤◌, ◌<◌, ◌^◌, IsTrue, FitsSigned, List}
+use Rattle.std.specs.Prelude.{[], ◌∷◌, length, map, All}
 use Rattle.std.specs.Int.{w64}
 use Rattle.std.specs.Str.{IsUtf8}
 use Rattle.cy_wire.specs.Wire.{whole_content}
@@ -12,10 +13,20 @@ use Rattle.cyber_cli.specs.declared.input.Sample.{Sample}
 use Rattle.cyber_cli.specs.declared.input.Input.{Input}
 
 abbrev pub input_channel : PassWords → Input → Channel
-input_channel p i = record { name = p.from; message_type = i.message_type; proto_desc = i.proto_desc }
+input_channel p i = record {
+  name = p.from;
+  message_type = i.message_type;
+  proto_desc =
+      i.proto_desc;
+}
 
 abbrev pub message_of_sample : PassWords → Sample → BodyMessage
-message_of_sample p s = record { channel_name = p.from; time = s.time; content = whole_content s.value }
+message_of_sample p s = record {
+  channel_name = p.from;
+  time = s.time;
+  content =
+      whole_content s.value;
+}
 
 abbrev pub input_messages : PassWords → Input → List BodyMessage
 input_messages p i = map (message_of_sample p) i.samples
@@ -26,10 +37,11 @@ longest_input = 1048576
 
 -- The times of the messages never fall.
 abbrev pub IsOrdered : List Sample → Type 0
-IsOrdered samples = (n : ℕ) (s t : Sample) → slice_get samples n ≡ Some s → slice_get samples (n + 1) ≡ Some t → s.time ≤ t.time
+IsOrdered samples = (n : ℕ) (s t : Sample) → slice_get samples n ≡ Some s
+    → slice_get samples (n + 1) ≡ Some t → s.time ≤ t.time
 
--- These bytes are a record that `pass` plays today: the record text of whole numbers on the channel that is read, at least one,
--- with times that never fall, in one chunk, in a file that isn't long.
+-- These bytes are a record that `pass` plays today: the record text of whole numbers on the channel
+-- that is read, at least one, with times that never fall, in one chunk, in a file that isn't long.
 pub record IsInput (p : PassWords) (bytes : List ℕ) (i : Input) : Type 0 where
   pub short : length bytes ≤ longest_input
   pub text_type : IsUtf8 i.message_type

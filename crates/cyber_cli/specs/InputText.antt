@@ -17,7 +17,8 @@ input_text p i = record_bytes (input_channel p i ∷ []) (input_messages p i ∷
 abbrev pub input_chunks : PassWords → Input → List (List BodyMessage)
 input_chunks p i = chunks_given p.input (input_channel p i ∷ []) (input_messages p i)
 
--- The record with these chunks, and the writes that make it under the name of the file that was read.
+-- The record with these chunks, and the writes that make it under the name of the file that was
+-- read.
 abbrev pub spelled : PassWords → Input → List ℕ
 spelled p i = record_bytes (input_channel p i ∷ []) (input_chunks p i)
 

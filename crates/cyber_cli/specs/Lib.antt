@@ -2,7 +2,6 @@ pub mod Words
 pub mod Input
 pub mod Tape
 pub mod Writes
-pub mod Causes
 pub mod Lines
 pub mod Due
 pub mod Views

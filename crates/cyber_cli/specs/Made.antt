@@ -19,4 +19,6 @@ pub record IsMade (p : PassWords) (i : Input) (made : Made) : Type 0 where
 -- The writes of both files, in their order.
 abbrev pub writes_of : PassWords → Input → Made → List Write
 writes_of p i made =
-    file_writes p.output (record_puts (pass_channels p i) (tape_chunks p i (world_of made.world).run.tape)) ++ file_writes p.trace ((0, made.trace) ∷ [])
+    file_writes p.output (record_puts (pass_channels p i)
+    (tape_chunks p i (world_of made.world).run.tape)) ++ file_writes p.trace ((0, made.trace)
+    ∷ [])

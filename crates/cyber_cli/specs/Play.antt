@@ -7,7 +7,8 @@ use Rattle.wake_core.specs.Pass.{passed_tape}
 use Rattle.cyber_cli.specs.declared.input.Input.{Input}
 use Rattle.cyber_cli.specs.Tape.{pass_plan, pass_scan, pass_tokens}
 
--- The component of `pass` over its two channels has run on the input's messages, each of which it passed on at once.
+-- The component of `pass` over its two channels has run on the input's messages, each of which it
+-- passed on at once.
 pub record HasPlayed (i : Input) (w : WorldView) : Type 0 where
   pub routes : w.routes ≡ routes_of (pass_plan i ∷ [])
   pub channels : w.channels ≡ 2

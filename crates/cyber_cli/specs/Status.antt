@@ -1,7 +1,8 @@
 -- The number with which the process ends.
 use Rattle.std.specs.Prelude.{ℕ}
 use Rattle.cyber_cli.specs.declared.status.Status.{Status}
-use Rattle.cyber_cli.specs.declared.status.Status.TheVariants.{Done, Refused, Usage, StoreFault, SinkFault, Limit, Memory}
+use Rattle.cyber_cli.specs.declared.status.Status.TheVariants.{Done, Refused, Usage, StoreFault}
+use Rattle.cyber_cli.specs.declared.status.Status.TheVariants.{SinkFault, Limit, Memory}
 
 -- The exit status that stands for each end of a call: 0 where all was done.
 abbrev pub code_of : Status → ℕ

@@ -8,4 +8,5 @@ use Rattle.cyber_cli.specs.Input.{IsOrdered}
 pub record IsTimed (samples : List Sample) : Type 0 where
   pub some : 1 ≤ length samples
   pub ordered : IsOrdered samples
-  pub near : (n : ℕ) (first s : Sample) → slice_get samples 0 ≡ Some first → slice_get samples n ≡ Some s → s.time ≤ first.time + chunk_interval
+  pub near : (n : ℕ) (first s : Sample) → slice_get samples 0 ≡ Some first → slice_get samples n
+      ≡ Some s → s.time ≤ first.time + chunk_interval

@@ -13,7 +13,13 @@ use Rattle.cyber_cli.specs.Lines.{store_line, not_built_line, memory_line}
 use Rattle.cyber_cli.specs.Due.{IsDone, IsRefused, IsFaulted, IsStarved}
 
 abbrev pub words_of : Pass → PassWords
-words_of p = record { input = p.input.now; output = p.output.now; trace = p.trace.now; from = p.from.now; to = p.to.now }
+words_of p = record {
+  input = p.input.now;
+  output = p.output.now;
+  trace = p.trace.now;
+  from = p.from.now;
+  to = p.to.now;
+}
 
 abbrev pub name_of_file : PassWords → File → List ℕ
 name_of_file p file.Input = p.input
@@ -30,5 +36,6 @@ PassEnds p old new (Err failure.Memory) = IsStarved p old new
 -- The status that is due after a failure, and its line.
 abbrev pub IsDueAfter : PassWords → Failure → Status → List ℕ → Type 0
 IsDueAfter p failure.NotBuilt status line = (status ≡ Refused) × (line ≡ not_built_line p.input)
-IsDueAfter p (failure.Store f) status line = (status ≡ StoreFault) × (line ≡ store_line (name_of_file p f))
+IsDueAfter p (failure.Store f) status line = (status ≡ StoreFault)
+    × (line ≡ store_line (name_of_file p f))
 IsDueAfter p failure.Memory status line = (status ≡ Memory) × (line ≡ memory_line)

@@ -1,9 +1,10 @@
 -- The words that the program takes.
-use Rattle.std.specs.Prelude.{ℕ, ◌==◌, ◌&&◌, nat_le, not, Bool, false, if◌then◌else◌, List, [], ◌∷◌, length, Option, Some, None, codes}
+use Rattle.std.specs.Prelude.{ℕ, ◌==◌, ◌&&◌, nat_le, not, Bool, false, if◌then◌else◌, List, [], ◌∷◌}
+use Rattle.std.specs.Prelude.{length, Option, Some, None, codes}
 use Rattle.std.specs.Str.{bytes_eq}
 
--- The words of `pass`: the record that is played, the record and the trace that are written, and the channels that the one
--- component reads and writes.
+-- The words of `pass`: the record that is played, the record and the trace that are written, and
+-- the channels that the one component reads and writes.
 pub record PassWords : Type 0 where
   pub input : List ℕ
   pub output : List ℕ
@@ -20,12 +21,13 @@ abbrev pub is_word : List ℕ → Bool
 is_word [] = false
 is_word (b ∷ rest) = not (b == 45) && nat_le (length (b ∷ rest)) longest_word
 
--- Whether all five are words, the two that are written differ from each other and from the one that is read, and the two
--- channels differ.
+-- Whether all five are words, the two that are written differ from each other and from the one that
+-- is read, and the two channels differ.
 unfoldable pub is_pass : PassWords → Bool
 is_pass p =
     is_word p.input && is_word p.output && is_word p.trace && is_word p.from && is_word p.to
-    && not (bytes_eq p.output p.trace) && not (bytes_eq p.output p.input) && not (bytes_eq p.trace p.input)
+    && not (bytes_eq p.output p.trace) && not (bytes_eq p.output p.input) && not
+    (bytes_eq p.trace p.input)
     && not (bytes_eq p.from p.to)
 
 -- What a command and its words ask for.

@@ -1,7 +1,9 @@
-// What bytes have in the places of a record's parts. It is read without asking whether the bytes are a record: that is known once
-// the record of what was read is made and compared.
+// What bytes have in the places of a record's parts. It is read without asking whether the bytes
+// are a record: that is known once the record of what was read is made and compared.
 ghost use Rattle.std.specs.Prelude.{◌≡◌, drop, IfOk, IsOkUnless};
-ghost use Rattle.cyber_cli.specs.Candidate.{Gives, number_field, bytes_field, channel_fields, chunk_header_fields, message_sample, message_samples, candidate_parts, parts_in};
+ghost use Rattle.cyber_cli.specs.Candidate.{Gives, number_field, bytes_field, channel_fields};
+ghost use Rattle.cyber_cli.specs.Candidate.{chunk_header_fields, message_sample, message_samples};
+ghost use Rattle.cyber_cli.specs.Candidate.{candidate_parts, parts_in};
 
 use crate::failure::Failure;
 use crate::input::Sample;
@@ -60,7 +62,8 @@ fn bytes_of(bytes: &[u8]) -> Option<(&[u8], &[u8])>
 // A channel's type and description, and what follows them.
 #[tactic(auto, unfolding(crate::specs::Candidate::channel_fields))]
 fn channel_of(bytes: &[u8]) -> Option<((&[u8], &[u8]), &[u8])>
-    ensures { Gives (λ found. ((found.0.0.now, found.0.1.now), found.1.now)) result (channel_fields bytes.now) }
+    ensures { Gives (λ found. ((found.0.0.now, found.0.1.now), found.1.now)) result
+        (channel_fields bytes.now) }
 {
     let (_, rest) = bytes_of(bytes)?;
     let (message_type, rest) = bytes_of(rest)?;
@@ -97,14 +100,15 @@ fn sample_of(bytes: &[u8]) -> Option<(Sample, &[u8])>
     Some((sample, rest))
 }
 
-/// So many messages, one behind another; None where a number that leads to them is none. The number need not be trusted: every
-/// message takes some of the bytes.
+/// So many messages, one behind another; None where a number that leads to them is none. The number
+/// need not be trusted: every message takes some of the bytes.
 pub fn samples_in(
     alloc: Global,
     message_number: u64,
     messages: &[u8],
 ) -> Result<Option<Vec<Sample>>, Failure>
-    ensures samples { IfOk result (λ r. Gives (λ v. v.items) r (message_samples message_number messages.now)) }
+    ensures samples { IfOk result (λ r. Gives (λ v. v.items) r
+        (message_samples message_number messages.now)) }
     ensures only_memory { IsOkUnless result Failure.Memory }
 {
     let mut samples = Vec::new(alloc);
@@ -119,7 +123,8 @@ pub fn samples_in(
     Ok(Some(samples))
 }
 
-/// What bytes have in the places of a record's parts; None where a number that leads to them is none.
+/// What bytes have in the places of a record's parts; None where a number that leads to them is
+/// none.
 #[tactic(auto, unfolding(crate::specs::Candidate::candidate_parts))]
 pub fn candidate_in(bytes: &[u8]) -> Option<Candidate<'_>>
     ensures { Gives parts_in result (candidate_parts bytes.now) }

@@ -2,6 +2,7 @@
 ghost use Rattle.std.specs.Prelude.{◌≡◌};
 ghost use Rattle.cyber_cli.specs.declared.failure.Failure.TheVariants as failure;
 
+use cy_msg::NamesError;
 use std::alloc::{AllocError, AllocFailed};
 
 /// A file that `pass` names.
@@ -42,9 +43,11 @@ impl<T: Drop> From<AllocFailed<T>> for Failure {
     }
 }
 
-/// A call that fails for want of memory alone.
-pub fn no_memory<E: Drop>(_: E) -> Failure
+/// The want of memory for which a text or bytes were not copied.
+pub fn no_memory_for_text(error: NamesError) -> Failure
+    requires { error ≡ NamesError.Memory }
     ensures { result ≡ Failure.Memory }
 {
+    let _memory = error;
     Failure::Memory
 }

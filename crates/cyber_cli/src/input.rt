@@ -1,5 +1,6 @@
 // The records that `pass` plays.
-ghost use Rattle.std.specs.Prelude.{◌≡◌, ◌∷◌, Some, IfOk, OnOk, IfSome, IfNone, MatchOption, IsOkUnless};
+ghost use Rattle.std.specs.Prelude.{◌≡◌, ◌∷◌, Some, IfOk, OnOk, IfSome, IfNone, MatchOption};
+ghost use Rattle.std.specs.Prelude.{IsOkUnless};
 ghost use Rattle.std.specs.Bool.{Decides};
 ghost use Rattle.std.specs.Option.{option_map};
 ghost use Rattle.std.specs.Str.{IsUtf8};
@@ -13,7 +14,7 @@ ghost use Rattle.cyber_cli.specs.Views.{words_of};
 ghost use Rattle.cyber_cli.specs.Written.{written};
 
 use crate::candidate::{candidate_in, samples_in};
-use crate::failure::{Failure, no_memory};
+use crate::failure::{Failure, no_memory_for_text};
 use crate::recording::Recording;
 use crate::words::Pass;
 use cy_msg::{Bytes, Items, Text};
@@ -36,7 +37,8 @@ pub struct Sample {
     pub value: i64,
 }
 
-/// What a record holds that `pass` plays: the type and the description of its channel, and its messages.
+/// What a record holds that `pass` plays: the type and the description of its channel, and its
+/// messages.
 #[derive(Drop)]
 pub struct Input {
     pub message_type: Text,
@@ -58,7 +60,9 @@ fn write_input<S: Store>(
     pass: &Pass,
     input: &Input,
 ) -> Result<(), WriteError>
-    ensures done { OnOk result ((S.shows store.new).files ≡ option_map (after_writes (spelled_writes (words_of pass.now) input.now)) (S.shows store.old).files) }
+    ensures done { OnOk result ((S.shows store.new).files
+        ≡ option_map (after_writes (spelled_writes (words_of pass.now) input.now))
+        (S.shows store.old).files) }
 {
     let mut recording = Recording::start(alloc, store, pass.input, pass, input)?;
     for sample in input.samples.as_slice() {
@@ -69,11 +73,14 @@ fn write_input<S: Store>(
 
 // Whether bytes are the record of an input. That is written in memory, and compared.
 fn is_record_of(alloc: Global, pass: &Pass, input: &Input, bytes: &[u8]) -> Result<bool, Failure>
-    ensures decides { IfOk result (λ r. Decides r (bytes.now ≡ spelled (words_of pass.now) input.now)) }
+    ensures decides { IfOk result
+        (λ r. Decides r (bytes.now ≡ spelled (words_of pass.now) input.now)) }
     ensures only_memory { IsOkUnless result Failure.Memory }
 {
     let mut store = MemStore::new(alloc);
-    write_input(alloc, &mut store, pass, input).map_err(no_memory)?;
+    if write_input(alloc, &mut store, pass, input).is_err() {
+        return Err(Failure::Memory);
+    }
     match store.file(pass.input) {
         Some(text) => Ok(text == bytes),
         None => Err(Failure::Memory),
@@ -104,10 +111,11 @@ fn is_timed(samples: &[Sample]) -> bool
     }
 }
 
-// What stands where an input would stand, as an input; None where a number that leads to it is none, or where its message type
-// is not UTF-8.
+// What stands where an input would stand, as an input; None where a number that leads to it is
+// none, or where its message type is not UTF-8.
 fn input_in(alloc: Global, bytes: &[u8]) -> Result<Option<Input>, Failure>
-    ensures none { IfOk result (λ r. IfNone r ((i : Input) → candidate_of bytes.now ≡ Some i → IsUtf8 i.message_type → ⊥)) }
+    ensures none { IfOk result (λ r. IfNone r ((i : Input) → candidate_of bytes.now ≡ Some i
+        → IsUtf8 i.message_type → ⊥)) }
     ensures text { IfOk result (λ r. IfSome r (λ i. IsUtf8 i.message_type)) }
     ensures input { IfOk result (λ r. IfSome r (λ i. candidate_of bytes.now ≡ Some i)) }
     ensures only_memory { IsOkUnless result Failure.Memory }
@@ -122,15 +130,17 @@ fn input_in(alloc: Global, bytes: &[u8]) -> Result<Option<Input>, Failure>
         return Ok(None);
     };
     Ok(Some(Input {
-        message_type: Text::new(alloc, message_type).map_err(no_memory)?,
-        proto_desc: Bytes::new(alloc, candidate.proto_desc).map_err(no_memory)?,
+        message_type: Text::new(alloc, message_type).map_err(no_memory_for_text)?,
+        proto_desc: Bytes::new(alloc, candidate.proto_desc).map_err(no_memory_for_text)?,
         samples: Items::new(samples),
     }))
 }
 
 /// Reads a record; None exactly where it is none that `pass` plays.
 pub fn read_input(alloc: Global, pass: &Pass, bytes: &[u8]) -> Result<Option<Input>, Failure>
-    ensures accepted { IfOk result (λ r. MatchOption r ((i : Input) → IsInput (words_of pass.now) bytes.now i → ⊥) (λ i. IsInput (words_of pass.now) bytes.now i)) }
+    ensures accepted { IfOk result (λ r. MatchOption r ((i : Input)
+        → IsInput (words_of pass.now) bytes.now i → ⊥)
+        (λ i. IsInput (words_of pass.now) bytes.now i)) }
     ensures only_memory { IsOkUnless result Failure.Memory }
 {
     if bytes.len() as u64 > LONGEST_INPUT {
@@ -142,13 +152,11 @@ pub fn read_input(alloc: Global, pass: &Pass, bytes: &[u8]) -> Result<Option<Inp
     if !is_timed(input.samples.as_slice()) {
         return Ok(None);
     }
-    // Whatever stands in the places of its parts, the bytes are a record if they are the very record of that.
+    // Whatever stands in the places of its parts, the bytes are a record if they are the very
+    // record of that.
     if is_record_of(alloc, pass, &input, bytes)? {
         Ok(Some(input))
     } else {
         Ok(None)
     }
 }
-
-#[cfg(test)]
-mod tests;

@@ -18,11 +18,17 @@ pub enum Line<'a> {
     Made(Bytes),
 }
 
-// Writes the program's name, a file's name and what befell it. After an error the sink has a front of them.
+// Writes the program's name, a file's name and what befell it. After an error the sink has a front
+// of them.
 fn write_named<O: Sink>(sink: &mut O, name: &str, what: &str) -> Result<(), SinkError>
-    ensures written { OnOk result (Gets (O.shows sink.old) (O.shows sink.new) (codes "cyber: " ++ name.now ++ what.now)) }
-    ensures failed { IsErrOf result SinkError.Failed → GetsFront (O.shows sink.old) (O.shows sink.new) (codes "cyber: " ++ name.now ++ what.now) }
-    ensures memory { IsErrOf result SinkError.Memory → GetsFront (O.shows sink.old) (O.shows sink.new) (codes "cyber: " ++ name.now ++ what.now) }
+    ensures written { OnOk result (Gets (O.shows sink.old) (O.shows sink.new) (codes "cyber: "
+        ++ name.now ++ what.now)) }
+    ensures failed { IsErrOf result SinkError.Failed
+        → GetsFront (O.shows sink.old) (O.shows sink.new) (codes "cyber: " ++ name.now
+        ++ what.now) }
+    ensures memory { IsErrOf result SinkError.Memory
+        → GetsFront (O.shows sink.old) (O.shows sink.new) (codes "cyber: " ++ name.now
+        ++ what.now) }
     ensures cause { HasSinkFault (O.shows sink.old) (O.shows sink.new) result }
 {
     sink.write("cyber: ".as_bytes())?;
@@ -32,9 +38,12 @@ fn write_named<O: Sink>(sink: &mut O, name: &str, what: &str) -> Result<(), Sink
 
 /// Writes a line to a sink. After an error the sink has a front of it.
 pub fn write_line<O: Sink>(sink: &mut O, line: &Line) -> Result<(), SinkError>
-    ensures written { OnOk result (Gets (O.shows sink.old) (O.shows sink.new) (bytes_of_line line.now)) }
-    ensures failed { IsErrOf result SinkError.Failed → GetsFront (O.shows sink.old) (O.shows sink.new) (bytes_of_line line.now) }
-    ensures memory { IsErrOf result SinkError.Memory → GetsFront (O.shows sink.old) (O.shows sink.new) (bytes_of_line line.now) }
+    ensures written { OnOk result (Gets (O.shows sink.old) (O.shows sink.new)
+        (bytes_of_line line.now)) }
+    ensures failed { IsErrOf result SinkError.Failed
+        → GetsFront (O.shows sink.old) (O.shows sink.new) (bytes_of_line line.now) }
+    ensures memory { IsErrOf result SinkError.Memory
+        → GetsFront (O.shows sink.old) (O.shows sink.new) (bytes_of_line line.now) }
     ensures cause { HasSinkFault (O.shows sink.old) (O.shows sink.new) result }
 {
     match line {

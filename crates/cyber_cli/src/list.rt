@@ -1,5 +1,6 @@
 // The messages that `pass` plays.
-ghost use Rattle.std.specs.Prelude.{◌≡◌, ◌+◌, ◌<◌, ◌^◌, ℕ, Some, length, slice_index, IfOk, IsOkUnless};
+ghost use Rattle.std.specs.Prelude.{◌≡◌, ◌+◌, ◌<◌, ◌^◌, ℕ, Some, length, slice_index, IfOk};
+ghost use Rattle.std.specs.Prelude.{IsOkUnless};
 ghost use Rattle.cy_msg.specs.Tokens.{IsTimed};
 ghost use Rattle.cyber_cli.specs.Tape.{tokens_from, pass_tokens};
 
@@ -11,7 +12,14 @@ use std::alloc::Global;
 // The message at a place.
 fn token_of(place: u32, sample: &Sample) -> Token
     requires { place + 1 < 2 ^ 32 }
-    ensures { result ≡ record { channel = 0; seq = place + 1; time = sample.now.time; whole = Some sample.now.value; origin = Some place } }
+    ensures { result ≡ record {
+      channel = 0;
+      seq = place + 1;
+      time = sample.now.time;
+      whole =
+          Some sample.now.value;
+      origin = Some place;
+    } }
 {
     Token {
         channel: 0,
@@ -54,7 +62,8 @@ pub fn play_list(alloc: Global, input: &Input) -> Result<PlayList, Failure>
     requires few { length input.now.samples < 2 ^ 32 }
     requires timed { IsTimed (pass_tokens input.now) }
     ensures tokens { IfOk result (λ l. l.tokens ≡ pass_tokens input.now) }
-    ensures places { IfOk result (λ l. (n : ℕ) → n < length input.now.samples → slice_index l.places n ≡ n) }
+    ensures places { IfOk result (λ l. (n : ℕ) → n < length input.now.samples
+        → slice_index l.places n ≡ n) }
     ensures shadowed { IfOk result (λ l. l.shadowed ≡ 0) }
     ensures only_memory { IsOkUnless result Failure.Memory }
 {

@@ -9,15 +9,15 @@ ghost use Rattle.cyber_cli.specs.Views.{words_of};
 ghost use Rattle.cyber_cli.specs.Tape.{done_line as line_of};
 ghost use Rattle.cyber_cli.specs.Made.{IsMade};
 
-use crate::failure::{Failure, no_memory};
+use crate::failure::Failure;
 use crate::input::Input;
 use crate::play::played_world;
-use crate::told::done_line;
+use crate::summary::done_line;
 use crate::wiring::pass_wiring;
 use crate::words::Pass;
 use cy_comp::Wiring;
 use cy_msg::Bytes;
-use cy_trace::trace_text;
+use cy_trace::{TraceError, trace_text};
 use std::alloc::Global;
 use wake_core::World;
 
@@ -33,16 +33,23 @@ pub struct Made {
 fn trace_of(alloc: Global, world: &World, wiring: &Wiring) -> Result<Bytes, Failure>
     requires routes { (world_of world.now).routes ≡ routes_of wiring.now.plans }
     requires channels { (world_of world.now).channels ≡ length wiring.now.names }
-    ensures trace { IfOk result (λ b. b ≡ text_of wiring.now.names wiring.now.plans 0 (world_of world.now).run) }
+    ensures trace { IfOk result (λ b. b ≡ text_of wiring.now.names wiring.now.plans 0
+        (world_of world.now).run) }
     ensures only_memory { IsOkUnless result Failure.Memory }
 {
-    trace_text(alloc, world, wiring, 0).map_err(no_memory)
+    match trace_text(alloc, world, wiring, 0) {
+        Ok(trace) => Ok(trace),
+        Err(TraceError::Memory) => Err(Failure::Memory),
+        Err(TraceError::Bad { .. }) => unreachable!(),
+    }
 }
 
 // The line that tells what was done in a world of one component.
 fn told_of(alloc: Global, world: &World) -> Result<Bytes, Failure>
     requires { 0 < length (world_of world.now).routes }
-    ensures line { IfOk result (λ b. b ≡ line_of (length (played_of (world_of world.now).routes (world_of world.now).run.tape)) 0
+    ensures line { IfOk result
+        (λ b. b ≡ line_of (length (played_of (world_of world.now).routes
+        (world_of world.now).run.tape)) 0
         (length ((world_of world.now).run.calls 0)) (length (world_of world.now).run.tape)) }
     ensures only_memory { IsOkUnless result Failure.Memory }
 {

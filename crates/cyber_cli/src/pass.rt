@@ -2,7 +2,7 @@
 ghost use Rattle.std.specs.Prelude.{◌≡◌, ◌≤◌, ◌++◌, true, List, ℕ, OnOk, IsErrOf};
 ghost use Rattle.std.specs.Option.{option_map};
 ghost use Rattle.cy_store.specs.Write.{Write, name_of, after_writes};
-ghost use Rattle.cy_store.specs.Store.{StoreRose};
+ghost use Rattle.cy_store.specs.Store.{WriteRose};
 ghost use Rattle.cyber_cli.specs.declared.failure.File.{File};
 ghost use Rattle.cyber_cli.specs.Words.{is_pass};
 ghost use Rattle.cy_writer.specs.Writes.{StopsAt, StopsBefore};
@@ -53,12 +53,19 @@ fn write_both<S: Store>(
 ) -> Result<(), Failure>
     requires words { is_pass (words_of pass.now) ≡ true }
     requires made { IsMade (words_of pass.now) input.now made.now }
-    ensures done { OnOk result ((S.shows store.new).files ≡ option_map (after_writes (writes_of (words_of pass.now) input.now made.now)) (S.shows store.old).files) }
-    ensures failed { (f : File) → IsErrOf result (Failure.Store f) → ((w : Write) × (name_of w ≡ name_of_file (words_of pass.now) f)
-        × StopsAt (writes_of (words_of pass.now) input.now made.now) w (S.shows store.old).files (S.shows store.new).files) }
-    ensures memory { IsErrOf result Failure.Memory → StopsBefore (writes_of (words_of pass.now) input.now made.now) (S.shows store.old).files (S.shows store.new).files }
+    ensures done { OnOk result ((S.shows store.new).files
+        ≡ option_map (after_writes (writes_of (words_of pass.now) input.now made.now))
+        (S.shows store.old).files) }
+    ensures failed { (f : File) → IsErrOf result (Failure.Store f)
+        → ((w : Write) × (name_of w ≡ name_of_file (words_of pass.now) f)
+        × StopsAt (writes_of (words_of pass.now) input.now made.now) w (S.shows store.old).files
+        (S.shows store.new).files) }
+    ensures memory { IsErrOf result Failure.Memory
+        → StopsBefore (writes_of (words_of pass.now) input.now made.now) (S.shows store.old).files
+        (S.shows store.new).files }
     ensures built { IsErrOf result Failure.NotBuilt → ⊥ }
-    ensures causes { (f : File) (any : List ℕ) → IsErrOf result (Failure.Store f) → StoreRose (S.shows store.old) (S.shows store.new) any }
+    ensures causes { (f : File) → IsErrOf result (Failure.Store f) → WriteRose (S.shows store.old)
+        (S.shows store.new) }
 {
     let tape = made.world.tape_list();
     if let Err(error) = write_record(alloc, store, pass, input, tape) {
@@ -70,8 +77,9 @@ fn write_both<S: Store>(
     Ok(())
 }
 
-/// Plays a record through one component and writes the record of all messages and the trace. Answers the line that tells what
-/// was done. All reading is done before the first file is made.
+/// Plays a record through one component and writes the record of all messages and the trace.
+/// Answers the line that tells what was done. All reading is done before the first file is made.
+#[tactic(auto, using(crate::proofs::PassExits::unchanged))]
 pub fn run_pass<S: Store>(alloc: Global, pass: &Pass, store: &mut S) -> Result<Bytes, Failure>
     requires { is_pass (words_of pass.now) ≡ true }
     ensures { PassEnds (words_of pass.now) (S.shows store.old) (S.shows store.new) result }

@@ -1,22 +1,23 @@
 // Files read whole.
-ghost use Rattle.std.specs.Prelude.{◌≡◌, ◌≤◌, ◌<◌, ⊤, length, take, IfOk, MatchOption};
+ghost use Rattle.std.specs.Prelude.{◌≡◌, ◌≤◌, ◌<◌, ⊤, length, take, IfOk, IsErrOf, MatchOption};
 ghost use Rattle.cy_store.specs.Files.{Holds};
 ghost use Rattle.cyber_cli.specs.Input.{longest_input};
-ghost use Rattle.cyber_cli.specs.Causes.{HasCauses};
+ghost use Rattle.cy_store.specs.Store.{HasCauses};
 
 use crate::input::LONGEST_INPUT;
 use cy_msg::Bytes;
 use cy_store::{Store, StoreError};
 use std::alloc::Global;
 
-// Reads a file from its front until the buffer is full or the file ends, and says how many bytes it read. It reads at least
-// once, so that a name that is not there fails for an empty buffer too.
+// Reads a file from its front until the buffer is full or the file ends, and says how many bytes it
+// read. It reads at least once, so that a name that is not there fails for an empty buffer too.
 fn fill<S: Store>(store: &mut S, name: &str, buffer: &mut [u8]) -> Result<usize, StoreError>
     ensures within { IfOk result (λ n. n ≤ length buffer.old) }
     ensures read { IfOk result (λ n. Holds (S.shows store.old).files name.now (λ bytes.
         take n buffer.new ≡ take (length buffer.old) bytes)) }
     ensures same { (S.shows store.new).files ≡ (S.shows store.old).files }
-    ensures causes { HasCauses (S.shows store.old) (S.shows store.new) name.now result }
+    ensures causes { HasCauses (IsErrOf result StoreError.Failed) (S.shows store.old)
+        (S.shows store.new) name.now }
 {
     let mut filled = 0;
     loop {
@@ -34,11 +35,15 @@ pub fn read_file<S: Store>(
     store: &mut S,
     name: &str,
 ) -> Result<Option<Bytes>, StoreError>
-    ensures long { IfOk result (λ r. MatchOption r (Holds (S.shows store.old).files name.now (λ bytes. longest_input < length bytes)) (λ _. ⊤)) }
-    ensures whole { IfOk result (λ r. MatchOption r ⊤ (λ bytes. Holds (S.shows store.old).files name.now (λ told. told ≡ bytes))) }
+    ensures long { IfOk result (λ r. MatchOption r (Holds (S.shows store.old).files name.now
+        (λ bytes. longest_input < length bytes)) (λ _. ⊤)) }
+    ensures whole { IfOk result
+        (λ r. MatchOption r ⊤ (λ bytes. Holds (S.shows store.old).files name.now (λ told. told
+        ≡ bytes))) }
     ensures short { IfOk result (λ r. MatchOption r ⊤ (λ bytes. length bytes ≤ longest_input)) }
     ensures same { (S.shows store.new).files ≡ (S.shows store.old).files }
-    ensures causes { HasCauses (S.shows store.old) (S.shows store.new) name.now result }
+    ensures causes { HasCauses (IsErrOf result StoreError.Failed) (S.shows store.old)
+        (S.shows store.new) name.now }
 {
     let size = store.size(name)?;
     if size > LONGEST_INPUT {

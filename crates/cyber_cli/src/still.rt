@@ -60,7 +60,8 @@ fn due_after<'a>(pass: &Pass<'a>, failure: Failure) -> Due<'a>
 
 // Does what the words ask for, and says which status is due.
 fn due_of<'a, S: Store>(alloc: Global, words: &'a [Text], store: &mut S) -> Due<'a>
-    ensures { IsDue words.now (S.shows store.old) (S.shows store.new) result.status (bytes_of_line result.line) }
+    ensures { IsDue words.now (S.shows store.old) (S.shows store.new) result.status
+        (bytes_of_line result.line) }
 {
     let Some(pass) = pass_words(words) else {
         return Due {
@@ -86,7 +87,10 @@ fn try_to_tell<E: Sink>(err: &mut E, text: &str)
 
 // Tells on `out` that all was done.
 fn tell_done<O: Sink, E: Sink>(line: &Line, out: &mut O, err: &mut E) -> Status
-    ensures { IsTold Status.Done (bytes_of_line line.now) record { out = O.shows out.old; err = E.shows err.old } record { out = O.shows out.new; err = E.shows err.new } result }
+    ensures { IsTold Status.Done (bytes_of_line line.now) record {
+      out = O.shows out.old;
+      err = E.shows err.old;
+    } record { out = O.shows out.new; err = E.shows err.new } result }
 {
     match write_line(out, line) {
         Ok(()) => Status::Done,
@@ -102,7 +106,10 @@ fn tell_done<O: Sink, E: Sink>(line: &Line, out: &mut O, err: &mut E) -> Status
 fn tell_failure<E: Sink>(status: Status, line: &Line, err: &mut E) -> Status
     requires done { status ≢ Status.Done }
     requires sink { status ≢ Status.SinkFault }
-    ensures { (out : SinkView) → IsTold status (bytes_of_line line.now) record { out = out; err = E.shows err.old } record { out = out; err = E.shows err.new } result }
+    ensures { (out : SinkView) → IsTold status (bytes_of_line line.now) record {
+      out = out;
+      err = E.shows err.old;
+    } record { out = out; err = E.shows err.new } result }
 {
     match write_line(err, line) {
         Ok(()) => status,
@@ -114,7 +121,10 @@ fn tell_failure<E: Sink>(status: Status, line: &Line, err: &mut E) -> Status
 // Tells a due status, and answers it or what befell the telling.
 fn tell<O: Sink, E: Sink>(due: &Due, out: &mut O, err: &mut E) -> Status
     requires { due.now.status ≢ Status.SinkFault }
-    ensures { IsTold due.now.status (bytes_of_line due.now.line) record { out = O.shows out.old; err = E.shows err.old } record { out = O.shows out.new; err = E.shows err.new } result }
+    ensures { IsTold due.now.status (bytes_of_line due.now.line) record {
+      out = O.shows out.old;
+      err = E.shows err.old;
+    } record { out = O.shows out.new; err = E.shows err.new } result }
 {
     match due.status {
         Status::Done => tell_done(&due.line, out, err),
@@ -122,11 +132,13 @@ fn tell<O: Sink, E: Sink>(due: &Due, out: &mut O, err: &mut E) -> Status
     }
 }
 
-/// Does what the words ask for: `pass RECORD OUT TRACE FROM TO` plays a record through one component that passes each message
-/// of the channel FROM on to the channel TO, and writes a record of all messages and a trace of all calls.
+/// Does what the words ask for: `pass RECORD OUT TRACE FROM TO` plays a record through one
+/// component that passes each message of the channel FROM on to the channel TO, and writes a record
+/// of all messages and a trace of all calls.
 ///
-/// The line that tells what was done goes to `out`, and one that tells of a refusal or a fault goes to `err`. The answer is
-/// one of the seven statuses; its contract says which is due, what stands in the store then, and how it is told.
+/// The line that tells what was done goes to `out`, and one that tells of a refusal or a fault goes
+/// to `err`. The answer is one of the seven statuses; its contract says which is due, what stands
+/// in the store then, and how it is told.
 pub fn cyber_still<S: Store, O: Sink, E: Sink>(
     alloc: Global,
     words: &[Text],
@@ -134,8 +146,22 @@ pub fn cyber_still<S: Store, O: Sink, E: Sink>(
     out: &mut O,
     err: &mut E,
 ) -> Status
-    ensures answers { Answers words.now (S.shows store.old) (S.shows store.new) record { out = O.shows out.old; err = E.shows err.old } record { out = O.shows out.new; err = E.shows err.new } result }
-    ensures complete { IsComplete words.now (S.shows store.old) (S.shows store.new) record { out = O.shows out.old; err = E.shows err.old } record { out = O.shows out.new; err = E.shows err.new } result }
+    ensures answers { Answers words.now (S.shows store.old) (S.shows store.new) record {
+      out =
+          O.shows out.old;
+      err = E.shows err.old;
+    } record {
+      out = O.shows out.new;
+      err = E.shows err.new;
+    } result }
+    ensures complete { IsComplete words.now (S.shows store.old) (S.shows store.new) record {
+      out =
+          O.shows out.old;
+      err = E.shows err.old;
+    } record {
+      out = O.shows out.new;
+      err = E.shows err.new;
+    } result }
 {
     let due = due_of(alloc, words, store);
     tell(&due, out, err)

@@ -1,13 +1,15 @@
 // The component of `pass`, its channels and its context.
-ghost use Rattle.std.specs.Prelude.{◌≡◌, ◌<◌, ◌++◌, [], ◌∷◌, true, length, IfOk, OnOk, IsOkUnless, codes};
+ghost use Rattle.std.specs.Prelude.{◌≡◌, ◌<◌, ◌++◌, [], ◌∷◌, true, length, IfOk, OnOk, IsOkUnless};
+ghost use Rattle.std.specs.Prelude.{codes};
 ghost use Rattle.std.specs.List.{Contains};
 ghost use Rattle.cy_msg.specs.Placement.{scan_of};
 ghost use Rattle.cy_msg.specs.declared.names.TheConstants.{MOST_NAMES};
 ghost use Rattle.cyber_cli.specs.Words.{is_pass};
 ghost use Rattle.cyber_cli.specs.Views.{words_of};
-ghost use Rattle.cyber_cli.specs.Tape.{pass_names as names_of_pass, pass_plan as plan_of_pass, pass_scan};
+ghost use Rattle.cyber_cli.specs.Tape.{pass_names as names_of_pass, pass_plan as plan_of_pass};
+ghost use Rattle.cyber_cli.specs.Tape.{pass_scan};
 
-use crate::failure::{Failure, no_memory};
+use crate::failure::{Failure, no_memory_for_text};
 use crate::input::Input;
 use crate::one::one;
 use crate::words::Pass;
@@ -20,7 +22,7 @@ fn text_of(alloc: Global, text: &str) -> Result<Text, Failure>
     ensures copy { IfOk result (λ t. t ≡ text.now) }
     ensures only_memory { IsOkUnless result Failure.Memory }
 {
-    Text::new(alloc, text).map_err(no_memory)
+    Text::new(alloc, text).map_err(no_memory_for_text)
 }
 
 // Gives a new name the next number.

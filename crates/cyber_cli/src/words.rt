@@ -53,7 +53,8 @@ impl Pass<'_> {
 
 // What a command and its words ask for.
 fn asked<'a>(command: &str, pass: Pass<'a>) -> Option<Pass<'a>>
-    ensures asked { MatchOption result (asked_by command.now (words_of pass.entry) ≡ None) (λ p. asked_by command.now (words_of pass.entry) ≡ Some (words_of p)) }
+    ensures asked { MatchOption result (asked_by command.now (words_of pass.entry) ≡ None)
+        (λ p. asked_by command.now (words_of pass.entry) ≡ Some (words_of p)) }
     ensures form { IfSome result (λ p. is_pass (words_of p) ≡ true) }
 {
     if command == "pass" && pass.is_in_form() {
@@ -65,7 +66,8 @@ fn asked<'a>(command: &str, pass: Pass<'a>) -> Option<Pass<'a>>
 
 /// What the words ask for; None where they are of no known form.
 pub fn pass_words<'a>(words: &'a [Text]) -> Option<Pass<'a>>
-    ensures asked { MatchOption result (pass_of words.now ≡ None) (λ p. pass_of words.now ≡ Some (words_of p)) }
+    ensures asked { MatchOption result (pass_of words.now ≡ None) (λ p. pass_of words.now
+        ≡ Some (words_of p)) }
     ensures form { IfSome result (λ p. is_pass (words_of p) ≡ true) }
 {
     let [command, input, output, trace, from, to] = words else {

@@ -1,4 +1,4 @@
-use Rattle.std.proofs.Common.{◌≡◌, ◌≤◌, ◌∷◌, [], List, Some, length, map, take, get_or, sym, ap, ◌∙◌, subst, arith}
+use Rattle.std.proofs.Common.{◌≡◌, ◌≤◌, ◌∷◌, [], List, Some, length, map, take, get_or, sym, ap, ◌∙◌, subst, arith, rules}
 use Rattle.std.specs.Prelude.{slice_get}
 use Rattle.std.proofs.lemmas.List.{take_all}
 use Rattle.std.proofs.lemmas.Option.{slice_get-get_or}
@@ -19,13 +19,11 @@ use Rattle.cyber_cli.proofs.input.write_input.Goals as goal
 
 pub loop-sample-init : goal.loop-sample-init
 loop-sample-init g c =
-    let causes = c.start.ensures.causes [] in
     record {
       stands = c.in_ok-recording.ensures.given;
       files = c.in_ok-recording.ensures.makes.done;
       there = c.in_ok-recording.ensures.there;
-      faults = causes.faults_stay;
-      misses = causes.misses_stay;
+      counts = c.start.ensures.causes.quiet (λ e. search rules);
     }
 
 pub add-requires-clause-channel : goal.add-requires-clause-channel
@@ -52,14 +50,13 @@ loop-sample-preserved g c =
     let mid = g.S.Store.shows c.loop-sample.store in
     let new = g.S.Store.shows c.add.new.store in
     let h = c.loop-sample.invariant in
-    let causes = c.add.ensures.causes [] in
     let same : message_on channel s.time (written c.number_in.result) ≡ message_of_sample p s = ap (message_on channel s.time) c.number_in.ensures in
     let made = subst (λ (m : BodyMessage). Makes (puts_into all.name (message_puts all m)) mid new c.add.result) same (c.add.ensures.makes all channel h.stands at) in
     let stands = subst (λ (m : BodyMessage). Stands c.add.new.self.writer (with_message all m)) same (c.in_ok-add.ensures.given all channel h.stands at) in
     subst (λ (ms : List BodyMessage). IsUnderWay p.input (channel ∷ []) ms c.add.new.self.writer old new) (sym (samples_more p samples n s here))
     (stepped p.input (channel ∷ []) so_far (message_of_sample p s) c.loop-sample.recording.writer c.add.new.self.writer old mid new h
     stands (rw c.in_ok-add.was at made).done c.add.ensures.there
-    causes.faults_stay causes.misses_stay)
+    (c.add.ensures.causes.quiet (λ e. search rules)))
 
 pub returns : goal.returns
 returns g c =

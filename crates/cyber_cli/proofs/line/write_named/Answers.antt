@@ -9,7 +9,7 @@ returns-in_err-write-clause-failed g c e =
     let failed : IsErrOf c.write.result sink_error.Failed = search rules in
     let old = g.O.Sink.shows c.args.sink.now in
     let new = g.O.Sink.shows c.write.new.self in
-    let front : GetsFront old new (codes "cyber: ") = rw (← c.as_bytes.ensures.value) (c.write.ensures.front failed) in
+    let front : GetsFront old new (codes "cyber: ") = rw (← c.as_bytes.ensures.value) (c.write.ensures.prefix failed) in
     fails_first old new (codes "cyber: ") c.args.name.now c.args.what.now front
 
 pub returns-in_err-write-2-clause-failed : goal.returns-in_err-write-2-clause-failed
@@ -19,7 +19,7 @@ returns-in_err-write-2-clause-failed g c e =
     let mid = g.O.Sink.shows c.write.new.self in
     let new = g.O.Sink.shows c.write-2.new.self in
     let first : Gets old mid (codes "cyber: ") = search rules in
-    let front : GetsFront mid new c.args.name.now = rw (← c.as_bytes-2.ensures.value) (c.write-2.ensures.front failed) in
+    let front : GetsFront mid new c.args.name.now = rw (← c.as_bytes-2.ensures.value) (c.write-2.ensures.prefix failed) in
     fails_second old mid new (codes "cyber: ") c.args.name.now c.args.what.now first front
 
 pub returns-in_err-write-2-clause-memory : goal.returns-in_err-write-2-clause-memory
@@ -40,7 +40,7 @@ returns-clause-failed g c e =
     let new = g.O.Sink.shows c.write-3.new.self in
     let named : Gets old first (codes "cyber: ") = search rules in
     let told : Gets first second c.args.name.now = search rules in
-    let front : GetsFront second new c.args.what.now = rw (← c.as_bytes-3.ensures.value) (c.write-3.ensures.front e) in
+    let front : GetsFront second new c.args.what.now = rw (← c.as_bytes-3.ensures.value) (c.write-3.ensures.prefix e) in
     fails_third old first second new (codes "cyber: ") c.args.name.now c.args.what.now named told front
 
 pub returns-clause-memory : goal.returns-clause-memory

@@ -1,4 +1,4 @@
-use Rattle.std.proofs.Common.{ℕ, List, subst}
+use Rattle.std.proofs.Common.{ℕ, List, subst, rules}
 use Rattle.std.proofs.lemmas.Result.{err_from_is_err_and}
 use Rattle.cyber_cli.specs.Input.{IsInput}
 use Rattle.cyber_cli.specs.Views.{words_of}
@@ -11,11 +11,10 @@ returns-in_err-write_both g c =
     let read = rw c.in-Some.is at c.in_ok-input.ensures.accepted in
     let P : List ℕ → Type 0 = λ bytes. IsInput (words_of c.args.pass.now) bytes c.in-Some.input in
     let e = c.in_err-write_both.ensures in
-    let causes = c.read_file.ensures.causes in
     let p = err_from_is_err_and c.from_residual-in_err-write_both.result c.from_residual-in_err-write_both.ensures.1 in
     rw (p.1, p.2) (stopped (words_of c.args.pass.now) c.in-Some.input c.in_ok-made.made c.in-Ok-Some.bytes
     (g.S.Store.shows c.args.store.now) (g.S.Store.shows c.read_file.new.store) (g.S.Store.shows c.write_both.new.store) c.in_err-write_both.field-0.0
-    c.requires c.in_ok-made.ensures.made held (subst P c.as_slice.ensures read) c.read_file.ensures.same causes.faults_stay causes.misses_stay
+    c.requires c.in_ok-made.ensures.made held (subst P c.as_slice.ensures read) c.read_file.ensures.same (c.read_file.ensures.causes.quiet (λ e. search rules))
     e.failed e.memory e.built e.causes)
 
 pub returns : goal.returns

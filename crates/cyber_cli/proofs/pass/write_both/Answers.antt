@@ -1,16 +1,18 @@
-use Rattle.std.proofs.Common.{◌≡◌, ◌∷◌, [], List, ℕ, Err, refl, ap, ◌∙◌, subst}
+use Rattle.std.proofs.Common.{◌≡◌, ◌∷◌, [], List, ℕ, Err, IsErrOf, refl, ap, ◌∙◌, subst, rules}
 use Rattle.std.specs.Option.{option_map}
 use Rattle.cy_msg.specs.declared.token.Token.{Token}
 use Rattle.cy_store.specs.Write.{after_writes}
 use Rattle.wake_core.specs.WorldOf.{world_of}
 use Rattle.cy_writer.specs.Writes.{Makes}
-use Rattle.cy_writer.proofs.Puts.{map-after_writes}
+use Rattle.cy_store.specs.Store.{HasWriteCauses}
+use Rattle.cy_writer.specs.declared.error.WriteError.TheVariants as write_error
+use Rattle.cy_writer.proofs.Puts.{map-after_writes, causes_then, untold_map}
 use Rattle.cyber_cli.specs.declared.failure.File.TheVariants as file
 use Rattle.cyber_cli.specs.Views.{words_of}
 use Rattle.cyber_cli.specs.Tape.{pass_channels}
 use Rattle.cyber_cli.specs.Recorded.{tape_chunks}
 use Rattle.cyber_cli.specs.Writes.{record_puts, file_writes}
-use Rattle.cyber_cli.proofs.BothFiles.{Blames, first_fails, first_starves, second_fails, second_starves, second_rose, fault}
+use Rattle.cyber_cli.proofs.BothFiles.{Blames, first_fails, first_starves, second_fails, second_starves, fault}
 use Rattle.cyber_cli.proofs.pass.write_both.Goals as goal
 
 pub returns-in-Err-clause-failed : goal.returns-in-Err-clause-failed
@@ -62,15 +64,17 @@ returns-in-Err-write_file-clause-memory g c =
     first (record { failed = c.unwritten-in-Err-write_file.ensures.failed; memory = c.unwritten-in-Err-write_file.ensures.memory }) made
 
 pub returns-in-Err-write_file-clause-causes : goal.returns-in-Err-write_file-clause-causes
-returns-in-Err-write_file-clause-causes g c f any e =
+returns-in-Err-write_file-clause-causes g c f e =
     let p = words_of c.args.pass.now in
     let i = c.args.input.now in
     let blames : Blames file.Trace c.in-Err-write_file.error c.unwritten-in-Err-write_file.result = record { failed = c.unwritten-in-Err-write_file.ensures.failed; memory = c.unwritten-in-Err-write_file.ensures.memory } in
     let failed = fault c.in-Err-write_file.error c.unwritten-in-Err-write_file.result file.Trace f blames c.in-Err-write_file.ensures.unbroken e in
-    second_rose p.output any (record_puts (pass_channels p i) (tape_chunks p i c.tape_list-tape.result.now))
-    (g.S.Store.shows c.args.store.now) (g.S.Store.shows c.write_record.new.store) (g.S.Store.shows c.write_file.new.store)
-    c.in_default.ensures.makes.done (c.write_record.ensures.causes any).faults_stay (c.write_record.ensures.causes any).misses_stay
-    ((c.in-Err-write_file.ensures.causes p.output).failed (rw failed.0 refl))
+    let old = g.S.Store.shows c.args.store.now in
+    let mid = g.S.Store.shows c.write_record.new.store in
+    let new = g.S.Store.shows c.write_file.new.store in
+    let causes : HasWriteCauses (IsErrOf {T = Unit {0}} (Err c.in-Err-write_file.error) write_error.Failed) old new =
+    causes_then old mid new (c.write_record.ensures.causes.quiet (λ e. search rules)) (untold_map _ old.files mid.files c.in_default.ensures.makes.done) c.in-Err-write_file.ensures.causes in
+    causes.failed (rw failed.0 refl)
 
 pub returns-clause-done : goal.returns-clause-done
 returns-clause-done g c =

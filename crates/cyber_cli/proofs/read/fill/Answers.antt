@@ -20,4 +20,4 @@ returns-then-read-eq0-clause-read g c =
 pub loop-read-preserved : goal.loop-read-preserved
 loop-read-preserved g c =
     read_more c.args.name.now c.loop-read.filled c.in_ok-read.read c.loop-read.buffer _ c.read_at.new.buf _ (g.S.Store.shows c.args.store.now) (g.S.Store.shows c.loop-read.store) (g.S.Store.shows c.read_at.new.self)
-    c.loop-read.invariant c.in_ok-read.ensures.within (search rules) c.in_ok-read.ensures.value c.in_ok-read.ensures.same c.read_at.ensures.cause
+    c.loop-read.invariant c.in_ok-read.ensures.within (search rules) c.in_ok-read.ensures.value c.in_ok-read.ensures.same (c.read_at.ensures.cause.quiet (λ e. search rules))

@@ -9,7 +9,7 @@ use Rattle.cyber_cli.specs.Input.{input_channel}
 use Rattle.cyber_cli.specs.Views.{words_of}
 use Rattle.cyber_cli.specs.Writes.{file_writes}
 use Rattle.cyber_cli.specs.Recorded.{given_channels, front_puts}
-use Rattle.cyber_cli.proofs.TapeRecord.{second_writes, makes_channel, made_channel, causes_later, causes_done, new_name}
+use Rattle.cyber_cli.proofs.TapeRecord.{second_writes, makes_channel, made_channel, causes_later, new_name}
 use Rattle.cyber_cli.proofs.recording.start_both.Goals as goal
 
 pub returns-in_err-recording-clause-makes : goal.returns-in_err-recording-clause-makes
@@ -24,8 +24,8 @@ returns-in_err-recording-clause-makes g c =
     c.start.ensures.makes (search rules) (λ e h. search rules))
 
 pub returns-in_err-recording-clause-causes : goal.returns-in_err-recording-clause-causes
-returns-in_err-recording-clause-causes g c any =
-    causes_same c.start.result c.from_residual.result any (g.S.Store.shows c.args.store.now) (g.S.Store.shows c.start.new.store) (c.start.ensures.causes any) (λ e. search rules)
+returns-in_err-recording-clause-causes g c =
+    causes_same (g.S.Store.shows c.args.store.now) (g.S.Store.shows c.start.new.store) c.start.ensures.causes (λ e. search rules) (λ e. search rules)
 
 pub returns-in_err-channel-clause-makes : goal.returns-in_err-channel-clause-makes
 returns-in_err-channel-clause-makes g c =
@@ -37,20 +37,16 @@ returns-in_err-channel-clause-makes g c =
     let before = given_channels name (first ∷ []) in
     makes_channel c.channel.result c.from_residual-in_err-channel.result c.in_ok-recording.recording.writer before given second (file_writes name (front_puts (first ∷ []) [])) _
     (g.S.Store.shows c.args.store.now) (g.S.Store.shows c.start.new.store) (g.S.Store.shows c.channel.new.store) same c.in_ok-recording.ensures.given
-    c.in_ok-recording.ensures.makes.done (c.channel.ensures.makes before c.in_ok-recording.ensures.given) (second_writes name first second)
-    (search rules) (λ e h. search rules) c.channel.ensures.broken
+    c.in_ok-recording.ensures.makes.done (c.channel.ensures.puts.makes before c.in_ok-recording.ensures.given) (second_writes name first second)
+    (search rules) (λ e h. search rules) c.channel.ensures.goes_on.refused.broken
 
 pub returns-in_err-channel-clause-causes : goal.returns-in_err-channel-clause-causes
-returns-in_err-channel-clause-causes g c any =
-    let name = c.args.pass.now.output.now in
-    let first = input_channel (words_of c.args.pass.now) c.args.input.now in
+returns-in_err-channel-clause-causes g c =
     let old = g.S.Store.shows c.args.store.now in
     let mid = g.S.Store.shows c.start.new.store in
     let new = g.S.Store.shows c.channel.new.store in
-    let causes = c.start.ensures.causes any in
-    causes_later c.from_residual-in_err-channel.result c.in_ok-recording.recording.writer (given_channels name (first ∷ [])) any (file_writes name (front_puts (first ∷ []) [])) old mid new
-    c.in_ok-recording.ensures.given c.in_ok-recording.ensures.there c.in_ok-recording.ensures.makes.done causes.faults_stay causes.misses_stay
-    (λ n. causes_same c.channel.result c.from_residual-in_err-channel.result n mid new (c.channel.ensures.causes n) (λ e. search rules))
+    causes_later (file_writes c.args.pass.now.output.now (front_puts (input_channel (words_of c.args.pass.now) c.args.input.now ∷ []) [])) old mid new c.in_ok-recording.ensures.makes.done
+    (c.start.ensures.causes.quiet (λ e. search rules)) (causes_same mid new c.channel.ensures.puts.causes (λ e. search rules) (λ e. search rules))
 
 pub returns-clause-given : goal.returns-clause-given
 returns-clause-given g c =
@@ -60,7 +56,7 @@ returns-clause-given g c =
     let given : Channel = record { name = p.to; message_type = c.as_str-message_type.result.now; proto_desc = [] } in
     let same : given ≡ second = rw c.as_str-message_type.ensures.value refl in
     subst (λ (d : Channel). Stands c.channel.new.self (with_channel before d)) same
-    (c.in_ok-channel.ensures.given before c.in_ok-recording.ensures.given refl refl (new_name p c.args.input.now c.requires.words))
+    (c.in_ok-channel.ensures.puts.given before c.in_ok-recording.ensures.given refl refl (new_name p c.args.input.now c.requires.words))
 
 pub returns-clause-makes : goal.returns-clause-makes
 returns-clause-makes g c =
@@ -75,10 +71,13 @@ returns-clause-makes g c =
     let new = g.S.Store.shows c.channel.new.store in
     makes_done _ _ old new
     (made_channel before given second (file_writes name (front_puts (first ∷ []) [])) _ old mid new same c.in_ok-recording.ensures.makes.done
-    (c.in_ok-channel.ensures.makes before c.in_ok-recording.ensures.given).done (second_writes name first second))
+    (c.in_ok-channel.ensures.puts.makes before c.in_ok-recording.ensures.given).done (second_writes name first second))
     (λ e. cc) (λ e. cc)
 
 pub returns-clause-causes : goal.returns-clause-causes
-returns-clause-causes g c any =
-    causes_done c.start.result c.channel.result _ any (g.S.Store.shows c.args.store.now) (g.S.Store.shows c.start.new.store) (g.S.Store.shows c.channel.new.store)
-    (c.start.ensures.causes any) (c.channel.ensures.causes any) (λ e. cc)
+returns-clause-causes g c =
+    let old = g.S.Store.shows c.args.store.now in
+    let mid = g.S.Store.shows c.start.new.store in
+    let new = g.S.Store.shows c.channel.new.store in
+    causes_later (file_writes c.args.pass.now.output.now (front_puts (input_channel (words_of c.args.pass.now) c.args.input.now ∷ []) [])) old mid new c.in_ok-recording.ensures.makes.done
+    (c.start.ensures.causes.quiet (λ e. search rules)) (causes_same mid new c.channel.ensures.puts.causes (λ e. cc) (λ e. search rules))

@@ -1,4 +1,4 @@
-use Rattle.std.proofs.Common.{◌+◌, List, [], take, drop, get_or, rules, subst, sym}
+use Rattle.std.proofs.Common.{◌+◌, List, take, drop, get_or, rules, subst, sym}
 use Rattle.cy_msg.specs.declared.token.Token.{Token}
 use Rattle.std.proofs.lemmas.List.{take_all}
 use Rattle.std.proofs.lemmas.Option.{slice_get-get_or}
@@ -20,19 +20,16 @@ returns-in_err-recording-clause-makes g c =
     (g.S.Store.shows c.args.store.now) (g.S.Store.shows c.start_both.new.store) c.start_both.ensures.makes (search rules) (λ e h. search rules)
 
 pub returns-in_err-recording-clause-causes : goal.returns-in_err-recording-clause-causes
-returns-in_err-recording-clause-causes g c any =
-    causes_same c.start_both.result c.from_residual.result any (g.S.Store.shows c.args.store.now) (g.S.Store.shows c.start_both.new.store) (c.start_both.ensures.causes any) (λ e. search rules)
+returns-in_err-recording-clause-causes g c =
+    causes_same (g.S.Store.shows c.args.store.now) (g.S.Store.shows c.start_both.new.store) c.start_both.ensures.causes (λ e. search rules) (λ e. search rules)
 
 pub loop-token-init : goal.loop-token-init
-loop-token-init g c =
-    let causes = c.start_both.ensures.causes [] in
-    record {
-      stands = c.in_ok-recording.ensures.given;
-      files = c.in_ok-recording.ensures.makes.done;
-      there = c.in_ok-recording.ensures.there;
-      faults = causes.faults_stay;
-      misses = causes.misses_stay;
-    }
+loop-token-init g c = record {
+  stands = c.in_ok-recording.ensures.given;
+  files = c.in_ok-recording.ensures.makes.done;
+  there = c.in_ok-recording.ensures.there;
+  counts = c.start_both.ensures.causes.quiet (λ e. search rules);
+}
 
 pub add-requires-clause-channel : goal.add-requires-clause-channel
 add-requires-clause-channel g c =
@@ -69,17 +66,15 @@ returns-in_err-add-clause-makes g c =
     c.loop-token.invariant made (search rules) (λ e h. search rules) (λ e. unbroken c.loop-token.recording.writer all c.loop-token.invariant.stands (c.add.ensures.broken (search rules))))
 
 pub returns-in_err-add-clause-causes : goal.returns-in_err-add-clause-causes
-returns-in_err-add-clause-causes g c any =
+returns-in_err-add-clause-causes g c =
     let p = words_of c.args.pass.now in
     let i = c.args.input.now in
-    let so_far = tape_messages p i (take c.loop-token.token-index c.args.tape.now) in
     let old = g.S.Store.shows c.args.store.now in
     let mid = g.S.Store.shows c.loop-token.store in
     let new = g.S.Store.shows c.add.new.store in
     let h = c.loop-token.invariant in
-    causes_later c.from_residual-in_err-add.result c.loop-token.recording.writer (given p.output (pass_channels p i) so_far) any (front_writes p.output (pass_channels p i) so_far) old mid new
-    h.stands h.there h.files h.faults h.misses
-    (λ name. causes_same c.add.result c.from_residual-in_err-add.result name mid new (c.add.ensures.causes name) (λ e. search rules))
+    causes_later (front_writes p.output (pass_channels p i) (tape_messages p i (take c.loop-token.token-index c.args.tape.now))) old mid new h.files h.counts
+    (causes_same mid new c.add.ensures.causes (λ e. search rules) (λ e. search rules))
 
 pub loop-token-preserved : goal.loop-token-preserved
 loop-token-preserved g c =
@@ -99,14 +94,13 @@ loop-token-preserved g c =
     let mid = g.S.Store.shows c.loop-token.store in
     let new = g.S.Store.shows c.add.new.store in
     let h = c.loop-token.invariant in
-    let causes = c.add.ensures.causes [] in
     let made = subst (λ (x : BodyMessage). Makes (puts_into all.name (message_puts all x)) mid new c.add.result) same
     (c.add.ensures.makes all channel.0 h.stands channel.1.0) in
     let stands = subst (λ (x : BodyMessage). Stands c.add.new.self.writer (with_message all x)) same
     (c.in_ok-add.ensures.given all channel.0 h.stands channel.1.0) in
     subst (λ (ms : List BodyMessage). IsUnderWay p.output (pass_channels p i) ms c.add.new.self.writer old new) (sym (tape_more p i tape n t here))
     (stepped p.output (pass_channels p i) so_far m c.loop-token.recording.writer c.add.new.self.writer old mid new h stands (rw c.in_ok-add.was at made).done c.add.ensures.there
-    causes.faults_stay causes.misses_stay)
+    (c.add.ensures.causes.quiet (λ e. search rules)))
 
 pub returns-clause-makes : goal.returns-clause-makes
 returns-clause-makes g c =
@@ -125,10 +119,12 @@ returns-clause-makes g c =
     (λ e. unbroken c.loop-token.recording.writer all h.stands (c.close.ensures.broken e)))
 
 pub returns-clause-causes : goal.returns-clause-causes
-returns-clause-causes g c any =
+returns-clause-causes g c =
     let p = words_of c.args.pass.now in
     let i = c.args.input.now in
-    let so_far = tape_messages p i (take c.loop-token.token-index c.args.tape.now) in
+    let old = g.S.Store.shows c.args.store.now in
+    let mid = g.S.Store.shows c.loop-token.store in
+    let new = g.S.Store.shows c.close.new.store in
     let h = c.loop-token.invariant in
-    causes_later c.close.result c.loop-token.recording.writer (given p.output (pass_channels p i) so_far) any (front_writes p.output (pass_channels p i) so_far)
-    (g.S.Store.shows c.args.store.now) (g.S.Store.shows c.loop-token.store) (g.S.Store.shows c.close.new.store) h.stands h.there h.files h.faults h.misses c.close.ensures.causes
+    causes_later (front_writes p.output (pass_channels p i) (tape_messages p i (take c.loop-token.token-index c.args.tape.now))) old mid new h.files h.counts
+    c.close.ensures.causes

@@ -10,4 +10,4 @@ returns g c =
     let after : SinkView = g.E.Sink.shows c.write-told.new.self in
     let P : List ℕ → Type 0 = λ line. GetsFront before after line in
     subst P c.as_bytes.ensures.value
-    (front_written c.write-told.result before after c.as_bytes.result.now c.write-told.ensures.written c.write-told.ensures.front c.write-told.ensures.memory)
+    (front_written c.write-told.result before after c.as_bytes.result.now c.write-told.ensures.written c.write-told.ensures.prefix c.write-told.ensures.memory)

@@ -2,7 +2,7 @@ use Rattle.std.proofs.Common.{◌≡◌, ◌≤◌, ◌∷◌, [], length, ap, �
 use Rattle.std.specs.Option.{option_map}
 use Rattle.cy_store.specs.Write.{Create, Put, after_writes}
 use Rattle.cy_writer.specs.Writes.{puts_into}
-use Rattle.cy_writer.proofs.Puts.{makes_uncreated, makes_then, makes_put, makes_done, as_writes, map-after_writes, created, holds_weaker, put_fits, causes_put, causes_then, lacks_untold, untold_map}
+use Rattle.cy_writer.proofs.Puts.{makes_uncreated, makes_then, makes_put, makes_done, as_writes, map-after_writes, created, holds_weaker, put_fits, causes_put, causes_made, causes_then, untold_map}
 use Rattle.cyber_cli.proofs.write.write_file.Goals as goal
 
 pub returns-in_err-create-clause-makes : goal.returns-in_err-create-clause-makes
@@ -30,14 +30,13 @@ returns-in_err-put_at-clause-makes g c =
     (λ e. search rules)
 
 pub returns-in_err-put_at-clause-causes : goal.returns-in_err-put_at-clause-causes
-returns-in_err-put_at-clause-causes g c any =
+returns-in_err-put_at-clause-causes g c =
     let name = c.args.name.now in
     let old = g.S.Store.shows c.args.store.now in
     let mid = g.S.Store.shows c.create.new.self in
     let there = created name old.files mid.files c.in_ok-create.ensures.made in
-    causes_then c.from_residual-in_err-put_at.result name any old mid (g.S.Store.shows c.put_at.new.self) c.create.ensures.cause.faults_stay (omega (arith, c.create.ensures.cause.misses_same))
-    (causes_put {r = c.put_at.result} c.from_residual-in_err-put_at.result name name (λ bytes. bytes ≡ []) mid (g.S.Store.shows c.put_at.new.self) there c.put_at.ensures.cause (λ e. search rules))
-    (lacks_untold name any (λ bytes. bytes ≡ []) old.files mid.files (untold_map _ old.files mid.files c.in_ok-create.ensures.made) there)
+    causes_then old mid (g.S.Store.shows c.put_at.new.self) (c.create.ensures.cause.quiet (λ e. search rules)) (untold_map _ old.files mid.files c.in_ok-create.ensures.made)
+    (causes_put c.put_at.result name (λ bytes. bytes ≡ []) mid (g.S.Store.shows c.put_at.new.self) there c.put_at.ensures.cause (λ e. search rules) (λ e. search rules))
 
 pub returns-clause-makes : goal.returns-clause-makes
 returns-clause-makes g c =
@@ -53,8 +52,14 @@ returns-clause-makes g c =
     (λ e. cc) (λ e. cc)
 
 pub returns-clause-causes : goal.returns-clause-causes
-returns-clause-causes g c any = record {
-  faults_stay = omega (arith, c.create.ensures.cause.faults_stay, c.put_at.ensures.cause.faults_stay);
-  misses_stay = omega (arith, c.create.ensures.cause.misses_same, c.put_at.ensures.cause.misses_stay);
-  failed = λ e. cc;
-}
+returns-clause-causes g c =
+    let name = c.args.name.now in
+    let old = g.S.Store.shows c.args.store.now in
+    let mid = g.S.Store.shows c.create.new.self in
+    let there = created name old.files mid.files c.in_ok-create.ensures.made in
+    causes_then old mid (g.S.Store.shows c.put_at.new.self) (c.create.ensures.cause.quiet (λ e. search rules)) (untold_map _ old.files mid.files c.in_ok-create.ensures.made)
+    (causes_put c.put_at.result name (λ bytes. bytes ≡ []) mid (g.S.Store.shows c.put_at.new.self) there c.put_at.ensures.cause (λ e. cc) (λ e. search rules))
+
+pub returns-in_err-create-clause-causes : goal.returns-in_err-create-clause-causes
+returns-in_err-create-clause-causes g c =
+    causes_made c.create.result (g.S.Store.shows c.args.store.now) (g.S.Store.shows c.create.new.self) c.create.ensures.cause (λ e. search rules) (λ e. search rules)

@@ -1,5 +1,5 @@
 use Rattle.cyber_cli.proofs.DoneLine.{done_line-parts}
-use Rattle.cyber_cli.proofs.told.push_counts.Goals as goal
+use Rattle.cyber_cli.proofs.summary.push_counts.Goals as goal
 
 pub returns : goal.returns
 returns c =

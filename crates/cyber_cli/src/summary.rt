@@ -34,7 +34,8 @@ fn push_counts(
     Ok(())
 }
 
-/// The line that tells how many messages were played, shadowed and written, and how many calls there were.
+/// The line that tells how many messages were played, shadowed and written, and how many calls
+/// there were.
 pub fn done_line(
     alloc: Global,
     played: u32,

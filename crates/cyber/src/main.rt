@@ -1,44 +1,16 @@
 //! The program `cyber`: it plays recorded messages through components.
-//!
-//! `specs/Due` says what it answers, `specs/Words` which words it takes, `specs/Input` which records it plays, `specs/Tape` what
-//! it makes of them, `specs/Writes` in which order it writes.
 #![tactic(auto)]
 
-mod candidate;
-mod channel;
-mod failure;
-#[cfg(test)]
-mod faults;
-mod input;
-mod line;
-mod list;
-mod make;
-mod one;
-mod pass;
-mod play;
-mod read;
-mod recording;
-#[cfg(test)]
-mod samples;
-mod status;
-mod still;
-#[cfg(test)]
-mod tests;
-mod told;
-mod wiring;
-mod words;
-mod write;
-
-use crate::status::Status;
-use crate::still::cyber_still;
 use cy_msg::Text;
 use cy_store::{RealSink, RealStore};
+use cyber_cli::{Status, cyber_still};
 use std::alloc::AllocError;
 use std::env;
 use std::io::ErrorKind;
 use std::process::ExitCode;
 
-// The words after the program's name; none where one of them is no UTF-8, since such words are of no known form.
+// The words after the program's name; none where one of them is no UTF-8, since such words are of
+// no known form.
 fn program_words(rt: &HostRuntime) -> Result<Vec<Text>, AllocError> {
     let mut words = Vec::new(rt.alloc());
     let args = match env::args(rt) {

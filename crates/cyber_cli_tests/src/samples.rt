@@ -47,8 +47,23 @@ const OUT_SECTIONS: &[u8] = b"\x04\0\0\0\0\0\0\0\x09\0\0\0\0\0\0\0\x0a\x03/in\x1
     \x0a\x10\x08\x01\x10\xc3\x10\xb2\x06\x08\x08\x02\x10\x64\x18\x64\x20\x04\
     \x0a\x0a\x08\x02\x10\xdb\x10\xba\x06\x02\x08\x02";
 
-/// The header of a record that is still being written, but for the zeros behind it.
-pub const OPEN_HEADER: &[u8] = b"\0\0\0\0\0\0\0\0\x25\0\0\0\0\0\0\0\
+// The record of both of these records' messages and of their passing on to /out.
+const TWO_OUT_HEADER: &[u8] =
+    b"\0\0\0\0\0\0\0\0'\0\0\0\0\0\0\0\x08\x01\x10\0\x18\0\x20\x80\x90\xdf\xc0J(\00\xa3\x118\x01@\
+    \x02HdPdX\x04`\xfc\x11h\x01p\x80\x84\xaf_x\0";
+
+const TWO_OUT_SECTIONS: &[u8] =
+    b"\x04\0\0\0\0\0\0\0\x09\0\0\0\0\0\0\0\x0a\x03/in\x12\0\x1a\0\x04\0\0\0\0\0\0\0\x0a\0\0\0\0\0\
+    \0\0\x0a\x04/out\x12\0\x1a\0\x01\0\0\0\0\0\0\0\x08\0\0\0\0\0\0\0\x08d\x10d\x18\x04\x20\x0a\
+    \x02\0\0\0\0\0\0\08\0\0\0\0\0\0\0\x0a\x0b\x0a\x03/in\x10d\x1a\x02\x08\x0e\x0a\x0c\x0a\x04/ou\
+    t\x10d\x1a\x02\x08\x0e\x0a\x0c\x0a\x03/in\x10d\x1a\x03\x08\xa7\x0f\x0a\x0d\x0a\x04/out\x10d\
+    \x1a\x03\x08\xa7\x0f\x03\0\0\0\0\0\0\0I\0\0\0\0\0\0\0\x0a\x13\x08\x04\x10\x90\x10\xaa\x06\
+    \x0b\x08\x02\x12\x03/in\x1a\0\x22\0\x0a\x14\x08\x04\x10\xa9\x10\xaa\x06\x0c\x08\x02\x12\x04/\
+    out\x1a\0\x22\0\x0a\x10\x08\x01\x10\xc3\x10\xb2\x06\x08\x08\x04\x10d\x18d\x20\x0a\x0a\x0a\
+    \x08\x02\x10\xdb\x10\xba\x06\x02\x08\x04";
+
+// The header of a record that is still being written, but for the zeros behind it.
+const OPEN_HEADER: &[u8] = b"\0\0\0\0\0\0\0\0\x25\0\0\0\0\0\0\0\
     \x08\x01\x10\0\x18\0\x20\x80\x90\xdf\xc0\x4a\x28\0\x30\0\x38\0\x40\0\x48\0\x50\0\
     \x58\0\x60\0\x68\0\x70\x80\x84\xaf\x5f\x78\0";
 
@@ -83,9 +98,12 @@ pub fn out_record(alloc: Global) -> Result<Vec<u8>, AllocError> {
     sections(alloc, OUT_HEADER, OUT_SECTIONS)
 }
 
-/// The front of it that stands before its index is put, of 2,182 bytes.
+/// The same under the header of a record that is still being written.
 pub fn open_record(alloc: Global) -> Result<Vec<u8>, AllocError> {
-    let mut bytes = sections(alloc, OPEN_HEADER, OUT_SECTIONS)?;
-    bytes.truncate(2182);
-    Ok(bytes)
+    sections(alloc, OPEN_HEADER, OUT_SECTIONS)
+}
+
+/// The record of four messages that is written for two, of 2,300 bytes.
+pub fn two_out_record(alloc: Global) -> Result<Vec<u8>, AllocError> {
+    sections(alloc, TWO_OUT_HEADER, TWO_OUT_SECTIONS)
 }

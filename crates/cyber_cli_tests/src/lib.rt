@@ -1,0 +1,16 @@
+//! What no clause of `cyber_cli` says: that its calls succeed where nothing fails, and that the
+//! bytes are those of other writers.
+#![tactic(auto)]
+
+#[cfg(test)]
+mod faults;
+#[cfg(test)]
+mod pass;
+#[cfg(test)]
+mod ran;
+#[cfg(test)]
+mod refused;
+#[cfg(test)]
+mod samples;
+#[cfg(test)]
+mod untold;

@@ -1,0 +1,59 @@
+// A run of the program in memory.
+use cy_msg::Text;
+use cy_store::{MemSink, MemStore, Store};
+use cyber_cli::{Status, cyber_still};
+use std::alloc::Global;
+use std::test::Fail;
+
+/// The words of `pass` over `in.rec`.
+pub const PASS: [&str; 6] = ["pass", "in.rec", "out.rec", "t.txt", "/in", "/out"];
+
+/// What the program answered, and what it left.
+#[derive(Drop)]
+pub struct Ran<S> {
+    pub status: Status,
+    pub store: S,
+    pub out: MemSink,
+    pub err: MemSink,
+}
+
+/// A store in memory that holds these bytes as `in.rec`, after two calls.
+pub fn store_of(alloc: Global, bytes: &[u8]) -> Result<MemStore, Fail> {
+    let mut store = MemStore::new(alloc);
+    store.create("in.rec")?;
+    store.put_at("in.rec", 0, bytes)?;
+    Ok(store)
+}
+
+/// Runs the program on these words, over this store and these sinks.
+pub fn run_over<S: Store + Drop>(
+    alloc: Global,
+    words: &[&str],
+    store: S,
+    out: MemSink,
+    err: MemSink,
+) -> Result<Ran<S>, Fail> {
+    let mut texts = Vec::new(alloc);
+    for word in words {
+        texts.push(Text::new(alloc, word)?)?;
+    }
+    let mut ran = Ran {
+        status: Status::Limit,
+        store,
+        out,
+        err,
+    };
+    ran.status = cyber_still(alloc, &texts, &mut ran.store, &mut ran.out, &mut ran.err);
+    Ok(ran)
+}
+
+/// Runs the program on these words, over this store and sinks that never fail.
+pub fn run<S: Store + Drop>(alloc: Global, words: &[&str], store: S) -> Result<Ran<S>, Fail> {
+    run_over(
+        alloc,
+        words,
+        store,
+        MemSink::new(alloc),
+        MemSink::new(alloc),
+    )
+}
