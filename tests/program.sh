@@ -1,0 +1,256 @@
+#!/usr/bin/env bash
+# Runs the built program on real files and streams, and compares each status, each line and each file with what is expected.
+# Usage: tests/program.sh [PROGRAM]; without a word it takes the program that `rt ci` left in this repository.
+set -uo pipefail
+top=$(cd "$(dirname "$0")/.." && pwd)
+program=$(readlink -f "${1:-$top/crates/cyber/out/cyber}")
+[ -x "$program" ] || { echo "tests/program.sh: no program at $program" >&2; exit 1; }
+work=$(mktemp -d)
+trap 'rm -rf "$work"' EXIT
+passed=0
+failed=0
+
+USAGE='cyber: the words are not of a known form'
+OUTPUT='cyber: the output failed'
+
+# Counts one comparison, and tells of one that failed.
+count() { # whether it is well: 0, and what was compared
+  if [ "$1" -eq 0 ]; then
+    passed=$((passed + 1))
+  else
+    failed=$((failed + 1))
+    echo "FAILED: $2"
+  fi
+}
+
+# Begins a test in an empty folder.
+begin() { # what it shows
+  name=$1
+  cd "$(mktemp -d -p "$work")" || exit 1
+}
+
+# Runs the program in the folder `files`, with the two streams in files.
+run() { # the words
+  mkdir -p files
+  (cd files && exec "$program" "$@") >out 2>err
+  status=$?
+}
+
+# Compares the status, and what the two streams got: a line, or nothing.
+ends() { # the status, the line on standard output and that on standard error
+  [ "$status" -eq "$1" ]
+  count $? "$name: status $status, not $1"
+  printf '%s' "${2:+$2$'\n'}" | cmp -s - out
+  count $? "$name: standard output got '$(head -c 200 out)', not '$2'"
+  printf '%s' "${3:+$3$'\n'}" | cmp -s - err
+  count $? "$name: standard error got '$(head -c 200 err)', not '$3'"
+}
+
+# Compares a file with another.
+holds() { # the file, and one with what it has to hold
+  cmp -s "$1" "$2"
+  count $? "$name: $1 is not as expected"
+}
+
+# Looks that a file is not there.
+lacks() { # the file
+  [ ! -e "$1" ]
+  count $? "$name: $1 is there"
+}
+
+# Makes what `pass` must write for a record of `examples/`, in the folder `want`, and puts the record into `files`.
+given() { # the name of the record
+  mkdir -p files want
+  cp "$top/examples/pass/$1" files/in.rec
+  python3 "$top/tests/expected.py" files/in.rec want/rec want/trace want/line /in /out
+}
+
+# Looks that the record and the trace were written whole.
+both_whole() {
+  holds files/out.rec want/rec
+  holds files/trace want/trace
+}
+
+# Looks that a file is a record that is still being written: its header counts nothing and is not complete.
+is_incomplete() { # the file
+  local header want='00000000 00000000 2500000000000000 0801 1000 1800 208090dfc04a 2800'
+  want+=' 3000 3800 4000 4800 5000 5800 6000 6800 708084af5f 7800'
+  header=$(head -c 53 "$1" | od -An -v -tx1 | tr -d ' \n')
+  [ "$header" = "${want// /}" ]
+  count $? "$name: $1 does not begin with the header of an incomplete record"
+}
+
+plays_a_record() { # its name, and how many bytes and lines are written for it
+  begin "plays $1"
+  given "$1"
+  run pass in.rec out.rec trace /in /out
+  ends 0 "$(cat want/line)" ''
+  both_whole
+  [ "$(stat -c %s files/out.rec) $(wc -l <files/trace)" = "$2 $3" ]
+  count $? "$name: not $2 bytes and $3 lines"
+}
+
+leaves_no_old_tail() {
+  begin 'leaves nothing of a longer file'
+  given two.rec
+  head -c 100000 /dev/zero | tee files/out.rec >files/trace
+  run pass in.rec out.rec trace /in /out
+  ends 0 "$(cat want/line)" ''
+  both_whole
+}
+
+refuses_the_words() { # the words
+  begin "refuses the words '$(printf '%q ' "$@")'"
+  run "$@"
+  ends 2 '' "$USAGE"
+  [ -z "$(ls files)" ]
+  count $? "$name: a file was made"
+}
+
+refuses_a_record() { # what is wrong with it, and a command that writes it
+  begin "refuses $1"
+  given two.rec
+  (cd files && eval "$2")
+  echo old | tee files/out.rec files/trace >old
+  run pass in.rec out.rec trace /in /out
+  ends 1 '' 'cyber: in.rec: a form not built yet'
+  holds files/out.rec old
+  holds files/trace old
+}
+
+names_the_record() { # what befalls it, and a command that does it
+  begin "names $1"
+  given two.rec
+  (cd files && eval "$2")
+  echo old | tee files/out.rec >old
+  run pass in.rec out.rec trace /in /out
+  ends 3 '' 'cyber: in.rec: the store failed'
+  holds files/out.rec old
+  lacks files/trace
+}
+
+names_the_out_file() { # what befalls it, its name, and a command that does it
+  begin "names the out file: $1"
+  given two.rec
+  (cd files && eval "$3")
+  run pass in.rec "$2" trace /in /out
+  ends 3 '' "cyber: $2: the store failed"
+  lacks files/trace
+}
+
+names_the_trace() { # what befalls it, its name, and a command that does it
+  begin "names the trace: $1"
+  given two.rec
+  (cd files && eval "$3")
+  run pass in.rec out.rec "$2" /in /out
+  ends 3 '' "cyber: $2: the store failed"
+  holds files/out.rec want/rec
+}
+
+stops_in_mid_record() {
+  begin 'leaves an incomplete record where the file may not grow'
+  given thousand.rec
+  # The program is told of the limit, and not stopped by a signal.
+  (trap '' XFSZ && ulimit -f 8 && cd files && exec "$program" pass in.rec out.rec trace /in /out) >out 2>err
+  status=$?
+  ends 3 '' 'cyber: out.rec: the store failed'
+  is_incomplete files/out.rec
+  lacks files/trace
+}
+
+tells_of_standard_output() { # what befalls it, and a redirection that does it
+  begin "tells of a standard output that $1"
+  given two.rec
+  : >out
+  (cd files && eval "exec \"\$program\" pass in.rec out.rec trace /in /out $2") 2>err
+  status=$?
+  ends 4 '' "$OUTPUT"
+  both_whole
+}
+
+fails_without_standard_error() { # what befalls it, and a redirection that does it
+  begin "fails with a standard error that $1"
+  : >err
+  mkdir files
+  (cd files && eval "exec \"\$program\" pass $2") >out
+  status=$?
+  ends 4 '' ''
+}
+
+# Runs the program as nobody, who may not do all that root may.
+as_nobody() { # the words
+  if [ "$(id -u)" -ne 0 ]; then
+    run "$@"
+    return
+  fi
+  cp "$program" program
+  chmod 711 "$work" .
+  chmod 755 program
+  chown 65534 files
+  (cd files && exec setpriv --reuid=65534 --regid=65534 --clear-groups ../program "$@") >out 2>err
+  status=$?
+}
+
+names_what_may_not_be_used() {
+  begin 'names a record that may not be read'
+  given two.rec
+  chmod 000 files/in.rec
+  as_nobody pass in.rec out.rec trace /in /out
+  ends 3 '' 'cyber: in.rec: the store failed'
+  begin 'names an out file that may not be written'
+  given two.rec
+  echo old | tee files/out.rec >old
+  chmod 444 files/out.rec
+  as_nobody pass in.rec out.rec trace /in /out
+  ends 3 '' 'cyber: out.rec: the store failed'
+  holds files/out.rec old
+}
+
+plays_a_record one.rec 2271 8
+plays_a_record two.rec 2300 11
+plays_a_record thousand.rec 38583 3005
+leaves_no_old_tail
+
+refuses_the_words
+refuses_the_words pass
+refuses_the_words pass a b c /x
+refuses_the_words pass a b c /x /y z
+refuses_the_words pass a b b /x /y
+refuses_the_words pass a a c /x /y
+refuses_the_words pass a b a /x /y
+refuses_the_words pass a b c /x /x
+refuses_the_words pass a b c '' /y
+refuses_the_words pass a b c -x /y
+refuses_the_words Pass a b c /x /y
+refuses_the_words info --x
+refuses_the_words play --serial
+refuses_the_words pass a b c /x $'\xff'
+refuses_the_words pass $'a\xc3' b c /x /y
+
+refuses_a_record 'an empty file' ': >in.rec'
+refuses_a_record 'a text' 'echo no record >in.rec'
+refuses_a_record 'a record without its last byte' 'truncate -s -1 in.rec'
+refuses_a_record 'a record with a byte behind it' 'echo >>in.rec'
+refuses_a_record 'a file that is longer than what is played' 'truncate -s 1048577 in.rec'
+
+names_the_record 'a record that is not there' 'rm in.rec'
+names_the_record 'a folder as the record' 'rm in.rec && mkdir in.rec'
+names_the_record 'a record in a folder that is a file' 'rm in.rec && ln -s out.rec/in in.rec'
+
+names_the_out_file 'a folder' out.rec 'mkdir out.rec'
+names_the_out_file 'in a folder that is not there' missing/out.rec ''
+names_the_out_file 'a device that is full' /dev/full ''
+names_the_trace 'a folder' trace 'mkdir trace'
+names_the_trace 'in a folder that is not there' missing/trace ''
+names_the_trace 'a device that is full' /dev/full ''
+stops_in_mid_record
+names_what_may_not_be_used
+
+tells_of_standard_output 'is full' '>/dev/full'
+tells_of_standard_output 'is closed' '>&-'
+tells_of_standard_output 'cannot be written' '</dev/null >&0'
+fails_without_standard_error 'is full' '2>/dev/full'
+fails_without_standard_error 'is closed' '2>&-'
+
+echo "$passed passed, $failed failed"
+[ "$failed" -eq 0 ]

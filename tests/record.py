@@ -1,0 +1,107 @@
+"""Uncompressed Cyber RT records, read and written as docs/FORMATS.md says; nothing here is taken from the program."""
+
+HEADER_END = 2064
+LONGEST_BODY = 200_000_000
+LONGEST_TIME = 20_000_000_000
+
+
+def varint(n):
+    out = bytearray()
+    while n >= 128:
+        out.append(n % 128 + 128)
+        n //= 128
+    out.append(n)
+    return bytes(out)
+
+
+def number(field, n):
+    return varint(8 * field) + varint(n)
+
+
+def block(field, data):
+    return varint(8 * field + 2) + varint(len(data)) + data
+
+
+def section(kind, body):
+    return kind.to_bytes(4, "little") + bytes(4) + len(body).to_bytes(8, "little") + body
+
+
+def chunks_of(messages):
+    """The messages, chunk by chunk; each is a channel, a time and a content."""
+    chunks, chunk, size = [], [], 0
+    for channel, time, content in messages:
+        more = block(1, block(1, channel) + number(2, time) + block(3, content))
+        if chunk and (size + len(more) > LONGEST_BODY or time > chunk[0][1] + LONGEST_TIME):
+            chunks.append(chunk)
+            chunk, size = [], 0
+        chunk.append((channel, time, content, more))
+        size += len(more)
+    return chunks + [chunk] if chunk else chunks
+
+
+def record(messages):
+    """The record of these messages, whose channels have no types."""
+    channels = list(dict.fromkeys(channel for channel, _, _ in messages))
+    chunks = chunks_of(messages)
+    parts = []
+    for channel in channels:
+        count = sum(it[0] == channel for it in messages)
+        cache = number(1, count) + block(2, channel) + block(3, b"") + block(4, b"")
+        parts.append((4, block(1, channel) + block(2, b"") + block(3, b""), block(101, cache)))
+    for chunk in chunks:
+        times, raw = [it[1] for it in chunk], sum(len(it[2]) for it in chunk)
+        begin, end, count = min(times), max(times), len(chunk)
+        fields = number(1, begin) + number(2, end) + number(3, count) + number(4, raw)
+        cache = number(1, count) + number(2, begin) + number(3, end) + number(4, raw)
+        parts.append((1, fields, block(102, cache)))
+        parts.append((2, b"".join(it[3] for it in chunk), block(103, number(1, count))))
+    sections, entries, at = [], [], HEADER_END
+    for kind, body, cache in parts:
+        entries.append(block(1, number(1, kind) + number(2, at) + cache))
+        sections.append(section(kind, body))
+        at += len(sections[-1])
+    index = section(3, b"".join(entries))
+    times = [it[1] for it in messages] or [0]
+    fields = [1, 0, 0, LONGEST_TIME, 0, at, len(chunks), len(channels), min(times), max(times)]
+    fields += [len(messages), at + len(index), 1, LONGEST_BODY, 0]
+    header = section(0, b"".join(number(k + 1, n) for k, n in enumerate(fields)))
+    return header.ljust(HEADER_END, b"\0") + b"".join(sections) + index
+
+
+def read_varint(data, at):
+    n, shift = 0, 0
+    while data[at] >= 128:
+        n += (data[at] - 128) << shift
+        at, shift = at + 1, shift + 7
+    return n + (data[at] << shift), at + 1
+
+
+def fields_of(data):
+    """The fields of a message, number and value."""
+    at, found = 0, []
+    while at < len(data):
+        tag, at = read_varint(data, at)
+        value, at = read_varint(data, at)
+        if tag % 8 == 2:
+            value, at = data[at : at + value], at + value
+        found.append((tag // 8, value))
+    return found
+
+
+def messages_of(data):
+    """The messages of a record, each a channel, a time and a content."""
+    at, found = HEADER_END, []
+    while at < len(data):
+        kind, size = int.from_bytes(data[at : at + 4], "little"), int.from_bytes(data[at + 8 : at + 16], "little")
+        if kind == 2:
+            for _, message in fields_of(data[at + 16 : at + 16 + size]):
+                fields = dict(fields_of(message))
+                found.append((fields[1], fields[2], fields[3]))
+        at += 16 + size
+    return found
+
+
+def whole_of(content):
+    """The number that a content `{ 1 value: sint64 }` holds."""
+    zigzag = dict(fields_of(content))[1]
+    return zigzag // 2 if zigzag % 2 == 0 else -(zigzag // 2) - 1
