@@ -32,3 +32,4 @@ pub mod SettleSteps
 pub mod SerialSteps
 pub mod Lawful
 pub mod MadeFor
+pub mod HeldTimes

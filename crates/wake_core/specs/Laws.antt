@@ -5,13 +5,9 @@
 use Rattle.std.specs.Prelude.{ℕ, ◌≡◌, ◌≢◌, ◌⊎◌, ◌<◌, true, List, [], ◌∷◌, ◌++◌, length, take, map}
 use Rattle.std.specs.Prelude.{sum, Some, None, slice_get}
 use Rattle.cy_msg.specs.declared.token.Token.{Token}
-use Rattle.cy_msg.specs.declared.token.Tuple.{Tuple}
 use Rattle.cy_fuse.specs.Fusion.{Arrival}
 use Rattle.cy_comp.specs.declared.call.Call.{Call}
-use Rattle.cy_comp.specs.declared.call.Out.{Out}
-use Rattle.cy_comp.specs.declared.call.Outcome.TheVariants.{Hold}
 use Rattle.cy_comp.specs.declared.plan.Plan.{Plan}
-use Rattle.cy_comp.specs.Step.{outcome_after}
 use Rattle.cy_comp.specs.Wiring.{IsWiring}
 use Rattle.wake_core.specs.Run.{Route, routes_of, set_at, writes_from}
 use Rattle.wake_core.specs.Planned.{planned_count, first_reader, counts_from}
@@ -252,12 +248,8 @@ pub record RoomLaws : Type 0 where
       → slice_get w.routes c ≡ Some x → Consistent w
       → length (w.calls c) < planned_count w.routes w.counts (first_reader x)
 
--- A wiring's components are wired, where each class holds an output back until the output's own
--- time.
+-- A wiring's components are wired, whatever is played.
 pub record WiringLaws : Type 0 where
   pub wired : (names : List (List ℕ)) (plans : List Plan) (counts : List ℕ) → IsWiring names plans
       → length counts ≡ length names
-      → ((c : ℕ) (p : Plan) (earlier : List Tuple) (tuple : Tuple) (until : ℕ) (out : Out)
-      → slice_get plans c ≡ Some p → outcome_after p.kind earlier tuple ≡ Hold until out
-      → out.time ≡ until)
       → IsWired (routes_of plans) counts
