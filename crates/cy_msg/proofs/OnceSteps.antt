@@ -12,6 +12,12 @@ pub slice_get-push : {A : Type 0} (xs : List A) (y : A) → slice_get (xs ++ y �
 slice_get-push [] y = refl
 slice_get-push (x ∷ xs) y = slice_get-push xs y
 
+-- What a list has at a place it has there with one more element too.
+pub slice_get-push_kept : {A : Type 0} (xs : List A) (y : A) (n : ℕ) (z : A) → slice_get xs n ≡ Some z → slice_get (xs ++ y ∷ []) n ≡ Some z
+slice_get-push_kept [] y n z h = absurd (none-some z h)
+slice_get-push_kept (x ∷ xs) y zero z h = h
+slice_get-push_kept (x ∷ xs) y (suc n) z h = slice_get-push_kept xs y n z h
+
 -- What such a list has at a place is what the list had, or the new element.
 pub slice_get-push_cases : {A : Type 0} (xs : List A) (y : A) (n : ℕ) (z : A) → slice_get (xs ++ y ∷ []) n ≡ Some z → (slice_get xs n ≡ Some z) ⊎ ((n ≡ length xs) × (y ≡ z))
 slice_get-push_cases [] y zero z h = inr (refl, same_Some y z h)

@@ -3,7 +3,7 @@ ghost use Rattle.std.specs.Prelude.{◌≡◌, ◌<◌, ◌≤◌, ◌++◌, ◌
 ghost use Rattle.std.specs.Prelude.{IfOk, OnOk, OnErr, IsOk, IsErrOf, IfSome, IsNone, ◌↔◌};
 ghost use Rattle.std.specs.List.{Contains, position};
 ghost use Rattle.std.specs.Str.{bytes_eq};
-ghost use Rattle.cy_msg.specs.Names.{KeepsNumbers};
+ghost use Rattle.cy_msg.specs.Names.{AddAnswer};
 ghost use Rattle.cy_msg.specs.Once.{IsOnce};
 
 use crate::{NamesError, Text};
@@ -46,16 +46,7 @@ impl Names {
     /// that it had, and a new one the next. `Full` says that there is no room for a new one; an
     /// error changes nothing.
     pub fn add(&mut self, alloc: Global, name: &str) -> Result<u32, NamesError>
-        ensures number { IfOk result (λ n. slice_get self.new n ≡ Some name.now) }
-        ensures kept { KeepsNumbers self.old self.new }
-        ensures grown { IfOk result (λ n. (self.new ≡ self.old)
-            ⊎ ((n ≡ length self.old) × (self.new ≡ self.old ++ name.now ∷ []))) }
-        ensures known { Contains self.old name.now → IsOk result × (self.new ≡ self.old) }
-        ensures fresh { ¬ (Contains self.old name.now) → IfOk result (λ n. (n ≡ length self.old)
-            × (self.new ≡ self.old ++ name.now ∷ [])) }
-        ensures full { IsErrOf result NamesError.Full ↔ ((length self.old ≡ MOST_NAMES)
-            × ¬ (Contains self.old name.now)) }
-        ensures err { OnErr result (self.new ≡ self.old) }
+        ensures { AddAnswer self.old self.new name.now result }
     {
         if let Some(number) = self.number_of(name) {
             return Ok(number);
