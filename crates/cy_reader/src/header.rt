@@ -5,15 +5,10 @@ ghost use Rattle.cy_reader.specs.Record.{header_end};
 
 use crate::LoadError;
 use byteorder::{ByteOrder, LittleEndian};
-use cy_section::{Header, SectionError, read_header};
+use cy_section::{HEAD_SIZE, HEADER_SIZE, Header, SectionError, read_header};
 
 /// The longest file that is read, in bytes.
 pub(crate) const LONGEST_FILE: u64 = 2_147_483_648;
-
-/// The bytes of a head, and of the header's section.
-const HEAD: usize = 16;
-
-pub(crate) const HEADER_END: usize = 2_064;
 
 // The header whose fields take so many bytes, where it has no compression.
 fn uncompressed_header(file: &[u8], size: usize) -> Result<Header, LoadError>
@@ -21,7 +16,7 @@ fn uncompressed_header(file: &[u8], size: usize) -> Result<Header, LoadError>
     ensures header { Gives result (fields_header file.now size) }
     ensures not_store { IfErr result (λ e. e ≢ LoadError.Store) }
 {
-    let header = read_header(&file[HEAD..HEAD + size], HEAD as u64)?;
+    let header = read_header(&file[HEAD_SIZE..HEAD_SIZE + size], HEAD_SIZE as u64)?;
     if header.compress != 0 {
         return Err(LoadError::Compressed {
             kind: header.compress,
@@ -42,15 +37,15 @@ pub(crate) fn file_header(file: &[u8]) -> Result<Header, LoadError>
     if count > LONGEST_FILE {
         return Err(LoadError::FileTooLarge { count });
     }
-    if file.len() < HEAD || LittleEndian::read_u32(file) != 0 {
+    if file.len() < HEAD_SIZE || LittleEndian::read_u32(file) != 0 {
         return Err(LoadError::NotRecord);
     }
     let size = LittleEndian::read_u64(&file[8..]);
-    if size > (HEADER_END - HEAD) as u64 {
+    if size > (HEADER_SIZE - HEAD_SIZE) as u64 {
         let value = size.cast_signed();
         return Err(LoadError::Section(SectionError::Size { at: 0, value }));
     }
-    if file.len() < HEADER_END {
+    if file.len() < HEADER_SIZE {
         return Err(LoadError::Section(SectionError::Cut { at: 0 }));
     }
     uncompressed_header(file, size as usize)

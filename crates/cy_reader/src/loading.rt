@@ -16,12 +16,13 @@ ghost use Rattle.cy_section.specs.Reading.{messages_of};
 ghost use Rattle.std.specs.Result.{ForOk, ForErr};
 
 use crate::LoadError;
-use crate::header::{HEADER_END, file_header};
+use crate::header::file_header;
 use crate::known::Known;
 use crate::sections::{SectionView, section_at};
 use cy_msg::{Bytes, Text};
 use cy_section::{
-    Channel, Header, MessageReader, MessageView, SectionKind, read_channel, read_chunk_header,
+    Channel, HEADER_SIZE, Header, MessageReader, MessageView, SectionKind, read_channel,
+    read_chunk_header,
 };
 use std::alloc::Global;
 
@@ -315,7 +316,7 @@ fn sections_met(alloc: Global, file: &[u8]) -> Result<Loading, LoadError>
         channels: Vec::new(alloc),
         messages: Vec::new(alloc),
     };
-    let mut at = HEADER_END;
+    let mut at = HEADER_SIZE;
     while let Some(section) = section_at(file, at)? {
         section_met(alloc, file, &mut loading, &section)?;
         at = section.body_at + section.body.len();

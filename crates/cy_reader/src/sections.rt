@@ -5,13 +5,10 @@ ghost use Rattle.cy_reader.specs.Found.{GivesSection};
 ghost use Rattle.cy_reader.specs.Stands.{Stands};
 
 use byteorder::{ByteOrder, LittleEndian};
-use cy_section::{SectionError, SectionKind, read_head};
+use cy_section::{HEAD_SIZE, SectionError, SectionKind, read_head};
 
 /// The longest section that is read, but for the index, in bytes.
 const LONGEST_SECTION: u64 = 536_870_912;
-
-/// The bytes of a head.
-const HEAD: usize = 16;
 
 // A section, where it stands.
 #[derive(Clone, Copy)]
@@ -34,7 +31,7 @@ pub(crate) fn section_at(file: &[u8], at: usize) -> Result<Option<SectionView<'_
     if rest.is_empty() {
         return Ok(None);
     }
-    if rest.len() < HEAD {
+    if rest.len() < HEAD_SIZE {
         return Err(SectionError::Cut { at: place });
     }
     if LittleEndian::read_u32(rest) == 0 {
@@ -54,12 +51,12 @@ pub(crate) fn section_at(file: &[u8], at: usize) -> Result<Option<SectionView<'_
         });
     }
     let size = head.size as usize;
-    if rest.len() - HEAD < size {
+    if rest.len() - HEAD_SIZE < size {
         return Err(SectionError::Cut { at: place });
     }
     Ok(Some(SectionView {
         kind: head.kind,
-        body_at: at + HEAD,
-        body: &file[at + HEAD..at + HEAD + size],
+        body_at: at + HEAD_SIZE,
+        body: &file[at + HEAD_SIZE..at + HEAD_SIZE + size],
     }))
 }

@@ -8,23 +8,25 @@ use crate::{Head, Piece, SectionError, SectionKind};
 use byteorder::{ByteOrder, LittleEndian};
 use cy_wire::WireError;
 
-/// The bytes of a head.
-const HEAD_SIZE: usize = 16;
+/// The bytes of a section's head.
+pub const HEAD_SIZE: usize = 16;
 
-/// The number of a section's type.
-fn number_of(kind: SectionKind) -> u32
-    ensures { result ≡ kind_number kind }
-{
-    match kind {
-        SectionKind::Header => 0,
-        SectionKind::ChunkHeader => 1,
-        SectionKind::ChunkBody => 2,
-        SectionKind::Index => 3,
-        SectionKind::Channel => 4,
+impl SectionKind {
+    /// The number of a section's type, as heads and entries of an index have it.
+    pub fn number(self) -> u32
+        ensures { result ≡ kind_number self }
+    {
+        match self {
+            SectionKind::Header => 0,
+            SectionKind::ChunkHeader => 1,
+            SectionKind::ChunkBody => 2,
+            SectionKind::Index => 3,
+            SectionKind::Channel => 4,
+        }
     }
 }
 
-/// The section of a type's number, which is at most 4.
+// The section of a type's number, which is at most 4.
 fn kind_from(number: u32) -> SectionKind
     ensures { result ≡ kind_of number }
 {
@@ -62,7 +64,7 @@ pub(crate) fn head_of(kind: SectionKind, size: u64) -> [u8; 16]
     ensures { result ≡ head_bytes kind size }
 {
     let mut head = [0; 16];
-    LittleEndian::write_u32(&mut head, number_of(kind));
+    LittleEndian::write_u32(&mut head, kind.number());
     LittleEndian::write_u64(&mut head[8..], size);
     head
 }

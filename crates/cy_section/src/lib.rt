@@ -21,12 +21,12 @@ mod types;
 pub use body::{MessageReader, MessageView, read_chunk_body};
 pub use entries::read_index;
 pub use error::SectionError;
-pub use head::{put_head, read_head, set_head};
+pub use head::{HEAD_SIZE, put_head, read_head, set_head};
 pub use index::put_index;
 pub use laws::sections_read_back;
 pub use message::{message_size, put_chunk_body, put_message};
 pub use piece::Piece;
-pub use put::{put_channel, put_chunk_header, put_header};
+pub use put::{HEADER_SIZE, put_channel, put_chunk_header, put_header};
 pub use read::{read_channel, read_chunk_header, read_header};
 pub use types::{
     BodyMessage, Channel, ChannelCache, ChunkBody, ChunkBodyCache, ChunkHeader, ChunkHeaderCache,

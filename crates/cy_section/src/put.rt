@@ -10,8 +10,8 @@ use crate::{Channel, ChunkHeader, Header, Piece, SectionError, SectionKind};
 use cy_wire::{WireError, Writer};
 use std::alloc::Global;
 
-/// The bytes of the header's section, which zeros fill up.
-const HEADER_SIZE: usize = 2064;
+/// The bytes of the header's section, which zeros fill up: the next section begins behind them.
+pub const HEADER_SIZE: usize = 2064;
 
 /// The room that a writer wants for a field that holds a number, in bytes.
 pub(crate) const FIELD_ROOM: usize = 20;

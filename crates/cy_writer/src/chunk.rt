@@ -5,7 +5,9 @@ ghost use Rattle.cy_writer.specs.Counted.{counted_with};
 use crate::WriteError;
 use crate::error::no_memory_for_section;
 use crate::sum::sum;
-use cy_section::{ChunkHeader, Piece, SectionKind, message_size, put_head, put_message, set_head};
+use cy_section::{
+    ChunkHeader, HEAD_SIZE, Piece, SectionKind, message_size, put_head, put_message, set_head,
+};
 use std::alloc::Global;
 
 /// The longest body of a chunk, in bytes, and the longest time from its first message to another,
@@ -13,9 +15,6 @@ use std::alloc::Global;
 pub(crate) const CHUNK_RAW_SIZE: u64 = 200_000_000;
 
 pub(crate) const CHUNK_INTERVAL: u64 = 20_000_000_000;
-
-/// The length of a section's head, in bytes.
-const HEAD_SIZE: usize = 16;
 
 /// The numbers of no messages.
 pub(crate) const NO_MESSAGES: ChunkHeader = ChunkHeader {

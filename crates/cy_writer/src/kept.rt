@@ -6,15 +6,10 @@ ghost use Rattle.cy_writer.specs.Kept.{header_entry as entry_of_header};
 ghost use Rattle.cy_writer.specs.Kept.{body_entry as entry_of_body};
 
 use crate::WriteError;
-use cy_section::{ChannelCache, ChunkBodyCache, ChunkHeader, ChunkHeaderCache, IndexEntry};
+use cy_section::{
+    ChannelCache, ChunkBodyCache, ChunkHeader, ChunkHeaderCache, IndexEntry, SectionKind,
+};
 use std::alloc::Global;
-
-/// The types of sections, as entries have them.
-const CHUNK_HEADER: u32 = 1;
-
-const CHUNK_BODY: u32 = 2;
-
-const CHANNEL: u32 = 4;
 
 /// A channel, the number of its messages so far, and the place of its section's head.
 #[derive(Drop)]
@@ -36,7 +31,7 @@ fn channel_entry(channel: KeptChannel) -> IndexEntry
     ensures { result ≡ entry_of_channel channel }
 {
     IndexEntry {
-        kind: CHANNEL,
+        kind: SectionKind::Channel.number(),
         position: channel.position,
         channel_cache: Some(channel.cache),
         chunk_header_cache: None,
@@ -49,7 +44,7 @@ fn header_entry(chunk: &KeptChunk) -> IndexEntry
     ensures { result ≡ entry_of_header chunk.now }
 {
     IndexEntry {
-        kind: CHUNK_HEADER,
+        kind: SectionKind::ChunkHeader.number(),
         position: chunk.header_position,
         channel_cache: None,
         chunk_header_cache: Some(ChunkHeaderCache {
@@ -67,7 +62,7 @@ fn body_entry(chunk: &KeptChunk) -> IndexEntry
     ensures { result ≡ entry_of_body chunk.now }
 {
     IndexEntry {
-        kind: CHUNK_BODY,
+        kind: SectionKind::ChunkBody.number(),
         position: chunk.body_position,
         channel_cache: None,
         chunk_header_cache: None,

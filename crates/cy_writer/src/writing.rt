@@ -32,13 +32,11 @@ use crate::put::{put, put_both};
 use crate::sum::sum;
 use cy_msg::{Items, Text};
 use cy_section::{
-    Channel, ChannelCache, ChunkHeader, Index, Piece, put_channel, put_chunk_header, put_index,
+    Channel, ChannelCache, ChunkHeader, HEADER_SIZE, Index, Piece, put_channel, put_chunk_header,
+    put_index,
 };
 use cy_store::Store;
 use std::alloc::Global;
-
-/// The place behind the header.
-const HEADER_END: u64 = 2064;
 
 /// What a writer keeps: the length of the file so far, the channels and chunks that were put, the
 /// chunk that is gathered, and the numbers of all messages.
@@ -100,7 +98,7 @@ impl Writing {
     {
         Ok(Writing {
             name: Text::new(alloc, name).map_err(no_memory_for_text)?,
-            place: HEADER_END,
+            place: HEADER_SIZE as u64,
             channels: Vec::new(alloc),
             chunks: Vec::new(alloc),
             chunk: Chunk::new(alloc),

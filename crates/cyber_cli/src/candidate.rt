@@ -7,13 +7,9 @@ ghost use Rattle.cyber_cli.specs.Candidate.{candidate_parts, parts_in};
 
 use crate::failure::Failure;
 use crate::input::Sample;
+use cy_section::{HEAD_SIZE, HEADER_SIZE};
 use cy_wire::{front_varint, zigzag_value};
 use std::alloc::Global;
-
-/// The bytes of a header's section, and of the head of every section.
-const HEADER_SIZE: usize = 2064;
-
-const HEAD_SIZE: usize = 16;
 
 /// What stands where a record of one channel and one chunk would have its parts.
 #[derive(Clone, Copy, Debug)]
