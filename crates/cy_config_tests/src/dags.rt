@@ -1,8 +1,16 @@
 // DAG files and component files.
 use cy_comp::Kind;
 use cy_dag::{DagError, read_component_config, read_dag};
-use cy_text::parse;
+use cy_text::{Tree, parse};
 use std::test::Fail;
+
+// The fields of a text, which is short.
+fn tree(rt: &HostRuntime, text: &[u8]) -> Result<Tree, Fail> {
+    if text.len() > 100_000 {
+        return Err(Fail::from("a short text"));
+    }
+    Ok(parse(rt.alloc(), text)?)
+}
 
 // Why a file is refused, in one line.
 fn refusal(rt: &HostRuntime, error: DagError) -> Result<String, Fail> {
@@ -37,7 +45,7 @@ fn refusal(rt: &HostRuntime, error: DagError) -> Result<String, Fail> {
 
 // What a DAG says, or why it is refused, in one line.
 fn told(rt: &HostRuntime, text: &str) -> Result<String, Fail> {
-    let tree = parse(rt.alloc(), text.as_bytes())?;
+    let tree = tree(rt, text.as_bytes())?;
     let dag = match read_dag(rt.alloc(), &tree) {
         Ok(dag) => dag,
         Err(error) => return refusal(rt, error),
@@ -159,7 +167,7 @@ fn refuses_the_sixty_fifth_component(rt: HostRuntime) -> Result<(), Fail> {
 
 // What a component file says, or why it is refused, in one line.
 fn config(rt: &HostRuntime, class: &str, text: &str) -> Result<String, Fail> {
-    let tree = parse(rt.alloc(), text.as_bytes())?;
+    let tree = tree(rt, text.as_bytes())?;
     let config = match read_component_config(rt.alloc(), &tree, 5, class) {
         Ok(config) => config,
         Err(error) => return refusal(rt, error),
@@ -248,7 +256,11 @@ fn names_a_refusal_at_every_cut(rt: HostRuntime) -> Result<(), Fail> {
     )?;
     let bytes = text.as_str().as_bytes();
     for end in 0..=bytes.len() {
-        if let Ok(tree) = parse(rt.alloc(), &bytes[..end]) {
+        let cut = &bytes[..end];
+        if cut.len() > 100_000 {
+            return Err(Fail::from("a short text"));
+        }
+        if let Ok(tree) = parse(rt.alloc(), cut) {
             let whole = read_dag(rt.alloc(), &tree).is_ok();
             assert_eq!(rt; whole, end == bytes.len(), "{end}");
         }

@@ -133,7 +133,7 @@ fn reads_the_messages_of_a_chunk_up_to_the_first_fault(rt: HostRuntime) -> Resul
             messages: Items::new(messages),
         },
     )?;
-    let bytes = &piece.bytes()[16..];
+    let bytes = piece.bytes().get(16..).ok_or("a body")?;
     let body = read_chunk_body(rt.alloc(), bytes, 2158)?;
     assert_eq!(rt; body.messages.as_slice().len(), 1);
     let mut reader = MessageReader::new(bytes, 2158);
