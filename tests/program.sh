@@ -90,6 +90,24 @@ plays_a_record() { # its name, and how many bytes and lines are written for it
   count $? "$name: not $2 bytes and $3 lines"
 }
 
+# A name of 3,000 bytes for the copies makes them more than one chunk holds.
+cuts_chunks() {
+  begin 'cuts a long record into chunks'
+  local copies header
+  copies=/$(printf '%02999d' 0)
+  mkdir files want
+  python3 "$top/bench/largest.py" files/in.rec >/dev/null
+  python3 "$top/tests/expected.py" files/in.rec want/rec want/trace want/line a "$copies"
+  run pass in.rec out.rec trace a "$copies"
+  ends 0 "$(cat want/line)" ''
+  both_whole
+  # In the header stand the index's place, the count of chunks and the count of channels, in this order.
+  header=$(head -c 64 files/out.rec | od -An -v -tx1 | tr -d ' \n')
+  [[ $header =~ 280030([89a-f].)*[0-7].38024002 ]]
+  count $? "$name: the header doesn't count two chunks and two channels"
+  rm -r files want
+}
+
 leaves_no_old_tail() {
   begin 'leaves nothing of a longer file'
   given two.rec
@@ -209,6 +227,7 @@ names_what_may_not_be_used() {
 plays_a_record one.rec 2271 8
 plays_a_record two.rec 2300 11
 plays_a_record thousand.rec 38583 3005
+cuts_chunks
 leaves_no_old_tail
 
 refuses_the_words
