@@ -12,6 +12,7 @@ pub mod FormReads
 pub mod Prefixes
 pub mod PrefixSteps
 pub mod FormOnly
+pub mod Few
 pub mod FirstFaults
 pub mod Lexed
 pub mod NumberText

@@ -1,5 +1,5 @@
 -- Fields stand in the order of their tokens.
-use Rattle.std.proofs.Common.{ℕ, ◌≡◌, ◌<◌, ◌≤◌, List, [], ◌∷◌, ◌++◌, length, length-append, Bool, arith}
+use Rattle.std.proofs.Common.{ℕ, ◌≡◌, ◌<◌, ◌≤◌, ◌+◌, List, [], ◌∷◌, ◌++◌, length, length-append, Bool, arith}
 use Rattle.cy_text.specs.Fields.{Fields, Held, Nothing, And}
 use Rattle.cy_text.specs.Grammar.{on, end_of, start_of, span_of, IsLabel, plain, with_colon, IsStrings, one, more, IsPlain, whole, literal, negative_literal, word, IsFields, none, field, separated, IsField, single, empty, list, IsItems, first, next, IsValue, unsigned, signed, strings, message}
 use Rattle.cy_text.specs.Spans.{AreInOrder, IsInOrder}
@@ -78,7 +78,7 @@ mutual
   value_order (message {ts = ts} {fields = fields} mark o c f) low high h s before behind =
       let p = split o.end high ts (on c (token.Close mark) ∷ []) h.2 in
       let last : end_of o.end (ts ++ on c (token.Close mark) ∷ []) ≡ c.end = end_last o.end ts (on c (token.Close mark)) in
-      widen fields o.end p.0 s.start s.end (fields_order f o.end p.0 p.1) (omega (arith, h.0, h.1)) (omega (arith, last, p.2.0, p.2.1))
+      widen fields o.end p.0 (s.start + 1) s.end (fields_order f o.end p.0 p.1) (omega (arith, h.0, h.1)) (omega (arith, last, p.2.0, p.2.1))
 
   items_order : {colon : Bool} {name : List ℕ} {ts : List Lexeme} {before after : Fields} → IsItems colon name ts before after → (least low high : ℕ) → AreInOrder least low before → InRow low high ts → AreInOrder least high after
   items_order (first {vs = vs} {before = before} v) least low high prefix h =

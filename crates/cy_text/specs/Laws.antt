@@ -1,7 +1,7 @@
 -- What holds of every text.
 use Rattle.std.specs.Prelude.{ℕ, ◌≡◌, ◌≤◌, List, length, drop, Ok, Err}
 use Rattle.std.specs.List.{AllByRecursion}
-use Rattle.cy_text.specs.Fields.{Fields}
+use Rattle.cy_text.specs.Fields.{Fields, size_of}
 use Rattle.cy_text.specs.Grammar.{IsTextOf, IsFirstFault, depth_of, followed}
 use Rattle.cy_text.specs.Places.{error_of, fields_of_text}
 use Rattle.cy_text.specs.Printable.{IsPrintable, SameButSpans}
@@ -42,6 +42,11 @@ PrintedIsRead = (fields : Fields) → IsPrintable fields → depth_of fields ≤
 abbrev pub SpansAreInOrder : Type 0
 SpansAreInOrder = (text : List ℕ) (fields : Fields) → fields_of_text text ≡ Ok fields
     → AreInOrder 0 (length text) fields
+
+-- A text has at most as many fields as bytes, those of messages within them included.
+abbrev pub FieldsAreFew : Type 0
+FieldsAreFew = (text : List ℕ) (fields : Fields) → fields_of_text text ≡ Ok fields
+    → size_of fields ≤ length text
 
 -- Each token is the one that begins at its place in the text.
 abbrev pub TokensAreThere : Type 0

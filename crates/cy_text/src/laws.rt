@@ -1,6 +1,7 @@
 // What holds of every text: proved here, and nothing to run.
-ghost use Rattle.cy_text.specs.Laws.{FormIsRead, PrintedIsRead, ReadIsForm, RefusedAtFirstFault};
-ghost use Rattle.cy_text.specs.Laws.{RefusedIsNoForm, SpansAreInOrder, TokensAreThere};
+ghost use Rattle.cy_text.specs.Laws.{FieldsAreFew, FormIsRead, PrintedIsRead, ReadIsForm};
+ghost use Rattle.cy_text.specs.Laws.{RefusedAtFirstFault, RefusedIsNoForm, SpansAreInOrder};
+ghost use Rattle.cy_text.specs.Laws.{TokensAreThere};
 
 /// Each text of the form is read to the fields that it says.
 pub fn form_is_read()
@@ -29,4 +30,10 @@ pub fn printed_is_read()
 pub fn spans_are_in_order()
     ensures order { SpansAreInOrder }
     ensures tokens { TokensAreThere }
+{}
+
+/// A text has at most as many fields as bytes. A reader of fields that takes a limited number of
+/// them so takes all texts that [`parse`](crate::parse) does.
+pub fn fields_are_few()
+    ensures { FieldsAreFew }
 {}

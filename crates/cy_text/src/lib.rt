@@ -24,7 +24,8 @@ mod value;
 
 pub use error::{BadKind, TextError};
 pub use laws::{
-    form_is_read, printed_is_read, read_is_form, refused_at_first_fault, spans_are_in_order,
+    fields_are_few, form_is_read, printed_is_read, read_is_form, refused_at_first_fault,
+    spans_are_in_order,
 };
 pub use printing::print;
 pub use text::parse;
