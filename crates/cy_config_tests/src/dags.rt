@@ -1,16 +1,8 @@
 // DAG files and component files.
+use crate::texts::{parsed, tree};
 use cy_comp::Kind;
 use cy_dag::{DagError, read_component_config, read_dag};
-use cy_text::{Tree, parse};
 use std::test::Fail;
-
-// The fields of a text, which is short.
-fn tree(rt: &HostRuntime, text: &[u8]) -> Result<Tree, Fail> {
-    if text.len() > 100_000 {
-        return Err(Fail::from("a short text"));
-    }
-    Ok(parse(rt.alloc(), text)?)
-}
 
 // Why a file is refused, in one line.
 fn refusal(rt: &HostRuntime, error: DagError) -> Result<String, Fail> {
@@ -256,11 +248,7 @@ fn names_a_refusal_at_every_cut(rt: HostRuntime) -> Result<(), Fail> {
     )?;
     let bytes = text.as_str().as_bytes();
     for end in 0..=bytes.len() {
-        let cut = &bytes[..end];
-        if cut.len() > 100_000 {
-            return Err(Fail::from("a short text"));
-        }
-        if let Ok(tree) = parse(rt.alloc(), cut) {
+        if let Ok(tree) = parsed(&rt, &bytes[..end])? {
             let whole = read_dag(rt.alloc(), &tree).is_ok();
             assert_eq!(rt; whole, end == bytes.len(), "{end}");
         }
