@@ -23,7 +23,7 @@ const ENDS: [usize; 7] = [0, 2064, 2089, 2115, 2139, 2182, 2271];
 // The run where this call of the program fails after it kept so many bytes.
 fn failing_at(alloc: Global, call: usize, keep: usize) -> Result<Ran<MemStore>, Fail> {
     let mut store = store_of(alloc, &in_record(alloc)?)?;
-    store.fail_at(CALLS_BEFORE + call as u64, keep)?;
+    store.fail_at(CALLS_BEFORE.saturating_add(call as u64), keep)?;
     run(alloc, &PASS, store)
 }
 
