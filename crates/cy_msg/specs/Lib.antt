@@ -1,3 +1,4 @@
+pub mod Answer
 pub mod Names
 pub mod Once
 pub mod Placement

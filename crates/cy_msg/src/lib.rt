@@ -1,9 +1,10 @@
 //! The plain types that the layers hand to one another: texts, bytes and lists, messages as tokens
 //! and tuples, channel names, play lists and placements.
 //!
-//! `specs/Tokens` has what is said of lists of tokens, `specs/Tuple` the messages of a tuple,
-//! `specs/Quoted` texts in quotes, `specs/Names` that names keep their numbers, `specs/Placement`
-//! the components and processors of contexts, `specs/Once` that nothing stands twice in a list.
+//! `specs/Answer` says of any call that it answers exactly what is due, `specs/Tokens` has what is
+//! said of lists of tokens, `specs/Tuple` the messages of a tuple, `specs/Quoted` texts in quotes,
+//! `specs/Names` that names keep their numbers, `specs/Placement` the components and processors of
+//! contexts, `specs/Once` that nothing stands twice in a list.
 #![tactic(auto)]
 
 mod error;

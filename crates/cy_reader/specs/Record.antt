@@ -1,5 +1,5 @@
 -- What a record's file holds: its channels and messages, or the first fault or passed limit.
-use Rattle.std.specs.Prelude.{◌≡◌, ◌⊎◌, ℕ, ◌+◌, nat_lt, ◌==◌, not, ◌||◌, true, false, if◌then◌else◌}
+use Rattle.std.specs.Prelude.{ℕ, ◌+◌, nat_lt, ◌==◌, not, ◌||◌, true, false, if◌then◌else◌}
 use Rattle.std.specs.Prelude.{List, [], ◌∷◌, ◌++◌, length, take, drop, set, sum_by, slice_get}
 use Rattle.std.specs.Prelude.{Option, Some, None, unwrap_or, Result, Ok, Err}
 use Rattle.std.specs.List.{position}
@@ -219,13 +219,3 @@ record_of file = do
   header ← file_header file
   let all = sections_from file header_end
   sections_met all.sections all.fault nothing
-
--- Exactly this is answered, or that there is no memory for it.
-abbrev pub Reads : {A B : Type 0} → (A → B) → Result A LoadError → Result B LoadError → Type 0
-Reads view (Ok x) read = read ≡ Ok (view x)
-Reads view (Err e) read = (e ≡ Memory) ⊎ (read ≡ Err e)
-
--- Exactly this is answered.
-abbrev pub Gives : {A : Type 0} → Result A LoadError → Result A LoadError → Type 0
-Gives (Ok x) read = read ≡ Ok x
-Gives (Err e) read = read ≡ Err e

@@ -1,7 +1,7 @@
 // Reads the header of a record's file.
 ghost use Rattle.std.specs.Prelude.{◌≡◌, ◌<◌, ◌≤◌, ◌+◌, length, take, drop, IfOk, IfErr, ◌≢◌};
-ghost use Rattle.cy_reader.specs.Record.{Gives, fields_header, file_header, longest_file};
-ghost use Rattle.cy_reader.specs.Record.{header_end};
+ghost use Rattle.cy_msg.specs.Answer.{Answers};
+ghost use Rattle.cy_reader.specs.Record.{fields_header, file_header, longest_file, header_end};
 
 use crate::LoadError;
 use byteorder::{ByteOrder, LittleEndian};
@@ -13,7 +13,7 @@ pub(crate) const LONGEST_FILE: u64 = 2_147_483_648;
 // The header whose fields take so many bytes, where it has no compression.
 fn uncompressed_header(file: &[u8], size: usize) -> Result<Header, LoadError>
     requires { 16 + size ≤ length file.now }
-    ensures header { Gives result (fields_header file.now size) }
+    ensures header { Answers (λ header. header) result (fields_header file.now size) }
     ensures not_store { IfErr result (λ e. e ≢ LoadError.Store) }
 {
     let header = read_header(&file[HEAD_SIZE..HEAD_SIZE + size], HEAD_SIZE as u64)?;
@@ -28,7 +28,7 @@ fn uncompressed_header(file: &[u8], size: usize) -> Result<Header, LoadError>
 // The header of a file, which is a record's: of a size that is read, and not compressed.
 #[tactic(auto, unfolding(crate::specs::Record::file_header))]
 pub(crate) fn file_header(file: &[u8]) -> Result<Header, LoadError>
-    ensures header { Gives result (file_header file.now) }
+    ensures header { Answers (λ header. header) result (file_header file.now) }
     ensures long { IfOk result (λ _. header_end ≤ length file.now) }
     ensures short { IfOk result (λ _. length file.now ≤ longest_file) }
     ensures not_store { IfErr result (λ e. e ≢ LoadError.Store) }

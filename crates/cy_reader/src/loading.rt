@@ -2,11 +2,11 @@
 ghost use Rattle.std.specs.Prelude.{◌≡◌, ◌≢◌, ◌≤◌, ◌<◌, ◌+◌, ◌++◌, ◌∷◌, [], ◌^◌, length, set};
 ghost use Rattle.std.specs.Prelude.{sum_by, slice_get, IfOk, IfErr, OnOk, IsOkUnless, Some, Ok};
 ghost use Rattle.std.specs.Prelude.{true};
+ghost use Rattle.cy_msg.specs.Answer.{AnswersOr};
 ghost use Rattle.cy_section.specs.Messages.{seen};
 ghost use Rattle.cy_reader.specs.Record.{size_of, number_of, within_limits, named_only};
 ghost use Rattle.cy_reader.specs.Record.{channel_given, name_mentioned, message_met, body_met};
 ghost use Rattle.cy_reader.specs.Record.{section_met, sections_met, record_of, header_end, nothing};
-ghost use Rattle.cy_reader.specs.Record.{Reads};
 ghost use Rattle.cy_reader.specs.Loading.{AreSmall, IsSound, Leads, Kept, contents_of};
 ghost use Rattle.cy_reader.specs.Stands.{Stands};
 ghost use Rattle.cy_reader.specs.Sections.{sections_from};
@@ -307,7 +307,8 @@ fn section_met(
 fn sections_met(alloc: Global, file: &[u8]) -> Result<Loading, LoadError>
     requires long { header_end ≤ length file.now }
     requires short { length file.now < 2 ^ 32 }
-    ensures met { let all = sections_from file.now header_end in Reads (contents_of file.now) result
+    ensures met { let all = sections_from file.now header_end in
+        AnswersOr LoadError.Memory (contents_of file.now) result
         (sections_met all.sections all.fault nothing) }
     ensures sound { IfOk result IsSound }
     ensures not_store { IfErr result (λ e. e ≢ LoadError.Store) }
@@ -327,7 +328,8 @@ fn sections_met(alloc: Global, file: &[u8]) -> Result<Loading, LoadError>
 // What a file holds.
 #[tactic(auto, unfolding(crate::specs::Record::record_of))]
 pub(crate) fn read_record(alloc: Global, file: &[u8]) -> Result<(Header, Loading), LoadError>
-    ensures met { Reads (λ x. contents_of file.now x.1) result (record_of file.now) }
+    ensures met { AnswersOr LoadError.Memory (λ x. contents_of file.now x.1) result
+        (record_of file.now) }
     ensures sound { IfOk result (λ x. IsSound x.1) }
     ensures not_store { IfErr result (λ e. e ≢ LoadError.Store) }
 {

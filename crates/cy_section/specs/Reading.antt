@@ -1,6 +1,6 @@
 -- What the body of a section says: the value that its fields have, or the first fault with its
 -- place.
-use Rattle.std.specs.Prelude.{◌≡◌, ◌⊎◌, ℕ, ◌+◌, ◌==◌, if◌then◌else◌, List, [], ◌∷◌, length, map}
+use Rattle.std.specs.Prelude.{◌≡◌, ℕ, ◌+◌, ◌==◌, if◌then◌else◌, List, [], ◌∷◌, length, map}
 use Rattle.std.specs.Prelude.{Option, Some, None, Result, Ok, Err, slice_index, EachIndex}
 use Rattle.std.specs.Prelude.{unwrap_or}
 use Rattle.std.specs.Option.{option_map}
@@ -213,16 +213,6 @@ entries_of all = entries_in all.fault (spans_of 1 all.fields)
 
 abbrev pub index_at : ℕ → List ℕ → Result (List IndexEntry) SectionError
 index_at at body = entries_of (fields_of at body)
-
--- Exactly this is answered.
-abbrev pub Gives : {A B : Type 0} → (A → B) → Result A SectionError → Result B SectionError → Type 0
-Gives view (Ok x) read = read ≡ Ok (view x)
-Gives view (Err fault) read = read ≡ Err fault
-
--- Exactly this is answered, or that there is no memory for it.
-abbrev pub Reads : {A B : Type 0} → (A → B) → Result A SectionError → Result B SectionError → Type 0
-Reads view (Ok x) read = read ≡ Ok (view x)
-Reads view (Err fault) read = (fault ≡ Memory) ⊎ (read ≡ Err fault)
 
 -- The number of a field, by its field number, in place of the one before it; all others stay.
 abbrev pub KeepsNumber : List ℕ → List ℕ → WireField → Type 0

@@ -1,8 +1,9 @@
 // Reads the messages of a chunk's body.
 ghost use Rattle.std.specs.Prelude.{◌≡◌, ◌+◌, ◌<◌, ◌^◌, length, IfOk, IsOkUnless};
+ghost use Rattle.cy_msg.specs.Answer.{Answers, AnswersOr};
 ghost use Rattle.cy_wire.specs.Field.{fields_of};
 ghost use Rattle.cy_wire.specs.Message.{seen_span};
-ghost use Rattle.cy_section.specs.Reading.{Gives, Reads, message_at, messages_of, chunk_body_at};
+ghost use Rattle.cy_section.specs.Reading.{message_at, messages_of, chunk_body_at};
 ghost use Rattle.cy_section.specs.Messages.{seen, TakesMessage};
 
 use crate::read::{bytes_copy, no_bytes, text_copy, text_of};
@@ -41,7 +42,7 @@ impl<'a> Model for MessageReader<'a> {
 // The message in some bytes.
 #[tactic(auto, unfolding(crate::specs::Reading::message_at, crate::specs::Reading::message_in))]
 fn message_of<'a>(message: Span<'a>) -> Result<MessageView<'a>, SectionError>
-    ensures { Gives seen result (message_at (seen_span message.entry)) }
+    ensures { Answers seen result (message_at (seen_span message.entry)) }
 {
     let mut fields = Reader::new(message.bytes, message.start);
     let mut name = None;
@@ -103,7 +104,7 @@ fn own(alloc: Global, message: &MessageView<'_>) -> Result<BodyMessage, SectionE
 #[tactic(auto, unfolding(crate::specs::Reading::chunk_body_at))]
 fn messages_of(alloc: Global, body: &[u8], at: u64) -> Result<Vec<BodyMessage>, SectionError>
     requires { at + length body.now < 2 ^ 64 }
-    ensures { Reads (λ v. v.items) result (chunk_body_at at body.now) }
+    ensures { AnswersOr SectionError.Memory (λ v. v.items) result (chunk_body_at at body.now) }
 {
     let mut reader = MessageReader::new(body, at);
     let mut messages = Vec::new(alloc);
@@ -117,7 +118,7 @@ fn messages_of(alloc: Global, body: &[u8], at: u64) -> Result<Vec<BodyMessage>, 
 /// [`MessageReader`] lends them one by one, with no copy.
 pub fn read_chunk_body(alloc: Global, body: &[u8], at: u64) -> Result<ChunkBody, SectionError>
     requires { at + length body.now < 2 ^ 64 }
-    ensures { Reads (λ b. b.messages) result (chunk_body_at at body.now) }
+    ensures { AnswersOr SectionError.Memory (λ b. b.messages) result (chunk_body_at at body.now) }
 {
     let messages = Items::new(messages_of(alloc, body, at)?);
     Ok(ChunkBody { messages })

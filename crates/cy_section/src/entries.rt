@@ -1,9 +1,10 @@
 // Reads the index.
 ghost use Rattle.std.specs.Prelude.{◌≡◌, ◌+◌, ◌%◌, ◌<◌, ◌^◌, length, IfOk, IsOkUnless};
 ghost use Rattle.std.specs.Option.{option_map};
+ghost use Rattle.cy_msg.specs.Answer.{AnswersOr};
 ghost use Rattle.cy_wire.specs.Field.{fields_of};
 ghost use Rattle.cy_wire.specs.Message.{seen_span};
-ghost use Rattle.cy_section.specs.Reading.{Reads, channel_cache_at, chunk_header_cache_at};
+ghost use Rattle.cy_section.specs.Reading.{channel_cache_at, chunk_header_cache_at};
 ghost use Rattle.cy_section.specs.Reading.{chunk_body_cache_at, if_given, entry_at, index_at};
 
 use crate::read::{bytes_copy, channel_of, low_32, numbers_of, text_copy};
@@ -18,7 +19,8 @@ fn channel_cache(
     alloc: Global,
     cache: Option<Span<'_>>,
 ) -> Result<Option<ChannelCache>, SectionError>
-    ensures { Reads (λ c. c) result (if_given channel_cache_at (option_map seen_span cache.entry)) }
+    ensures { AnswersOr SectionError.Memory (λ c. c) result
+        (if_given channel_cache_at (option_map seen_span cache.entry)) }
 {
     let Some(span) = cache else {
         return Ok(None);
@@ -67,7 +69,7 @@ fn chunk_body_cache(cache: Option<Span<'_>>) -> Result<Option<ChunkBodyCache>, S
 // An entry: which cache of a kind counts is known once all its fields were read.
 #[tactic(auto, unfolding(crate::specs::Reading::entry_at, crate::specs::Reading::entry_in))]
 fn entry_of(alloc: Global, entry: Span<'_>) -> Result<IndexEntry, SectionError>
-    ensures { Reads (λ e. e) result (entry_at (seen_span entry.entry)) }
+    ensures { AnswersOr SectionError.Memory (λ e. e) result (entry_at (seen_span entry.entry)) }
 {
     let mut fields = Reader::new(entry.bytes, entry.start);
     let mut kind = None;
@@ -94,7 +96,7 @@ fn entry_of(alloc: Global, entry: Span<'_>) -> Result<IndexEntry, SectionError>
 // The entries of an index.
 fn entries_of(alloc: Global, body: &[u8], at: u64) -> Result<Vec<IndexEntry>, SectionError>
     requires { at + length body.now < 2 ^ 64 }
-    ensures { Reads (λ v. v.items) result (index_at at body.now) }
+    ensures { AnswersOr SectionError.Memory (λ v. v.items) result (index_at at body.now) }
 {
     let mut reader = Reader::new(body, at);
     let mut entries = Vec::new(alloc);
@@ -109,7 +111,7 @@ fn entries_of(alloc: Global, body: &[u8], at: u64) -> Result<Vec<IndexEntry>, Se
 /// The index whose body stands at a place of the file, in memory of its own.
 pub fn read_index(alloc: Global, body: &[u8], at: u64) -> Result<Index, SectionError>
     requires { at + length body.now < 2 ^ 64 }
-    ensures { Reads (λ i. i.entries) result (index_at at body.now) }
+    ensures { AnswersOr SectionError.Memory (λ i. i.entries) result (index_at at body.now) }
 {
     let entries = Items::new(entries_of(alloc, body, at)?);
     Ok(Index { entries })

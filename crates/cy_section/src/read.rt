@@ -1,9 +1,10 @@
 // Reads the sections of a few numbers and texts: the header, a chunk's header, a channel.
 ghost use Rattle.std.specs.Prelude.{◌≡◌, ◌+◌, ◌%◌, ◌<◌, ◌^◌, ℕ, length, slice_index, EachIndex};
 ghost use Rattle.std.specs.Prelude.{IfOk, IfErr, IsOkUnless, []};
+ghost use Rattle.cy_msg.specs.Answer.{Answers, AnswersOr};
 ghost use Rattle.cy_wire.specs.Field.{fields_of, seen};
 ghost use Rattle.cy_wire.specs.Message.{u64_of, seen_span};
-ghost use Rattle.cy_section.specs.Reading.{Gives, Reads, ReadsNumbers, KeepsNumber, text_of};
+ghost use Rattle.cy_section.specs.Reading.{ReadsNumbers, KeepsNumber, text_of};
 ghost use Rattle.cy_section.specs.Reading.{header_at, chunk_header_at, channel_in, channel_at};
 ghost use Rattle.cy_section.specs.Reading.{made_of};
 ghost use Rattle.cy_section.specs.Channels.{seen_channel};
@@ -93,7 +94,7 @@ pub fn read_chunk_header(body: &[u8], at: u64) -> Result<ChunkHeader, SectionErr
 // The text of some bytes.
 #[tactic(auto, unfolding(crate::specs::Reading::text_of), using(crate::proofs::Texts::texts))]
 pub(crate) fn text_of<'a>(span: Span<'a>) -> Result<&'a str, SectionError>
-    ensures { Gives (λ text. text.now) result (text_of (seen_span span.entry)) }
+    ensures { Answers (λ text. text.now) result (text_of (seen_span span.entry)) }
 {
     match std::str::from_utf8(span.bytes) {
         Ok(text) => Ok(text),
@@ -123,7 +124,7 @@ pub(crate) fn no_bytes<'a>() -> Span<'a>
 #[tactic(auto, unfolding(crate::specs::Reading::channel_in))]
 pub(crate) fn channel_of<'a>(message: Span<'a>, first: u32) -> Result<ChannelView<'a>, SectionError>
     requires { first < 100 }
-    ensures { Gives seen_channel result (made_of (channel_in first)
+    ensures { Answers seen_channel result (made_of (channel_in first)
         (fields_of message.entry.start message.entry.bytes.now)) }
 {
     let mut fields = Reader::new(message.bytes, message.start);
@@ -164,7 +165,7 @@ pub(crate) fn bytes_copy(alloc: Global, bytes: &[u8]) -> Result<Bytes, SectionEr
 #[tactic(auto, unfolding(crate::specs::Reading::channel_at))]
 pub fn read_channel(alloc: Global, body: &[u8], at: u64) -> Result<Channel, SectionError>
     requires { at + length body.now < 2 ^ 64 }
-    ensures { Reads (λ c. c) result (channel_at at body.now) }
+    ensures { AnswersOr SectionError.Memory (λ c. c) result (channel_at at body.now) }
 {
     let span = Span {
         start: at,

@@ -4,7 +4,8 @@ use Rattle.std.proofs.lemmas.Grind.{common_steps}
 use Rattle.std.proofs.lemmas.List.{drop_more}
 use Rattle.std.proofs.Math.ListN.{drop_of_length-le}
 use Rattle.cy_text.specs.Strings.{string_from, string_at, escaped, and_then}
-use Rattle.cy_text.specs.Agrees.{FailsAlike}
+use Rattle.cy_msg.specs.Answer.{FailsWith}
+use Rattle.cy_text.specs.Fault.{fault_in}
 use Rattle.cy_text.specs.declared.fault.Failure.{Failure}
 use Rattle.cy_text.specs.declared.fault.Failure.TheVariants as failures
 use Rattle.cy_text.specs.declared.fault.Fault.{Fault}
@@ -80,6 +81,6 @@ module _ (start quote : ℕ) (out : List ℕ) (place : ℕ) (bytes : List ℕ) (
 
   -- an escape that isn't one is the fault
   pub escape_fails : (failure : Failure) → place < length bytes → (get_or bytes place 0 ≡ quote → ⊥) → get_or bytes place 0 ≡ 92
-      → FailsAlike failure (escaped out (start + place) (drop (place + 1) bytes)) → FailsAlike failure whole
+      → FailsWith (fault_in failure) (escaped out (start + place) (drop (place + 1) bytes)) → FailsWith (fault_in failure) whole
   escape_fails failures.Memory there other backslash found = tt
   escape_fails (failures.Fault f) there other backslash found = sym (rw found at (at_escape there other backslash))

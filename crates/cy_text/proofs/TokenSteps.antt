@@ -7,7 +7,8 @@ use Rattle.std.specs.List.{prefix_len}
 use Rattle.cy_text.specs.Letters.{is_blank}
 use Rattle.cy_text.specs.Fields.{Fields}
 use Rattle.cy_text.specs.Form.{Reading, read, step, finish, read_text, unread}
-use Rattle.cy_text.specs.Agrees.{FailsAlike}
+use Rattle.cy_msg.specs.Answer.{FailsWith}
+use Rattle.cy_text.specs.Fault.{fault_in}
 use Rattle.cy_text.specs.Tokens.{IsThere, begins_token, token_at, Tokens, Next, End, Faulty, tokens_from}
 use Rattle.cy_text.specs.declared.token.Lexeme.{Lexeme}
 use Rattle.cy_text.specs.declared.fault.Fault.{Fault}
@@ -84,7 +85,7 @@ module _ (r : Reading) (place : ℕ) (text : List ℕ) (whole : Result Fields Fa
       sym (rw (drop_of_length-le text all) at reading)
 
   -- the token is faulty
-  pub token_fails : (failure : Failure) → place < length text → begins_token (get_or text place 0) ≡ true → FailsAlike failure (token_at place (drop place text)) → FailsAlike failure whole
+  pub token_fails : (failure : Failure) → place < length text → begins_token (get_or text place 0) ≡ true → FailsWith (fault_in failure) (token_at place (drop place text)) → FailsWith (fault_in failure) whole
   unfolding read with_token
   token_fails failures.Memory there h found = tt
   token_fails (failures.Fault f) there h found =
@@ -112,7 +113,7 @@ module _ (r : Reading) (place : ℕ) (text : List ℕ) (whole : Result Fields Fa
     next_read = rw tokens_next at reading
 
     -- the token may not stand there
-    pub step_fails : (failure : Failure) → FailsAlike failure (step r lexeme) → FailsAlike failure whole
+    pub step_fails : (failure : Failure) → FailsWith (fault_in failure) (step r lexeme) → FailsWith (fault_in failure) whole
     unfolding read
     step_fails failures.Memory failed = tt
     step_fails (failures.Fault f) failed = sym (rw failed at next_read)

@@ -6,7 +6,7 @@ pub mod Reads
 pub mod Letters
 pub mod Numbers
 pub mod Strings
-pub mod Agrees
+pub mod Fault
 pub mod Tokens
 pub mod Form
 pub mod Views

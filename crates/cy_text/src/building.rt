@@ -5,7 +5,8 @@ ghost use Rattle.cy_text.specs.Form.{after_item, after_colon, after_name, after_
 ghost use Rattle.cy_text.specs.Form.{after_value, all_closed, at_field, at_first_item, at_item};
 ghost use Rattle.cy_text.specs.Form.{at_message, at_value, begun, closed, ends_value, finish};
 ghost use Rattle.cy_text.specs.Form.{items_of, opened, placed, step, start_of};
-ghost use Rattle.cy_text.specs.Agrees.{Agrees};
+ghost use Rattle.cy_msg.specs.Answer.{AnswersFault};
+ghost use Rattle.cy_text.specs.Fault.{fault_in};
 ghost use Rattle.cy_text.specs.Views.{view_building, view_reading};
 ghost use Rattle.cy_text.specs.declared.fault.Failure.TheVariants as failures;
 ghost use Rattle.cy_text.specs.declared.fault.Fault.TheVariants as faults;
@@ -77,7 +78,7 @@ impl Building {
         end: u32,
         value: Value,
     ) -> Result<Reading, Failure>
-        ensures { Agrees view_reading result
+        ensures { AnswersFault fault_in view_reading result
             (Ok (placed (view_building self) slot end (held_of value))) }
     {
         let Building { frames, mut fields } = self;
@@ -109,7 +110,8 @@ impl Building {
         bracket: Bracket,
         at: u32,
     ) -> Result<Reading, Failure>
-        ensures { Agrees view_reading result (opened (view_building self) slot bracket at) }
+        ensures { AnswersFault fault_in view_reading result
+            (opened (view_building self) slot bracket at) }
     {
         let Building { mut frames, fields } = self;
         if frames.len() >= MOST_OPEN {
@@ -137,7 +139,7 @@ impl Building {
         bracket: Bracket,
         span: Span,
     ) -> Result<Reading, Failure>
-        ensures { Agrees view_reading result
+        ensures { AnswersFault fault_in view_reading result
             (closed (view_building self) bracket span.start span.end) }
     {
         let Building { mut frames, fields } = self;

@@ -1,6 +1,7 @@
 // Strings in quotes.
 ghost use Rattle.std.specs.Prelude.{◌≡◌, ◌<◌, ◌≤◌, ◌+◌, ◌^◌, length, IfOk};
-ghost use Rattle.cy_text.specs.Agrees.{Agrees};
+ghost use Rattle.cy_msg.specs.Answer.{AnswersFault};
+ghost use Rattle.cy_text.specs.Fault.{fault_in};
 ghost use Rattle.cy_text.specs.Strings.{string_at, escaped};
 
 use crate::BadKind;
@@ -13,7 +14,7 @@ use std::alloc::Global;
 // many bytes of it there are.
 #[tactic(auto, unfolding(crate::specs::Strings::escaped))]
 fn read_escape(out: &mut Vec<u8>, at: u32, rest: &[u8]) -> Result<usize, Failure>
-    ensures value { Agrees (λ len. (out.new.items, len)) result
+    ensures value { AnswersFault fault_in (λ len. (out.new.items, len)) result
         (escaped out.old.items at rest.now) }
     ensures there { IfOk result (λ len. len ≤ length rest.now) }
 {
@@ -29,7 +30,8 @@ fn read_escape(out: &mut Vec<u8>, at: u32, rest: &[u8]) -> Result<usize, Failure
 pub(crate) fn string_at(alloc: Global, start: u32, bytes: &[u8]) -> Result<(Vec<u8>, u32), Failure>
     requires some { 0 < length bytes.now }
     requires within { start + length bytes.now < 2 ^ 32 }
-    ensures value { Agrees (λ found. (found.0.items, found.1)) result (string_at start bytes.now) }
+    ensures value { AnswersFault fault_in (λ found. (found.0.items, found.1)) result
+        (string_at start bytes.now) }
     ensures behind { IfOk result (λ found. start < found.1) }
     ensures there { IfOk result (λ found. found.1 ≤ start + length bytes.now) }
 {

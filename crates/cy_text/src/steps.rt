@@ -4,7 +4,8 @@ ghost use Rattle.cy_text.specs.Form.{after_item, after_colon, after_name, after_
 ghost use Rattle.cy_text.specs.Form.{after_value, all_closed, at_field, at_first_item, at_item};
 ghost use Rattle.cy_text.specs.Form.{at_message, at_value, ends_value, finish, placed, step};
 ghost use Rattle.cy_text.specs.Form.{unread};
-ghost use Rattle.cy_text.specs.Agrees.{Agrees};
+ghost use Rattle.cy_msg.specs.Answer.{AnswersFault};
+ghost use Rattle.cy_text.specs.Fault.{fault_in};
 ghost use Rattle.cy_text.specs.Views.{view_building, view_reading};
 
 use crate::building::{Building, Reading, bad};
@@ -29,7 +30,8 @@ impl Building {
     // Where a field's name may stand.
     #[tactic(auto, unfolding(crate::specs::Form::at_field))]
     fn at_field(self, alloc: Global, after_field: bool, lexeme: Lexeme) -> Result<Reading, Failure>
-        ensures { Agrees view_reading result (at_field (view_building self) after_field lexeme) }
+        ensures { AnswersFault fault_in view_reading result
+            (at_field (view_building self) after_field lexeme) }
     {
         let Lexeme { token, span } = lexeme;
         match token {
@@ -53,7 +55,8 @@ impl Building {
     // Where a message has to stand, since there is no colon.
     #[tactic(auto, unfolding(crate::specs::Form::at_message))]
     fn at_message(self, alloc: Global, slot: Slot, lexeme: Lexeme) -> Result<Reading, Failure>
-        ensures { Agrees view_reading result (at_message (view_building self) slot lexeme) }
+        ensures { AnswersFault fault_in view_reading result
+            (at_message (view_building self) slot lexeme) }
     {
         let Lexeme { token, span } = lexeme;
         match token {
@@ -69,7 +72,8 @@ impl Building {
     // Where a value has to stand, which may be a message.
     #[tactic(auto, unfolding(crate::specs::Form::at_value))]
     fn at_value(self, alloc: Global, slot: Slot, lexeme: Lexeme) -> Result<Reading, Failure>
-        ensures { Agrees view_reading result (at_value (view_building self) slot lexeme) }
+        ensures { AnswersFault fault_in view_reading result
+            (at_value (view_building self) slot lexeme) }
     {
         let Lexeme { token, span } = lexeme;
         let slot = slot.begun(span.start);
@@ -96,7 +100,8 @@ impl Building {
     // Behind a name: a colon, a message, or a list of messages.
     #[tactic(auto, unfolding(crate::specs::Form::after_name))]
     fn after_name(self, alloc: Global, slot: Slot, lexeme: Lexeme) -> Result<Reading, Failure>
-        ensures { Agrees view_reading result (after_name (view_building self) slot lexeme) }
+        ensures { AnswersFault fault_in view_reading result
+            (after_name (view_building self) slot lexeme) }
     {
         match lexeme.token {
             Token::Colon => Ok(self.expecting(Expected::AfterColon(slot))),
@@ -110,7 +115,8 @@ impl Building {
     // Behind a colon: a list or any other value.
     #[tactic(auto, unfolding(crate::specs::Form::after_colon))]
     fn after_colon(self, alloc: Global, slot: Slot, lexeme: Lexeme) -> Result<Reading, Failure>
-        ensures { Agrees view_reading result (after_colon (view_building self) slot lexeme) }
+        ensures { AnswersFault fault_in view_reading result
+            (after_colon (view_building self) slot lexeme) }
     {
         match lexeme.token {
             Token::ListOpen => Ok(self.expecting(Expected::FirstItem(slot.items(Place::Item)))),
@@ -121,7 +127,8 @@ impl Building {
     // Where an item of a list has to stand.
     #[tactic(auto, unfolding(crate::specs::Form::at_item))]
     fn at_item(self, alloc: Global, slot: Slot, lexeme: Lexeme) -> Result<Reading, Failure>
-        ensures { Agrees view_reading result (at_item (view_building self) slot lexeme) }
+        ensures { AnswersFault fault_in view_reading result
+            (at_item (view_building self) slot lexeme) }
     {
         match slot.place {
             Place::MessageItem => self.at_message(alloc, slot, lexeme),
@@ -132,7 +139,8 @@ impl Building {
     // Behind the bracket of a list: its end, or an item.
     #[tactic(auto, unfolding(crate::specs::Form::at_first_item))]
     fn at_first_item(self, alloc: Global, slot: Slot, lexeme: Lexeme) -> Result<Reading, Failure>
-        ensures { Agrees view_reading result (at_first_item (view_building self) slot lexeme) }
+        ensures { AnswersFault fault_in view_reading result
+            (at_first_item (view_building self) slot lexeme) }
     {
         match lexeme.token {
             Token::ListClose => Ok(self.expecting(Expected::Field(true))),
@@ -143,7 +151,8 @@ impl Building {
     // Behind an item: a comma, or the list's end.
     #[tactic(auto, unfolding(crate::specs::Form::after_item))]
     fn after_item(self, slot: Slot, lexeme: Lexeme) -> Result<Reading, Failure>
-        ensures { Agrees view_reading result (after_item (view_building self) slot lexeme) }
+        ensures { AnswersFault fault_in view_reading result
+            (after_item (view_building self) slot lexeme) }
     {
         match lexeme.token {
             Token::Comma => Ok(self.expecting(Expected::Item(slot))),
@@ -155,7 +164,8 @@ impl Building {
     // Behind a sign: a number or a word.
     #[tactic(auto, unfolding(crate::specs::Form::after_sign))]
     fn after_sign(self, alloc: Global, slot: Slot, lexeme: Lexeme) -> Result<Reading, Failure>
-        ensures { Agrees view_reading result (after_sign (view_building self) slot lexeme) }
+        ensures { AnswersFault fault_in view_reading result
+            (after_sign (view_building self) slot lexeme) }
     {
         let Lexeme { token, span } = lexeme;
         let value = match token {
@@ -187,7 +197,7 @@ impl Building {
         end: u32,
         lexeme: Lexeme,
     ) -> Result<Reading, Failure>
-        ensures { Agrees view_reading result
+        ensures { AnswersFault fault_in view_reading result
             (after_string (view_building self) slot bytes end lexeme) }
     {
         let Lexeme { token, span } = lexeme;
@@ -207,7 +217,7 @@ impl Building {
     // The fields, where no message is open.
     #[tactic(auto, unfolding(crate::specs::Form::all_closed))]
     fn all_closed(self, at: u32) -> Result<Tree, Failure>
-        ensures { Agrees (λ tree. tree) result (all_closed (view_building self) at) }
+        ensures { AnswersFault fault_in (λ tree. tree) result (all_closed (view_building self) at) }
     {
         let Building { frames, fields } = self;
         if frames.is_empty() {
@@ -235,7 +245,8 @@ impl Reading {
     // Behind a value that is placed.
     #[tactic(auto, unfolding(crate::specs::Form::after_value))]
     fn after_value(self, alloc: Global, lexeme: Lexeme) -> Result<Reading, Failure>
-        ensures { Agrees view_reading result (after_value (view_reading self) lexeme) }
+        ensures { AnswersFault fault_in view_reading result
+            (after_value (view_reading self) lexeme) }
     {
         let Reading { building, next } = self;
         match next {
@@ -247,7 +258,7 @@ impl Reading {
     /// One more token.
     #[tactic(auto, unfolding(crate::specs::Form::step))]
     pub(crate) fn step(self, alloc: Global, lexeme: Lexeme) -> Result<Reading, Failure>
-        ensures { Agrees view_reading result (step (view_reading self) lexeme) }
+        ensures { AnswersFault fault_in view_reading result (step (view_reading self) lexeme) }
     {
         let Reading { building, next } = self;
         match next {
@@ -267,7 +278,7 @@ impl Reading {
     // The end of the text behind a value.
     #[tactic(auto, unfolding(crate::specs::Form::ends_value))]
     fn ends_value(self, at: u32) -> Result<Tree, Failure>
-        ensures { Agrees (λ tree. tree) result (ends_value (view_reading self) at) }
+        ensures { AnswersFault fault_in (λ tree. tree) result (ends_value (view_reading self) at) }
     {
         let Reading { building, next } = self;
         match next {
@@ -279,7 +290,7 @@ impl Reading {
     /// The end of the text.
     #[tactic(auto, unfolding(crate::specs::Form::finish))]
     pub(crate) fn finish(self, alloc: Global, at: u32) -> Result<Tree, Failure>
-        ensures { Agrees (λ tree. tree) result (finish (view_reading self) at) }
+        ensures { AnswersFault fault_in (λ tree. tree) result (finish (view_reading self) at) }
     {
         let Reading { building, next } = self;
         match next {

@@ -1,7 +1,8 @@
 // Reads a text.
 ghost use Rattle.std.specs.Prelude.{◌≡◌, ◌≤◌, ◌<◌, ◌^◌, ◌+◌, ◌⊎◌, length, IfOk, IfErr, Ok, Err};
 ghost use Rattle.cy_text.specs.Form.{read_text};
-ghost use Rattle.cy_text.specs.Agrees.{Agrees};
+ghost use Rattle.cy_msg.specs.Answer.{AnswersFault};
+ghost use Rattle.cy_text.specs.Fault.{fault_in};
 ghost use Rattle.cy_text.specs.Places.{line_of, column_of, error_of, fields_of_text};
 ghost use Rattle.cy_text.specs.declared.error.TextError.TheVariants as text_error;
 
@@ -16,7 +17,7 @@ use std::alloc::Global;
 // The fields of a text, or its first fault, in one pass with one token in hand.
 fn read_text(alloc: Global, text: &[u8]) -> Result<Tree, Failure>
     requires { length text.now + 1 < 2 ^ 32 }
-    ensures { Agrees (λ tree. tree) result (read_text text.now) }
+    ensures { AnswersFault fault_in (λ tree. tree) result (read_text text.now) }
 {
     let mut reading = Reading::new(alloc);
     let mut place = gap_len(text);

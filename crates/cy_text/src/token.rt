@@ -1,7 +1,8 @@
 // The tokens of a text.
 ghost use Rattle.std.specs.Prelude.{◌≡◌, ◌<◌, ◌≤◌, ◌+◌, ◌^◌, length, IfOk, IsOkUnless, IsTrue};
 ghost use Rattle.std.specs.Str.{IsUtf8};
-ghost use Rattle.cy_text.specs.Agrees.{Agrees};
+ghost use Rattle.cy_msg.specs.Answer.{AnswersFault};
+ghost use Rattle.cy_text.specs.Fault.{fault_in};
 ghost use Rattle.cy_text.specs.Tokens.{IsThere, begins_number, mark_of, numbered, token_at};
 ghost use Rattle.cy_text.specs.Tokens.{word_at};
 ghost use Rattle.cy_text.specs.Letters.{is_letter, starts};
@@ -87,7 +88,7 @@ fn text_of(alloc: Global, bytes: &[u8]) -> Result<Text, Failure>
 fn word_at(alloc: Global, at: u32, bytes: &[u8]) -> Result<Lexeme, Failure>
     requires some { IsTrue (starts is_letter bytes.now) }
     requires within { at + length bytes.now < 2 ^ 32 }
-    ensures value { Agrees (λ found. found) result (word_at at bytes.now) }
+    ensures value { AnswersFault fault_in (λ found. found) result (word_at at bytes.now) }
     ensures there { IfOk result (λ found. IsThere at bytes.now found) }
 {
     let len = 1 + word_len(rest_from(bytes, 1));
@@ -107,7 +108,8 @@ fn word_at(alloc: Global, at: u32, bytes: &[u8]) -> Result<Lexeme, Failure>
 fn number_token(alloc: Global, at: u32, bytes: &[u8]) -> Result<Lexeme, Failure>
     requires some { IsTrue (starts begins_number bytes.now) }
     requires within { at + length bytes.now < 2 ^ 32 }
-    ensures value { Agrees (λ found. found) result (numbered at bytes.now (number_at bytes.now)) }
+    ensures value { AnswersFault fault_in (λ found. found) result
+        (numbered at bytes.now (number_at bytes.now)) }
     ensures there { IfOk result (λ found. IsThere at bytes.now found) }
 {
     let Some((number, len)) = number_at(bytes) else {
@@ -129,7 +131,7 @@ fn number_token(alloc: Global, at: u32, bytes: &[u8]) -> Result<Lexeme, Failure>
 pub(crate) fn token_at(alloc: Global, at: u32, bytes: &[u8]) -> Result<Lexeme, Failure>
     requires some { 0 < length bytes.now }
     requires within { at + length bytes.now < 2 ^ 32 }
-    ensures value { Agrees (λ found. found) result (token_at at bytes.now) }
+    ensures value { AnswersFault fault_in (λ found. found) result (token_at at bytes.now) }
     ensures there { IfOk result (λ found. IsThere at bytes.now found) }
 {
     let first = bytes[0];

@@ -1,6 +1,6 @@
 -- The fields of a message (protobuf.dev, "Encoding", "Message Structure"): one after another up to
 -- the end of its bytes, each a tag and a value.
-use Rattle.std.specs.Prelude.{◌≡◌, ℕ, zero, suc, ◌+◌, ◌-◌, ◌/◌, ◌%◌, nat_lt, ◌==◌, ◌||◌}
+use Rattle.std.specs.Prelude.{ℕ, zero, suc, ◌+◌, ◌-◌, ◌/◌, ◌%◌, nat_lt, ◌==◌, ◌||◌}
 use Rattle.std.specs.Prelude.{if◌then◌else◌, List, [], ◌∷◌, length, take, drop, Option, Some, None}
 use Rattle.std.specs.Prelude.{Result, Ok, Err}
 use Rattle.byteorder.specs.Endian.{little_number}
@@ -118,13 +118,3 @@ seen_value (held.Four value) = Four value
 
 abbrev pub seen : Field → WireField
 seen field = record { number = field.number; at = field.at; value = seen_value field.value }
-
--- What a function returned, so seen, is what is read.
-abbrev pub GivesValue : Result (FieldValue × ℕ) WireError → Result (WireValue × ℕ) WireError
-    → Type 0
-GivesValue (Ok x) read = read ≡ Ok (seen_value x.0, x.1)
-GivesValue (Err fault) read = read ≡ Err fault
-
-abbrev pub GivesField : Result (Field × ℕ) WireError → Result (WireField × ℕ) WireError → Type 0
-GivesField (Ok x) read = read ≡ Ok (seen x.0, x.1)
-GivesField (Err fault) read = read ≡ Err fault

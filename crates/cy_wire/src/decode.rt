@@ -1,8 +1,9 @@
 // Reads the field at the front of bytes.
 ghost use Rattle.std.specs.Prelude.{◌≡◌, ◌≢◌, ◌+◌, ◌<◌, ◌≤◌, ◌^◌, length, IfOk, IfErr};
+ghost use Rattle.cy_msg.specs.Answer.{Answers};
 ghost use Rattle.cy_wire.specs.Value.{end_of};
-ghost use Rattle.cy_wire.specs.Field.{wire_type, value_at, field_at, bytes_at, GivesValue};
-ghost use Rattle.cy_wire.specs.Field.{GivesField};
+ghost use Rattle.cy_wire.specs.Field.{wire_type, value_at, field_at, bytes_at};
+ghost use Rattle.cy_wire.specs.Field.{seen, seen_value};
 
 use crate::varint::varint_at;
 use crate::{Field, FieldValue, WireError};
@@ -28,7 +29,7 @@ fn type_of(tag: u64, at: u64) -> Result<u64, WireError>
 fn block_at<'a>(bytes: &'a [u8], at: u64) -> Result<(FieldValue<'a>, usize), WireError>
     requires { at + length bytes.now < 2 ^ 64 }
     ensures fits { IfOk result (λ x. end_of x.0 < 2 ^ 64) }
-    ensures value { GivesValue result (bytes_at at bytes.now) }
+    ensures value { Answers (λ x. (seen_value x.0, x.1)) result (bytes_at at bytes.now) }
     ensures within { IfOk result (λ x. x.1 ≤ length bytes.now) }
     ensures not_memory { IfErr result (λ e. e ≢ WireError.Memory) }
 {
@@ -47,7 +48,7 @@ fn block_at<'a>(bytes: &'a [u8], at: u64) -> Result<(FieldValue<'a>, usize), Wir
 fn value_of<'a>(kind: u64, bytes: &'a [u8], at: u64) -> Result<(FieldValue<'a>, usize), WireError>
     requires { at + length bytes.now < 2 ^ 64 }
     ensures fits { IfOk result (λ x. end_of x.0 < 2 ^ 64) }
-    ensures value { GivesValue result (value_at kind at bytes.now) }
+    ensures value { Answers (λ x. (seen_value x.0, x.1)) result (value_at kind at bytes.now) }
     ensures within { IfOk result (λ x. x.1 ≤ length bytes.now) }
     ensures not_memory { IfErr result (λ e. e ≢ WireError.Memory) }
 {
@@ -68,7 +69,7 @@ fn value_of<'a>(kind: u64, bytes: &'a [u8], at: u64) -> Result<(FieldValue<'a>, 
 #[tactic(auto, unfolding(crate::specs::Field::field_at))]
 pub(crate) fn field_of<'a>(bytes: &'a [u8], at: u64) -> Result<(Field<'a>, usize), WireError>
     requires { at + length bytes.now < 2 ^ 64 }
-    ensures field { GivesField result (field_at at bytes.now) }
+    ensures field { Answers (λ x. (seen x.0, x.1)) result (field_at at bytes.now) }
     ensures some { IfOk result (λ x. 0 < x.1) }
     ensures within { IfOk result (λ x. x.1 ≤ length bytes.now) }
     ensures not_memory { IfErr result (λ e. e ≢ WireError.Memory) }
