@@ -3,4 +3,5 @@ pub mod Memory
 pub mod Output
 pub mod Real
 pub mod Store
+pub mod Whole
 pub mod Write

@@ -3,7 +3,7 @@
 //!
 //! A store and a sink count their faults, so that a contract can say that a fault was answered only
 //! where there was one. `specs/Files` has the map from names to bytes, `specs/Write` what writes
-//! make of it, `specs/Store` the causes.
+//! make of it, `specs/Store` the causes, `specs/Whole` what reading a file whole answers.
 //!
 //! `MemStore` and `MemSink` tell all that they hold, and fail where they are told to:
 //! `specs/Memory` and `specs/Output` say what becomes of each call. `RealStore` and `RealSink` tell
@@ -17,6 +17,7 @@ mod real;
 mod real_sink;
 mod sink;
 mod store;
+mod whole;
 
 pub use error::{SinkError, StoreError};
 pub use memory::MemStore;
@@ -25,3 +26,4 @@ pub use real::RealStore;
 pub use real_sink::RealSink;
 pub use sink::Sink;
 pub use store::Store;
+pub use whole::{ReadFile, read_file};
