@@ -1,0 +1,73 @@
+-- The DAG, the component files and the scheduler, one after another.
+use Rattle.std.proofs.Common.{ℕ, ◌≡◌, List, Option, Some, IfSome, Result, Ok, Err, sym, ap, ◌∙◌, inl, inr, Vec, Global}
+use Rattle.std.specs.List.{Contains}
+use Rattle.cy_store.specs.Files.{Files}
+use Rattle.cy_store.specs.Reads.{Reads, Accepts, ◌>>=◌}
+use Rattle.cy_store.specs.Store.{StoreView}
+use Rattle.cy_dag.specs.declared.config.Config.{Config}
+use Rattle.cy_dag.specs.declared.dag.Dag.{Dag}
+use Rattle.cy_sched.specs.declared.sched.Sched.{Sched}
+use Rattle.cy_replay.specs.declared.configuration.Configuration.{Configuration}
+use Rattle.cy_replay.specs.declared.error.Refusal.{Refusal}
+use Rattle.cy_replay.specs.declared.error.SetupError.{SetupError}
+use Rattle.cy_replay.specs.Configuration.{DagSays, Configured, dag_in, configs_in, sched_in, files_of, configuration_in, IsAsked}
+use Rattle.cy_replay.specs.Steps.{dag_says, configured}
+use Rattle.cy_replay.specs.Comes.{ComesTo}
+use Rattle.cy_replay.proofs.Coming.{then, told_map, comes_err, comes_ok, comes_then}
+
+-- the scheduler behind the component files, and these behind the DAG
+abbrev pub with_sched : DagSays → List Config → Sched → Files → Reads Refusal Configured
+with_sched dag configs sched m = Accepts record { dag = dag; configs = configs; sched = sched }
+
+abbrev pub with_configs : Option (List ℕ) → DagSays → List Config → Files → Reads Refusal Configured
+with_configs sched_name dag configs = then (sched_in sched_name) (with_sched dag configs)
+
+abbrev pub with_dag : Option (List ℕ) → DagSays → Files → Reads Refusal Configured
+with_dag sched_name dag = then (configs_in dag.components) (with_configs sched_name dag)
+
+-- the DAG is in the way
+pub dag_stops : (dag : List ℕ) (sched : Option (List ℕ)) (old new : StoreView) (e : SetupError) → (let r : Result Dag SetupError = Err e in ComesTo dag_says (dag_in dag) (λ file. file ≡ dag) old new r)
+    → (let r : Result Configuration SetupError = Err e in ComesTo configured (configuration_in dag sched) (IsAsked dag sched old.files) old new r)
+dag_stops dag sched old new e came = comes_err configured (dag_in dag) (with_dag sched) (IsAsked dag sched old.files) old new e (λ file asked. inl asked) came
+
+-- what follows the DAG
+pub dag_read : {r : Result Configuration SetupError} (dag : List ℕ) (sched : Option (List ℕ)) (says : Dag) (P : List ℕ → Type 0) (old mid new : StoreView) → ComesTo dag_says (dag_in dag) (λ file. file ≡ dag) old mid (Ok says)
+    → ((file : List ℕ) → P file → IsAsked dag sched old.files file) → ComesTo configured (with_dag sched (dag_says says)) P mid new r → ComesTo configured (configuration_in dag sched) (IsAsked dag sched old.files) old new r
+dag_read {r} dag sched says P old mid new came more rest =
+    comes_then configured (dag_in dag) (with_dag sched) P (IsAsked dag sched old.files) old mid new (dag_says says) r record { same = came.same; counts = came.accepted.0 } came.accepted.1 more rest
+
+named : (dag : List ℕ) (sched : Option (List ℕ)) (says : Dag) (files : Option Files) → IfSome files (λ m. dag_in dag m ≡ Accepts (dag_says says)) → (file : List ℕ) → Contains (files_of says.components) file → IsAsked dag sched files file
+named dag sched says files read file c = inr (inr record { says = dag_says says; read = read; named = c })
+
+-- a component file is in the way
+pub configs_stop : (dag : List ℕ) (sched : Option (List ℕ)) (says : Dag) (old mid new : StoreView) (e : SetupError) → ComesTo dag_says (dag_in dag) (λ file. file ≡ dag) old mid (Ok says)
+    → (let r : Result (Vec Config Global) SetupError = Err e in ComesTo (λ v. v.items) (configs_in says.components) (Contains (files_of says.components)) mid new r)
+    → (let r : Result Configuration SetupError = Err e in ComesTo configured (configuration_in dag sched) (IsAsked dag sched old.files) old new r)
+configs_stop dag sched says old mid new e came stops =
+    dag_read dag sched says (Contains (files_of says.components)) old mid new came (named dag sched says old.files came.accepted.1)
+    (comes_err configured (configs_in says.components) (with_configs sched (dag_says says)) (Contains (files_of says.components)) mid new e (λ file asked. asked) stops)
+
+-- what follows the component files
+pub configs_read : {r : Result Configuration SetupError} (dag : List ℕ) (sched : Option (List ℕ)) (says : Dag) (configs : Vec Config Global) (old mid next new : StoreView) → ComesTo dag_says (dag_in dag) (λ file. file ≡ dag) old mid (Ok says)
+    → ComesTo (λ v. v.items) (configs_in says.components) (Contains (files_of says.components)) mid next (Ok configs)
+    → ComesTo configured (with_configs sched (dag_says says) configs.items) (λ file. sched ≡ Some file) next new r → ComesTo configured (configuration_in dag sched) (IsAsked dag sched old.files) old new r
+configs_read {r} dag sched says configs old mid next new came came_too rest =
+    dag_read dag sched says (λ file. sched ≡ Some file) old mid new came (λ file asked. inr (inl asked))
+    (comes_then configured (configs_in says.components) (with_configs sched (dag_says says)) (λ file. sched ≡ Some file) (λ file. sched ≡ Some file) mid next new configs.items r record { same = came_too.same; counts = came_too.accepted.0 } came_too.accepted.1 (λ file asked. asked) rest)
+
+-- the scheduler is in the way
+pub sched_stops : (dag : List ℕ) (sched : Option (List ℕ)) (says : Dag) (configs : Vec Config Global) (old mid next new : StoreView) (e : SetupError) → ComesTo dag_says (dag_in dag) (λ file. file ≡ dag) old mid (Ok says)
+    → ComesTo (λ v. v.items) (configs_in says.components) (Contains (files_of says.components)) mid next (Ok configs)
+    → (let r : Result Sched SetupError = Err e in ComesTo (λ s. s) (sched_in sched) (λ file. sched ≡ Some file) next new r)
+    → (let r : Result Configuration SetupError = Err e in ComesTo configured (configuration_in dag sched) (IsAsked dag sched old.files) old new r)
+sched_stops dag sched says configs old mid next new e came came_too stops =
+    configs_read dag sched says configs old mid next new came came_too (comes_err configured (sched_in sched) (with_sched (dag_says says) configs.items) (λ file. sched ≡ Some file) next new e (λ file asked. asked) stops)
+
+-- all of it was read
+pub all_read : (dag : List ℕ) (sched : Option (List ℕ)) (all : Configuration) (configs : Vec Config Global) (old mid next new : StoreView) → ComesTo dag_says (dag_in dag) (λ file. file ≡ dag) old mid (Ok all.dag)
+    → ComesTo (λ v. v.items) (configs_in all.dag.components) (Contains (files_of all.dag.components)) mid next (Ok configs) → all.configs ≡ configs.items
+    → ComesTo (λ s. s) (sched_in sched) (λ file. sched ≡ Some file) next new (Ok all.sched) → ComesTo configured (configuration_in dag sched) (IsAsked dag sched old.files) old new (Ok all)
+all_read dag sched all configs old mid next new came came_too is last =
+    configs_read dag sched all.dag configs old mid next new came came_too
+    (comes_ok configured (then (sched_in sched) (with_sched (dag_says all.dag) configs.items)) (λ file. sched ≡ Some file) next new all record { same = last.same; counts = last.accepted.0 }
+    (told_map next.files (λ m was. ap (λ q. q >>= λ s. with_sched (dag_says all.dag) configs.items s m) was ∙ ap (λ (cs : List Config). Accepts record { dag = dag_says all.dag; configs = cs; sched = all.sched }) (sym is)) last.accepted.1))

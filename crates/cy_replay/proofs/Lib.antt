@@ -1,0 +1,5 @@
+pub mod Coming
+pub mod Configs
+pub mod Joined
+pub mod Judged
+pub mod Texts

@@ -1,0 +1,4 @@
+pub mod Comes
+pub mod Configuration
+pub mod Faults
+pub mod Steps

@@ -1,0 +1,85 @@
+// Why a replay can't be set up.
+ghost use Rattle.std.specs.Prelude.{◌≡◌, ◌⊎◌};
+ghost use Rattle.cy_replay.specs.declared.error.SetupError.TheVariants as setup_error;
+
+use cy_dag::DagError;
+use cy_msg::Text;
+use cy_sched::SchedError;
+use cy_text::TextError;
+use std::alloc::{AllocError, AllocFailed, Global};
+
+/// What is wrong with a file.
+#[derive(Debug, Drop)]
+pub enum Fault {
+    /// A configuration file is longer than any that is read.
+    ConfigTooLarge {
+        /// Its bytes.
+        count: u64,
+    },
+    /// A configuration file isn't in the text form.
+    Text(TextError),
+    /// A DAG file or a component file is refused, or the components can't be wired.
+    Dag(DagError),
+    /// A scheduler file is refused.
+    Sched(SchedError),
+}
+
+/// A file that is refused.
+#[derive(Debug, Drop)]
+pub struct Refusal {
+    /// Its name.
+    pub file: Text,
+    /// What is wrong with it.
+    pub fault: Fault,
+}
+
+/// Why a replay can't be set up.
+#[derive(Debug, Drop)]
+pub enum SetupError {
+    /// A file is refused.
+    Refused(Refusal),
+    /// The store failed.
+    Store {
+        /// The name of the file whose call failed.
+        file: Text,
+    },
+    /// There is no memory.
+    Memory,
+}
+
+impl From<AllocError> for SetupError {
+    ghost from_gives = { λ _ e. e ≡ setup_error.Memory };
+
+    fn from(_: AllocError) -> Self {
+        SetupError::Memory
+    }
+}
+
+impl<T: Drop> From<AllocFailed<T>> for SetupError {
+    ghost from_gives = { λ _ e. e ≡ setup_error.Memory };
+
+    fn from(_: AllocFailed<T>) -> Self {
+        SetupError::Memory
+    }
+}
+
+/// A fault of a file, or want of memory for its name.
+pub(crate) fn refused(alloc: Global, file: &str, fault: Fault) -> SetupError
+    ensures { (result ≡ setup_error.Memory)
+        ⊎ (result ≡ setup_error.Refused record { file = file.now; fault = fault }) }
+{
+    match Text::new(alloc, file) {
+        Ok(file) => SetupError::Refused(Refusal { file, fault }),
+        Err(_) => SetupError::Memory,
+    }
+}
+
+/// A file at which the store failed, or want of memory for its name.
+pub(crate) fn failed(alloc: Global, file: &str) -> SetupError
+    ensures { (result ≡ setup_error.Memory) ⊎ (result ≡ setup_error.Store file.now) }
+{
+    match Text::new(alloc, file) {
+        Ok(file) => SetupError::Store { file },
+        Err(_) => SetupError::Memory,
+    }
+}
