@@ -5,7 +5,7 @@ use cy_dag::{DagError, read_component_config, read_dag};
 use std::test::Fail;
 
 // Why a file is refused, in one line.
-fn refusal(rt: &HostRuntime, error: DagError) -> Result<String, Fail> {
+pub(crate) fn refusal(rt: &HostRuntime, error: DagError) -> Result<String, Fail> {
     Ok(match error {
         DagError::Shape { path } => format!(in rt.alloc(); "Shape {}", path.as_str())?,
         DagError::NoComponents => String::from_str(rt.alloc(), "NoComponents")?,
@@ -31,6 +31,17 @@ fn refusal(rt: &HostRuntime, error: DagError) -> Result<String, Fail> {
         DagError::NotWhole { component, field } => {
             format!(in rt.alloc(); "NotWhole {component} {}", field.as_str())?
         }
+        DagError::TwoWriters { first, second } => format!(in rt.alloc();
+            "TwoWriters {first} {second}"
+        )?,
+        DagError::TriggerCycle { components } => {
+            let mut line = String::from_str(rt.alloc(), "TriggerCycle")?;
+            for component in components.as_slice() {
+                line.push_str(format!(in rt.alloc(); " {component}")?.as_str())?;
+            }
+            line
+        }
+        DagError::TooManyChannels { count } => format!(in rt.alloc(); "TooManyChannels {count}")?,
         DagError::Memory => String::from_str(rt.alloc(), "Memory")?,
     })
 }
@@ -68,7 +79,7 @@ fn told(rt: &HostRuntime, text: &str) -> Result<String, Fail> {
 }
 
 // A DAG of one module with these components.
-fn dag(rt: &HostRuntime, components: &str) -> Result<String, Fail> {
+pub(crate) fn dag(rt: &HostRuntime, components: &str) -> Result<String, Fail> {
     Ok(format!(in rt.alloc(); "module_config {{ {components} }}")?)
 }
 

@@ -1,3 +1,11 @@
 pub mod DagSteps
+pub mod Found
 pub mod Loops
+pub mod NameSteps
+pub mod PairSteps
+pub mod Queues
+pub mod ReadFacts
 pub mod Repeats
+pub mod TriggerCycles
+pub mod TriggerSteps
+pub mod WiringFacts

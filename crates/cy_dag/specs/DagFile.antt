@@ -1,6 +1,7 @@
 -- What a DAG file says, and the first cause for which it is refused.
-use Rattle.std.specs.Prelude.{ℕ, zero, suc, ◌==◌, nat_lt, min, ◌&&◌, Bool, List, [], ◌∷◌, ◌++◌, map}
-use Rattle.std.specs.Prelude.{length, codes, Option, Some, None, is_none, if◌then◌else◌, unwrap_or}
+use Rattle.std.specs.Prelude.{ℕ, zero, suc, ◌≡◌, ◌≤◌, ◌==◌, nat_lt, min, ◌&&◌, Bool, List, []}
+use Rattle.std.specs.Prelude.{◌∷◌, ◌++◌, map, slice_get, length, codes, Option, Some, None, is_none}
+use Rattle.std.specs.Prelude.{if◌then◌else◌, unwrap_or}
 use Rattle.std.specs.Prelude.{option_map}
 use Rattle.std.specs.List.{list_any, flat_map, position}
 use Rattle.std.specs.Option.{option_or}
@@ -136,3 +137,8 @@ dag_refusal file = first_of (
 -- The paths of the fields that a DAG doesn't have.
 abbrev pub unknown_in_dag : Fields → List (List ℕ)
 unknown_in_dag file = unknown_paths dag_field File [] file
+
+-- Each reader's queue keeps at least one message.
+abbrev pub HaveQueues : List DagComponent → Type 0
+HaveQueues components = (i : ℕ) (c : DagComponent) → slice_get components i ≡ Some c → (j : ℕ)
+    (r : DagReader) → slice_get c.readers j ≡ Some r → 1 ≤ r.queue

@@ -3,3 +3,5 @@ pub mod ConfigFile
 pub mod DagFile
 pub mod Format
 pub mod Refusals
+pub mod Triggers
+pub mod Wiring

@@ -4,6 +4,7 @@ ghost use Rattle.cy_dag.specs.Classes.{class_named};
 ghost use Rattle.cy_dag.specs.ConfigFile.{IsConfig, class_refusal, config_of, config_refusal};
 ghost use Rattle.cy_dag.specs.ConfigFile.{kind_of, kind_refusal, parameter_refusal, value_of};
 ghost use Rattle.cy_dag.specs.Refusals.{IsDue};
+ghost use Rattle.cy_dag.specs.Wiring.{IsKindOf, IsOfClass};
 ghost use Rattle.cy_dag.specs.declared.class.Class.TheVariants.{Filter};
 ghost use Rattle.cy_dag.specs.declared.error.DagError.TheVariants as dag_error;
 
@@ -38,9 +39,10 @@ pub fn read_component_config(
     component: u32,
     class_name: &str,
 ) -> Result<Config, DagError>
-    ensures accepted { IfOk result (λ _.
-        config_refusal component (class_named class_name.now) tree.now ≡ None) }
-    ensures config { IfOk result (IsConfig (class_named class_name.now) tree.now) }
+    ensures config { IfOk result (λ config.
+        (config_refusal component (class_named class_name.now) tree.now ≡ None)
+        × IsConfig (class_named class_name.now) tree.now config) }
+    ensures of_class { IfOk result (IsOfClass class_name.now) }
     ensures refused { IfErr result (IsDue
         (config_refusal component (class_named class_name.now) tree.now)) }
 {
@@ -54,6 +56,7 @@ pub fn read_component_config(
 fn read_config(alloc: Global, tree: &Tree, component: u32, class: Class) -> Result<Config, DagError>
     ensures accepted { IfOk result (λ _. class_refusal component class tree.now ≡ None) }
     ensures config { IfOk result (λ config. config ≡ config_of class tree.now) }
+    ensures of_class { IfOk result (λ config. IsKindOf class config.kind) }
     ensures refused { IfErr result (IsDue (class_refusal component class tree.now)) }
 {
     let unknown = check(alloc, class, tree)?;
@@ -73,6 +76,7 @@ fn read_config(alloc: Global, tree: &Tree, component: u32, class: Class) -> Resu
 fn kind(alloc: Global, tree: &Tree, component: u32, class: Class) -> Result<Kind, DagError>
     ensures accepted { IfOk result (λ _. kind_refusal component class tree.now ≡ None) }
     ensures kind { IfOk result (λ kind. kind ≡ kind_of class tree.now) }
+    ensures of_class { IfOk result (IsKindOf class) }
     ensures refused { IfErr result (IsDue (kind_refusal component class tree.now)) }
 {
     Ok(match class {
@@ -105,6 +109,7 @@ const MOST_I64: i128 = 9_223_372_036_854_775_807;
 fn filter(alloc: Global, tree: &Tree, component: u32) -> Result<Kind, DagError>
     ensures accepted { IfOk result (λ _. kind_refusal component Filter tree.now ≡ None) }
     ensures kind { IfOk result (λ kind. kind ≡ kind_of Filter tree.now) }
+    ensures of_class { IfOk result (IsKindOf Filter) }
     ensures refused { IfErr result (IsDue (kind_refusal component Filter tree.now)) }
 {
     let lo = parameter(alloc, tree, component, "lo", LEAST_I64, MOST_I64)?;

@@ -1,6 +1,6 @@
 // What a DAG file says.
 ghost use Rattle.std.specs.Prelude.{◌≡◌, ◌≤◌, length, None};
-ghost use Rattle.cy_dag.specs.DagFile.{components_refusal};
+ghost use Rattle.cy_dag.specs.DagFile.{components_refusal, HaveQueues};
 
 use cy_msg::{Items, Text};
 
@@ -46,4 +46,6 @@ pub struct Dag {
     /// Each has a name of its own, a known class, one to four different readers, as many as its
     /// class reads, and a file.
     pub ghost tested: { components_refusal components ≡ None },
+    /// Each reader's queue keeps at least one message.
+    pub ghost queues: { HaveQueues components },
 }

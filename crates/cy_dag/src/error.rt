@@ -1,14 +1,15 @@
-// What the reading of a DAG or a component file may answer in place of a value.
+// What the reading of a DAG or a component file, and its wiring, may answer in place of a value.
 ghost use Rattle.std.specs.Prelude.{◌≡◌};
 ghost use Rattle.cy_dag.specs.Refusals.{refused_shape};
 ghost use Rattle.cy_dag.specs.declared.error.DagError.TheVariants as dag_error;
 
+use crate::Cycle;
 use cy_config::ConfigError;
 use cy_msg::{NamesError, Text};
 use std::alloc::{AllocError, AllocFailed};
 use thiserror::Error;
 
-/// Why a DAG or a component file is refused. Components are numbered from 0, in the order of the
+/// Why a DAG, a component file or the wiring of both is refused. Components are numbered from 0, in the order of the
 /// file. A count above the greatest `u32` is given as that.
 #[derive(Debug, Drop, Error)]
 pub enum DagError {
@@ -92,6 +93,26 @@ pub enum DagError {
         component: u32,
         /// The parameter's name.
         field: Text,
+    },
+    /// Two components write one channel.
+    #[error("two components write one channel")]
+    TwoWriters {
+        /// The first that writes it.
+        first: u32,
+        /// The least one that writes a channel of an earlier one.
+        second: u32,
+    },
+    /// Components trigger one another in a circle.
+    #[error("components trigger one another in a circle")]
+    TriggerCycle {
+        /// The components, from the least one that is on a circle, each before its trigger.
+        components: Cycle,
+    },
+    /// The record, the readers and the components have more than 1,024 different channels.
+    #[error("there are too many channels")]
+    TooManyChannels {
+        /// How many.
+        count: u32,
     },
     /// There is no memory.
     #[error("out of memory")]

@@ -2,19 +2,27 @@
 //! which class they are.
 //!
 //! `specs/Format` has the fields of both files, `specs/DagFile` what a DAG file says and the first
-//! cause for which it is refused, `specs/ConfigFile` the same of a component file, and
-//! `specs/Classes` the classes by their names.
+//! cause for which it is refused, `specs/ConfigFile` the same of a component file,
+//! `specs/Classes` the classes by their names, `specs/Triggers` which components write one channel
+//! or trigger one another in a circle, and `specs/Wiring` the wiring of all.
 #![tactic(auto)]
 
+mod channels;
 mod class;
 mod component;
 mod config;
+mod cycle;
 mod dag;
 mod error;
 mod format;
+mod plan;
 mod read;
+mod triggers;
+mod wiring;
 
 pub use config::{Config, read_component_config};
+pub use cycle::Cycle;
 pub use dag::{Dag, DagComponent, DagReader, MOST_COMPONENTS, MOST_READERS};
 pub use error::DagError;
 pub use read::read_dag;
+pub use wiring::wire;

@@ -2,6 +2,7 @@ use Rattle.std.proofs.Common.{List, Bor, ◌≡◌, length, ap, ◌∙◌, codes
 use Rattle.std.proofs.lemmas.Result.{err_from_is_err_and}
 use Rattle.cy_text.specs.Fields.{Fields}
 use Rattle.cy_dag.specs.DagFile.{component_of}
+use Rattle.cy_dag.proofs.Queues.{queues_kept}
 use Rattle.cy_dag.proofs.DagSteps.{found_is, count_is, dag_accepted, counts_due, components_due}
 use Rattle.cy_dag.proofs.read.read_dag.Goals as goal
 
@@ -43,3 +44,6 @@ returns-clause-accepted c =
       dag_accepted file c.len.result c.len-timers.result c.in_ok-components.components.items c.in_ok-unknown.ensures.fits n t c.in_ok-test_counts.ensures.accepted are c.in_ok-components.ensures.tested,
       c.new.ensures ∙ are,
     )
+
+pub invariant_of-result-clause-queues : goal.invariant_of-result-clause-queues
+invariant_of-result-clause-queues c = queues_kept c.new.result (map (λ (m : Bor Fields). m.now) c.deref-3.result.now) (c.new.ensures ∙ c.in_ok-components.ensures.components)

@@ -1,0 +1,78 @@
+// Components over numbered channels.
+ghost use Rattle.std.specs.Prelude.{◌≡◌, length, map, IfOk, IsOkUnless};
+ghost use Rattle.std.specs.List.{zip};
+ghost use Rattle.cy_dag.specs.Wiring.{number_in, plan_of, plans_of, queue_of_first};
+ghost use Rattle.cy_msg.specs.Once.{IsOnce};
+ghost use Rattle.cy_dag.specs.declared.error.DagError.TheVariants as dag_error;
+
+use crate::channels::number_in;
+use crate::{Config, DagComponent, DagError, DagReader};
+use cy_comp::Plan;
+use cy_msg::{Items, Names, Text};
+use std::alloc::Global;
+
+// The components of a wiring, in the order of the DAG.
+pub(crate) fn plans(
+    alloc: Global,
+    names: &Names,
+    components: &[DagComponent],
+    configs: &[Config],
+) -> Result<Vec<Plan>, DagError>
+    requires each { length configs.now ≡ length components.now }
+    requires once { IsOnce names.now }
+    ensures plans { IfOk result (λ ps. ps.items
+        ≡ plans_of names.now (zip components.now configs.now)) }
+    ensures only_memory { IsOkUnless result dag_error.Memory }
+{
+    let mut plans = Vec::new(alloc);
+    for (place, component) in components.iter().enumerate() {
+        plans.push(plan(alloc, names, component, &configs[place])?)?;
+    }
+    Ok(plans)
+}
+
+// A component over numbered channels.
+fn plan(
+    alloc: Global,
+    names: &Names,
+    component: &DagComponent,
+    config: &Config,
+) -> Result<Plan, DagError>
+    requires { IsOnce names.now }
+    ensures plan { IfOk result (λ p. p ≡ plan_of names.now (component.now, config.now)) }
+    ensures only_memory { IsOkUnless result dag_error.Memory }
+{
+    let readers = component.readers.as_slice();
+    Ok(Plan {
+        name: Text::new(alloc, component.name.as_str())?,
+        kind: config.kind,
+        readers: Items::new(numbers(alloc, names, readers)?),
+        queue: queue_of_first(readers),
+        out: number_in(names, config.out.as_str()),
+        out_type: Text::new(alloc, config.out_type.as_str())?,
+    })
+}
+
+// The numbers of the channels that are read.
+fn numbers(alloc: Global, names: &Names, readers: &[DagReader]) -> Result<Vec<u32>, DagError>
+    requires { IsOnce names.now }
+    ensures numbers { IfOk result (λ ns. ns.items
+        ≡ map (λ r. number_in names.now r.channel) readers.now) }
+    ensures only_memory { IsOkUnless result dag_error.Memory }
+{
+    let mut numbers = Vec::new(alloc);
+    for reader in readers {
+        numbers.push(number_in(names, reader.channel.as_str()))?;
+    }
+    Ok(numbers)
+}
+
+// The queue of a component's first reader.
+fn queue_of_first(readers: &[DagReader]) -> u32
+    ensures { result ≡ queue_of_first readers.now }
+{
+    match readers.first() {
+        Some(reader) => reader.queue,
+        None => 1,
+    }
+}
