@@ -1,3 +1,5 @@
 pub mod Format
+pub mod Placing
+pub mod Ranks
 pub mod Refusals
 pub mod SchedFile
