@@ -1,0 +1,72 @@
+-- The text that tells what the configuration files of a run say.
+use Rattle.std.specs.Prelude.{ℕ, true, List, [], ◌∷◌, ◌++◌, codes, slice_get, unwrap_or, option_map}
+use Rattle.std.specs.Fmt.{decimal}
+use Rattle.std.specs.List.{flat_map, zip}
+use Rattle.cy_msg.specs.Quoted.{quoted}
+use Rattle.cy_msg.specs.declared.placement.ContextPlan.{ContextPlan}
+use Rattle.cy_dag.specs.Wiring.{queue_of_first}
+use Rattle.cy_dag.specs.declared.config.Config.{Config}
+use Rattle.cy_dag.specs.declared.dag.DagComponent.{DagComponent}
+
+-- Names in quotes, each behind a space.
+abbrev pub spaced : List ℕ → List ℕ
+spaced name = codes " " ++ quoted true name
+
+-- A component: its name, its class, the channels that it reads, how many tuples wait for it, and
+-- the channel that it writes.
+abbrev pub component_line : DagComponent → Config → List ℕ
+component_line c config =
+    codes "component " ++ quoted true c.name ++ codes " class " ++ c.class_name ++ codes " reads"
+    ++ flat_map (λ r. spaced r.channel) c.readers
+    ++ codes " queue " ++ decimal (queue_of_first c.readers)
+    ++ codes " writes " ++ quoted true config.out ++ codes "\n"
+
+-- The name of the component with a number.
+abbrev pub name_in : List DagComponent → ℕ → List ℕ
+name_in components c = unwrap_or (option_map (λ d. d.name) (slice_get components c)) []
+
+-- The components of a context in their order, or a dash where there is none.
+unfoldable pub order_text : List DagComponent → List ℕ → List ℕ
+order_text components [] = codes " -"
+order_text components (c ∷ cs) = flat_map (λ d. spaced (name_in components d)) (c ∷ cs)
+
+-- A context: its name and its processors, and the order in which its components are scanned.
+unfoldable pub context_head : ContextPlan → List ℕ
+context_head plan =
+    codes "context " ++ quoted true plan.name ++ codes " processors " ++ decimal plan.processors
+    ++ codes " order"
+
+abbrev pub context_line : List DagComponent → ContextPlan → List ℕ
+context_line components plan =
+    context_head plan ++ order_text components plan.order ++ codes "\n"
+
+-- A field of a file that isn't known.
+abbrev pub unknown_line : List ℕ → List ℕ → List ℕ
+unknown_line file path = codes "unknown " ++ file ++ codes " " ++ path ++ codes "\n"
+
+abbrev pub unknown_lines : List ℕ → List (List ℕ) → List ℕ
+unknown_lines file paths = flat_map (unknown_line file) paths
+
+-- The lines of all components, those of all contexts, and those of the unknown fields of each
+-- component file.
+abbrev pub component_lines : List DagComponent → List Config → List ℕ
+component_lines components configs = flat_map (λ p. component_line p.0 p.1) (zip components configs)
+
+abbrev pub context_lines : List DagComponent → List ContextPlan → List ℕ
+context_lines components contexts = flat_map (context_line components) contexts
+
+abbrev pub config_lines : List DagComponent → List Config → List ℕ
+config_lines components configs =
+    flat_map (λ p. unknown_lines p.0.config_file_path p.1.unknown) (zip components configs)
+
+-- The whole text: the unknown fields of the DAG file, the component files and the scheduler file
+-- stand in this order.
+abbrev pub text_of : List DagComponent → List Config → List ContextPlan → List ℕ → List (List ℕ)
+    → List ℕ → List (List ℕ) → List ℕ
+text_of components configs contexts dag_file in_dag sched_file in_sched =
+    component_lines components configs
+    ++ context_lines components contexts
+    ++ unknown_lines dag_file in_dag
+    ++ config_lines components configs
+    ++ unknown_lines sched_file in_sched
+    ++ codes "ok\n"

@@ -1,0 +1,12 @@
+//! The text that tells what the configuration files of a run say: its components, where they run,
+//! and which fields are not known.
+//!
+//! `specs/CheckText` has the text.
+#![tactic(auto)]
+
+mod error;
+mod lines;
+mod text;
+
+pub use error::CheckError;
+pub use text::{SchedulerFile, check_text};

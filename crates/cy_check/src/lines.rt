@@ -1,0 +1,169 @@
+// The lines of the text, each added to it.
+ghost use Rattle.std.specs.Prelude.{true, ◌≡◌, ◌++◌, length, OnOk};
+ghost use Rattle.std.specs.List.{flat_map};
+ghost use Rattle.cy_msg.specs.Quoted.{quoted};
+ghost use Rattle.cy_check.specs.CheckText.{component_line, component_lines, config_lines};
+ghost use Rattle.cy_check.specs.CheckText.{context_head, context_line, context_lines, name_in};
+ghost use Rattle.cy_check.specs.CheckText.{order_text};
+ghost use Rattle.cy_check.specs.CheckText.{spaced, unknown_lines};
+ghost use Rattle.cy_dag.specs.Wiring.{queue_of_first};
+
+use cy_dag::{Config, DagComponent, DagReader};
+use cy_msg::{ContextPlan, Text, push_quoted};
+use std::io;
+use std::io::Write;
+
+// The components, each with its file.
+pub(crate) fn push_components(
+    to: &mut Vec<u8>,
+    components: &[DagComponent],
+    configs: &[Config],
+) -> io::Result<()>
+    requires { length configs.now ≡ length components.now }
+    ensures { OnOk result (to.new.items
+        ≡ to.old.items ++ component_lines components.now configs.now) }
+{
+    for (place, component) in components.iter().enumerate() {
+        push_component(to, component, &configs[place])?;
+    }
+    Ok(())
+}
+
+// A component.
+fn push_component(to: &mut Vec<u8>, component: &DagComponent, config: &Config) -> io::Result<()>
+    ensures { OnOk result (to.new.items ≡ to.old.items ++ component_line component.now config.now) }
+{
+    write!(to, "component ")?;
+    push_name(to, component.name.as_str())?;
+    let readers = component.readers.as_slice();
+    write!(to, " class {} reads", component.class_name.as_str())?;
+    push_readers(to, readers)?;
+    write!(to, " queue {} writes ", queue_of_first(readers))?;
+    push_name(to, config.out.as_str())?;
+    writeln!(to, "")
+}
+
+// A name in quotes.
+fn push_name(to: &mut Vec<u8>, name: &str) -> io::Result<()>
+    ensures { OnOk result (to.new.items ≡ to.old.items ++ quoted true name.now) }
+{
+    Ok(push_quoted(to, name.as_bytes(), true)?)
+}
+
+// The channels that are read.
+fn push_readers(to: &mut Vec<u8>, readers: &[DagReader]) -> io::Result<()>
+    ensures { OnOk result (to.new.items
+        ≡ to.old.items ++ flat_map (λ r. spaced r.channel) readers.now) }
+{
+    for reader in readers {
+        push_spaced(to, reader.channel.as_str())?;
+    }
+    Ok(())
+}
+
+// A name in quotes behind a space.
+fn push_spaced(to: &mut Vec<u8>, name: &str) -> io::Result<()>
+    ensures { OnOk result (to.new.items ≡ to.old.items ++ spaced name.now) }
+{
+    write!(to, " ")?;
+    push_name(to, name)
+}
+
+// How many tuples wait for a component at most.
+fn queue_of_first(readers: &[DagReader]) -> u32
+    ensures { result ≡ queue_of_first readers.now }
+{
+    match readers.first() {
+        Some(reader) => reader.queue,
+        None => 1,
+    }
+}
+
+// The contexts.
+pub(crate) fn push_contexts(
+    to: &mut Vec<u8>,
+    components: &[DagComponent],
+    contexts: &[ContextPlan],
+) -> io::Result<()>
+    ensures { OnOk result (to.new.items
+        ≡ to.old.items ++ context_lines components.now contexts.now) }
+{
+    for context in contexts {
+        push_context(to, components, context)?;
+    }
+    Ok(())
+}
+
+// A context.
+fn push_context(
+    to: &mut Vec<u8>,
+    components: &[DagComponent],
+    context: &ContextPlan,
+) -> io::Result<()>
+    ensures { OnOk result (to.new.items
+        ≡ to.old.items ++ context_line components.now context.now) }
+{
+    push_context_head(to, context)?;
+    push_order(to, components, context.order.as_slice())?;
+    writeln!(to, "")
+}
+
+// A context's name and its processors.
+#[tactic(auto, unfolding(crate::specs::CheckText::context_head))]
+fn push_context_head(to: &mut Vec<u8>, context: &ContextPlan) -> io::Result<()>
+    ensures { OnOk result (to.new.items ≡ to.old.items ++ context_head context.now) }
+{
+    write!(to, "context ")?;
+    push_name(to, context.name.as_str())?;
+    write!(to, " processors {} order", context.processors)
+}
+
+// The components of a context in their order.
+#[tactic(auto, unfolding(crate::specs::CheckText::order_text))]
+fn push_order(to: &mut Vec<u8>, components: &[DagComponent], order: &[u32]) -> io::Result<()>
+    ensures { OnOk result (to.new.items ≡ to.old.items ++ order_text components.now order.now) }
+{
+    if order.is_empty() {
+        return write!(to, " -");
+    }
+    for number in order {
+        push_spaced(to, name_in(components, *number))?;
+    }
+    Ok(())
+}
+
+// The name of the component with a number.
+fn name_in(components: &[DagComponent], number: u32) -> &str
+    ensures { result.now ≡ name_in components.now number }
+{
+    match components.get(number as usize) {
+        Some(component) => component.name.as_str(),
+        None => "",
+    }
+}
+
+// The unknown fields of the component files.
+pub(crate) fn push_configs(
+    to: &mut Vec<u8>,
+    components: &[DagComponent],
+    configs: &[Config],
+) -> io::Result<()>
+    requires { length configs.now ≡ length components.now }
+    ensures { OnOk result (to.new.items ≡ to.old.items ++ config_lines components.now configs.now) }
+{
+    for (place, component) in components.iter().enumerate() {
+        let file = component.config_file_path.as_str();
+        push_unknown(to, file, configs[place].unknown.as_slice())?;
+    }
+    Ok(())
+}
+
+// The unknown fields of a file.
+pub(crate) fn push_unknown(to: &mut Vec<u8>, file: &str, paths: &[Text]) -> io::Result<()>
+    ensures { OnOk result (to.new.items ≡ to.old.items ++ unknown_lines file.now paths.now) }
+{
+    for path in paths {
+        writeln!(to, "unknown {file} {}", path.as_str())?;
+    }
+    Ok(())
+}
