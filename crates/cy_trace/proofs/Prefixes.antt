@@ -13,7 +13,7 @@ use Rattle.cy_trace.specs.declared.error.TraceError.{TraceError}
 use Rattle.cy_trace.specs.declared.error.TraceError.TheVariants as trace_error
 use Rattle.cy_trace.specs.declared.fault.Fault.{Fault}
 use Rattle.cy_trace.specs.declared.fault.Fault.TheVariants as fault
-use Rattle.cy_trace.specs.TraceForm.{IsLine, AreLines, IsTrace, IsPrefix, IsFirstBad, line_text, whole_line, lines_of_trace, text_of_trace, cut_lines, onto_line}
+use Rattle.cy_trace.specs.TraceForm.{IsLine, AreLines, IsTrace, IsPrefix, IsFirstBad, ReadsTrace, line_text, whole_line, lines_of_trace, text_of_trace, cut_lines, onto_line}
 use Rattle.cy_trace.specs.declared.trace.Trace.{Trace}
 use Rattle.cy_trace.specs.declared.line.Line.{Line}
 use Rattle.cy_trace.specs.declared.building.Building.{Building}
@@ -252,9 +252,12 @@ pub failed : (bytes : List ℕ) (line before : ℕ) (f : Fault) (e : TraceError)
 failed bytes line before fault.Bad e reading is gives count bad = rw is (bad_at bytes line before count (bad gives))
 failed bytes line before fault.Memory e reading is gives count bad = inl is
 
-pub only_memory : (bytes : List ℕ) (e : TraceError) → Faulty bytes e → (t : Trace) → IsTrace t → bytes ≡ text_of_trace t → e ≡ trace_error.Memory
+only_memory : (bytes : List ℕ) (e : TraceError) → Faulty bytes e → (t : Trace) → IsTrace t → bytes ≡ text_of_trace t → e ≡ trace_error.Memory
 only_memory bytes e (inl is) t fits text = is
 only_memory bytes e (inr bad) t fits text = absurd (not_bad bytes bad.0 bad.2 t fits text)
+
+pub refused : (bytes : List ℕ) (e : TraceError) → Faulty bytes e → ReadsTrace bytes (Err e)
+refused bytes e faulty = record { text = tt; bad = faulty; back = λ t fits is. tt; memory = only_memory bytes e faulty }
 
 -- no two traces have one text
 pub texts_tell : (t u : Trace) → IsTrace t → IsTrace u → text_of_trace t ≡ text_of_trace u → t ≡ u

@@ -1,12 +1,14 @@
 -- The text of a trace, line by line.
 use Rattle.std.specs.Prelude.{ℕ, ℤ, pos, negsuc, ◌≡◌, ◌+◌, ◌<◌, ◌≤◌, ◌==◌, Bool, true, List, []}
 use Rattle.std.specs.Prelude.{◌∷◌, ◌++◌, length, take, map, Option, Some, None, if◌then◌else◌}
-use Rattle.std.specs.Prelude.{codes}
+use Rattle.std.specs.Prelude.{codes, ◌⊎◌, Result, IfOk, IfErr}
 use Rattle.std.specs.List.{flat_map}
 use Rattle.std.specs.Fmt.{decimal}
 use Rattle.std.specs.Str.{IsUtf8}
 use Rattle.cy_msg.specs.Quoted.{quoted}
 use Rattle.cy_trace.specs.TraceText.{value_text}
+use Rattle.cy_trace.specs.declared.error.TraceError.{TraceError}
+use Rattle.cy_trace.specs.declared.error.TraceError.TheVariants as trace_error
 use Rattle.cy_trace.specs.declared.trace.TraceOutput.{TraceOutput}
 use Rattle.cy_trace.specs.declared.trace.TraceComponent.{TraceComponent}
 use Rattle.cy_trace.specs.declared.trace.Trace.{Trace}
@@ -132,3 +134,13 @@ pub record IsFirstBad (text : List ℕ) (before : ℕ) : Type 0 where
   pub prefix : IsPrefix (take before (cut_lines text))
   pub bad : before < length (cut_lines text) → ¬ (IsPrefix (take (before + 1) (cut_lines text)))
   pub early : before ≡ length (cut_lines text) → ¬ (IsTraceText text)
+
+-- What reading a text answers: the trace whose text it is, or the first line with which it begins
+-- no trace's text. A trace's text is read as that trace, but for want of memory.
+pub record ReadsTrace (bytes : List ℕ) (result : Result Trace TraceError) : Type 0 where
+  pub text : IfOk result (λ t. IsTrace t × (bytes ≡ text_of_trace t))
+  pub bad : IfErr result (λ e. (e ≡ trace_error.Memory)
+      ⊎ ((before : ℕ) × (e ≡ trace_error.Bad (before + 1)) × IsFirstBad bytes before))
+  pub back : (t : Trace) → IsTrace t → bytes ≡ text_of_trace t → IfOk result (λ u. u ≡ t)
+  pub memory : (t : Trace) → IsTrace t → bytes ≡ text_of_trace t
+      → IfErr result (λ e. e ≡ trace_error.Memory)

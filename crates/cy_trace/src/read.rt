@@ -1,9 +1,7 @@
 // Reads the text of a trace.
-ghost use Rattle.std.specs.Prelude.{◌≡◌, ◌≤◌, ◌+◌, ◌⊎◌, ℕ, length, IfOk, IfErr};
-ghost use Rattle.cy_trace.specs.TraceForm.{IsFirstBad, IsTrace, text_of_trace};
+ghost use Rattle.std.specs.Prelude.{◌≡◌, ◌≤◌, length};
+ghost use Rattle.cy_trace.specs.TraceForm.{ReadsTrace};
 ghost use Rattle.cy_trace.specs.LineOrder.{error_at};
-ghost use Rattle.cy_trace.specs.declared.error.TraceError.TheVariants as trace_error;
-ghost use Rattle.cy_trace.specs.declared.trace.Trace.{Trace};
 
 use crate::building::Building;
 use crate::fault::Fault;
@@ -27,13 +25,7 @@ fn error_at(line: u32, fault: Fault) -> TraceError
 /// last one. `Memory` alone is free.
 pub fn read_trace(alloc: Global, bytes: &[u8]) -> Result<Trace, TraceError>
     requires { length bytes.now ≤ 4294967294 }
-    ensures text { IfOk result (λ t. IsTrace t × (bytes.now ≡ text_of_trace t)) }
-    ensures bad { IfErr result (λ e. (e ≡ trace_error.Memory)
-        ⊎ ((before : ℕ) × (e ≡ trace_error.Bad (before + 1)) × IsFirstBad bytes.now before)) }
-    ensures back { (t : Trace) → IsTrace t → bytes.now ≡ text_of_trace t
-        → IfOk result (λ u. u ≡ t) }
-    ensures memory { (t : Trace) → IsTrace t → bytes.now ≡ text_of_trace t
-        → IfErr result (λ e. e ≡ trace_error.Memory) }
+    ensures { ReadsTrace bytes.now result }
 {
     let mut building = Building::Start;
     let mut rest = bytes;
