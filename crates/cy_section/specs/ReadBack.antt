@@ -71,3 +71,10 @@ ChannelReadsBack = (at : ℕ) (c : Channel) → ChannelFits c → channel_at at 
 abbrev pub ChunkBodyReadsBack : Type 0
 ChunkBodyReadsBack = (at : ℕ) (ms : List BodyMessage) → AllByRecursion MessageFits ms
     → chunk_body_at at (chunk_body ms) ≡ Ok ms
+
+-- All four of them.
+pub record SectionsReadBack : Type 0 where
+  pub header : HeaderReadsBack
+  pub chunk_header : ChunkHeaderReadsBack
+  pub channel : ChannelReadsBack
+  pub chunk_body : ChunkBodyReadsBack

@@ -1,12 +1,8 @@
 // What holds of what is written and read: proved here, and nothing to run.
-ghost use Rattle.cy_section.specs.ReadBack.{HeaderReadsBack, ChunkHeaderReadsBack};
-ghost use Rattle.cy_section.specs.ReadBack.{ChannelReadsBack, ChunkBodyReadsBack};
+ghost use Rattle.cy_section.specs.ReadBack.{SectionsReadBack};
 
 /// The body of a section that was written is read as what was written, where its numbers and
 /// lengths have 64 bits.
 pub fn sections_read_back()
-    ensures header { HeaderReadsBack }
-    ensures chunk_header { ChunkHeaderReadsBack }
-    ensures channel { ChannelReadsBack }
-    ensures chunk_body { ChunkBodyReadsBack }
+    ensures { SectionsReadBack }
 {}

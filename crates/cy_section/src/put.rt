@@ -1,8 +1,8 @@
 // Writes the sections of a few numbers and texts: the header, a chunk's header, a channel.
-ghost use Rattle.std.specs.Prelude.{◌≡◌, ◌+◌, ◌-◌, ◌≤◌, ◌++◌, length, replicate, IfOk, OnOk, OnErr};
+ghost use Rattle.std.specs.Prelude.{◌≡◌, ◌-◌, ◌≤◌, ◌++◌, length, replicate, IfOk, OnOk, OnErr};
 ghost use Rattle.std.specs.Prelude.{IsOkUnless};
-ghost use Rattle.cy_section.specs.Section.{section, header_body, header_section, chunk_header_body};
-ghost use Rattle.cy_section.specs.Section.{channel_body};
+ghost use Rattle.cy_section.specs.Section.{section, header_body, header_section, PutsHeader};
+ghost use Rattle.cy_section.specs.Section.{chunk_header_body, channel_body};
 ghost use Rattle.cy_section.specs.declared.types.SectionKind.TheVariants as kind;
 
 use crate::head::{head_of, no_memory, put_section};
@@ -82,11 +82,7 @@ fn header_front(alloc: Global, value: &Header) -> Result<Writer, WireError>
 #[tactic(auto, using(crate::proofs::Lengths::zeros))]
 fn put_filled(to: &mut Piece, front: &[u8]) -> Result<(), SectionError>
     requires { length front.now ≤ 2064 }
-    ensures ok { OnOk result (to.new ≡ to.old
-        ++ (front.now ++ replicate (2064 - length front.now) 0)) }
-    ensures grown { OnOk result (length to.new ≡ length to.old + 2064) }
-    ensures err { OnErr result (to.new ≡ to.old) }
-    ensures only_memory { IsOkUnless result SectionError.Memory }
+    ensures { PutsHeader (front.now ++ replicate (2064 - length front.now) 0) to.old to.new result }
 {
     let zeros = [0; HEADER_SIZE];
     to.append(front, &zeros[front.len()..])
@@ -96,10 +92,7 @@ fn put_filled(to: &mut Piece, front: &[u8]) -> Result<(), SectionError>
 /// changes nothing.
 #[tactic(auto, using(crate::proofs::Lengths::header_fits))]
 pub fn put_header(to: &mut Piece, value: &Header) -> Result<(), SectionError>
-    ensures ok { OnOk result (to.new ≡ to.old ++ header_section value.now) }
-    ensures grown { OnOk result (length to.new ≡ length to.old + 2064) }
-    ensures err { OnErr result (to.new ≡ to.old) }
-    ensures only_memory { IsOkUnless result SectionError.Memory }
+    ensures { PutsHeader (header_section value.now) to.old to.new result }
 {
     let front = header_front(to.alloc(), value).map_err(no_memory)?;
     put_filled(to, front.done())

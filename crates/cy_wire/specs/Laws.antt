@@ -28,6 +28,13 @@ SmallIsItsByte = (n : ℕ) → n < 128 → varint_bytes n ≡ n ∷ []
 abbrev pub BytesFit : Type 0
 BytesFit = (n : ℕ) → n < 2 ^ 64 → All (λ byte. byte < 256) (varint_bytes n)
 
+-- The spelling of every number: how long it is, and what is in it.
+pub record TakesOneToTenBytes : Type 0 where
+  pub some : TakesAByte
+  pub most : TakesTenBytesAtMost
+  pub small : SmallIsItsByte
+  pub bytes : BytesFit
+
 -- Of a signed number nothing is lost.
 abbrev pub UnzigzagUndoes : Type 0
 UnzigzagUndoes = (value : ℤ) → unzigzag (zigzag value) ≡ value

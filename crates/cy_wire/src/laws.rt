@@ -1,7 +1,6 @@
 // What holds of the spelling of every number: proved here, and nothing to run.
-ghost use Rattle.cy_wire.specs.Laws.{ReadsBack, TakesAByte, TakesTenBytesAtMost, SmallIsItsByte};
-ghost use Rattle.cy_wire.specs.Laws.{BytesFit, UnzigzagUndoes, ZigzagFits, NumberReadsBack};
-ghost use Rattle.cy_wire.specs.Laws.{BytesReadBack};
+ghost use Rattle.cy_wire.specs.Laws.{ReadsBack, TakesOneToTenBytes, UnzigzagUndoes, ZigzagFits};
+ghost use Rattle.cy_wire.specs.Laws.{NumberReadsBack, BytesReadBack};
 
 /// A number that was written is the one that is read, whatever follows it.
 pub fn reads_back()
@@ -10,10 +9,7 @@ pub fn reads_back()
 
 /// Each number takes one to ten bytes, and one below 128 is its own byte.
 pub fn takes_one_to_ten_bytes()
-    ensures some { TakesAByte }
-    ensures most { TakesTenBytesAtMost }
-    ensures small { SmallIsItsByte }
-    ensures bytes { BytesFit }
+    ensures { TakesOneToTenBytes }
 {}
 
 /// A signed number of 64 bits is written as one of 64 bits, and nothing of it is lost.
