@@ -1,7 +1,7 @@
 // Reads a text.
-ghost use Rattle.std.specs.Prelude.{◌≡◌, ◌≤◌, ◌<◌, ◌^◌, ◌+◌, ◌⊎◌, length, IfOk, IfErr, Ok, Err};
+ghost use Rattle.std.specs.Prelude.{◌≡◌, ◌≤◌, ◌<◌, ◌^◌, ◌+◌, length};
 ghost use Rattle.cy_text.specs.Form.{read_text};
-ghost use Rattle.cy_msg.specs.Answer.{AnswersFault};
+ghost use Rattle.cy_msg.specs.Answer.{AnswersFault, AnswersOr};
 ghost use Rattle.cy_text.specs.Fault.{fault_in};
 ghost use Rattle.cy_text.specs.Places.{line_of, column_of, error_of, fields_of_text};
 ghost use Rattle.cy_text.specs.declared.error.TextError.TheVariants as text_error;
@@ -72,9 +72,7 @@ fn error_of(text: &[u8], fault: Fault) -> TextError
 /// `Memory` alone is free.
 pub fn parse(alloc: Global, bytes: &[u8]) -> Result<Tree, TextError>
     requires { length bytes.now ≤ 4294967294 }
-    ensures tree { IfOk result (λ tree. fields_of_text bytes.now ≡ Ok tree) }
-    ensures fault { IfErr result (λ error. (error ≡ text_error.Memory)
-        ⊎ (fields_of_text bytes.now ≡ Err error)) }
+    ensures { AnswersOr text_error.Memory (λ tree. tree) result (fields_of_text bytes.now) }
 {
     match read_text(alloc, bytes) {
         Ok(tree) => Ok(tree),
