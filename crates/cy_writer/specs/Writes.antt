@@ -1,10 +1,10 @@
 -- The writes of one file, in their order, and what stands where they stop.
 use Rattle.std.specs.Prelude.{ℕ, ◌+◌, ◌≡◌, ◌≤◌, List, [], ◌∷◌, ◌++◌, length, map, take, slice_get}
-use Rattle.std.specs.Prelude.{Option, Some, Result, OnOk, IsErrOf}
+use Rattle.std.specs.Prelude.{◌⊎◌, Option, Some, None, Result, OnOk, IsErrOf}
 use Rattle.std.specs.Option.{option_map}
-use Rattle.cy_store.specs.Files.{Files}
+use Rattle.cy_store.specs.Files.{Files, Holds}
 use Rattle.cy_store.specs.Write.{Write, Put, written_at, after_writes, LeavesIn}
-use Rattle.cy_store.specs.Store.{StoreView}
+use Rattle.cy_store.specs.Store.{StoreView, HasWriteCauses}
 use Rattle.cy_writer.specs.declared.error.WriteError.{WriteError}
 use Rattle.cy_writer.specs.declared.error.WriteError.TheVariants as write_error
 
@@ -45,3 +45,18 @@ pub record Makes {T : Type 0} (writes : List Write) (old new : StoreView)
       × StopsAt writes w old.files new.files
   pub starved : IsErrOf result write_error.Memory → StopsBefore writes old.files new.files
   pub broken : IsErrOf result write_error.Broken → new.files ≡ old.files
+
+-- A write was done, or nothing was.
+abbrev pub IsPutOrNot : Write → Option Files → Option Files → Type 0
+IsPutOrNot w old new = (new ≡ old) ⊎ (new ≡ option_map (after_writes (w ∷ [])) old)
+
+-- What a call leaves that puts pieces into a file. After Ok the file has at least so many bytes, and
+-- a store that tells its files still does; without memory its files are as `short` says.
+pub record PutsInto {T : Type 0} (name : List ℕ) (writes : List Write) (end : ℕ)
+    (short : Option Files → Type 0) (old new : StoreView)
+    (result : Result T WriteError) : Type 0 where
+  pub makes : Makes writes old new result
+  pub longer : OnOk result (Holds new.files name (λ bytes. end ≤ length bytes))
+  pub memory : IsErrOf result write_error.Memory → short new.files
+  pub told : OnOk result (new.files ≡ None → old.files ≡ None)
+  pub causes : HasWriteCauses (IsErrOf result write_error.Failed) old new

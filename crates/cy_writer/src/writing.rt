@@ -1,27 +1,23 @@
 // A writer that is not broken.
-ghost use Rattle.std.specs.Prelude.{◌≡◌, ◌≤◌, ◌<◌, ◌+◌, ◌++◌, ◌∷◌, ◌⊎◌, [], ℕ, List, None, Some};
-ghost use Rattle.std.specs.Prelude.{true, slice_get, length, map, vec_len, vec_capacity, IfOk};
-ghost use Rattle.std.specs.Prelude.{OnOk, OnErr, IsErrOf, IsOkUnless};
+ghost use Rattle.std.specs.Prelude.{◌≡◌, ◌≤◌, ◌<◌, ◌+◌, ◌++◌, ◌∷◌, [], None, Some, true};
+ghost use Rattle.std.specs.Prelude.{slice_get, length, map, vec_len, vec_capacity, IfOk, OnOk};
+ghost use Rattle.std.specs.Prelude.{OnErr, IsErrOf, IsOkUnless};
 ghost use Rattle.std.specs.List.{flat_map};
-ghost use Rattle.cy_store.specs.Files.{Holds};
-ghost use Rattle.std.specs.Option.{option_map};
-ghost use Rattle.cy_store.specs.Write.{Put, after_writes};
+ghost use Rattle.cy_store.specs.Write.{Put};
+ghost use Rattle.cy_store.specs.Store.{HasWriteCauses};
 ghost use Rattle.cy_section.specs.declared.types.Channel.{Channel};
-ghost use Rattle.cy_section.specs.declared.types.BodyMessage.{BodyMessage};
 ghost use Rattle.cy_section.specs.declared.types.SectionKind.TheVariants as kind;
 ghost use Rattle.cy_section.specs.Section.{section, index_body};
 ghost use Rattle.cy_section.specs.Chunks.{takes};
 ghost use Rattle.cy_section.specs.RecordText.{chunk_header_part, chunk_body_part};
-ghost use Rattle.cy_writer.specs.Writes.{Makes, puts_into};
-ghost use Rattle.cy_store.specs.Store.{HasWriteCauses};
+ghost use Rattle.cy_writer.specs.Writes.{Makes, PutsInto, IsPutOrNot, puts_into};
 ghost use Rattle.cy_writer.specs.Calls.{Begins, PutsChannel, LeavesOut, TakesMessage, Closes};
 ghost use Rattle.cy_writer.specs.Whole.{StaysWhole};
-ghost use Rattle.cy_writer.specs.Given.{Given, nothing_given, with_channel, with_chunk};
-ghost use Rattle.cy_writer.specs.Given.{with_message, message_on, IsLeft, IsTextOf, start_puts};
-ghost use Rattle.cy_writer.specs.Given.{channel_puts, chunk_puts, message_puts, close_puts};
+ghost use Rattle.cy_writer.specs.Given.{Given, nothing_given, with_chunk, with_message};
+ghost use Rattle.cy_writer.specs.Given.{message_on, chunk_puts, close_puts};
 ghost use Rattle.cy_writer.specs.Kept.{cache_of as counted_cache, channel_entry, header_entry};
 ghost use Rattle.cy_writer.specs.Kept.{body_entry};
-ghost use Rattle.cy_writer.specs.Stands.{StandsFor, IsNewName, IsHeld};
+ghost use Rattle.cy_writer.specs.Stands.{StandsFor, IsHeld};
 
 use crate::WriteError;
 use crate::chunk::{Chunk, NO_MESSAGES, counted};
@@ -177,23 +173,14 @@ impl Writing {
         requires held { IsHeld self.now (S.shows store.old).files }
         requires follows { prepared.now.body_position
             ≡ self.now.place + length prepared.now.header }
-        ensures makes { Makes (Put self.now.name self.now.place prepared.now.header
+        ensures puts { PutsInto self.now.name (Put self.now.name self.now.place prepared.now.header
             ∷ Put self.now.name prepared.now.body_position self.now.chunk.section ∷ [])
-            (S.shows store.old) (S.shows store.new) result }
-        ensures half { IsErrOf result WriteError.Memory
-            → ((S.shows store.new).files ≡ (S.shows store.old).files)
-            ⊎ ((S.shows store.new).files
-            ≡ option_map (after_writes (Put self.now.name self.now.place prepared.now.header ∷ []))
-            (S.shows store.old).files) }
-        ensures longer { OnOk result (Holds (S.shows store.new).files self.now.name
-            (λ new. prepared.now.body_position + length self.now.chunk.section ≤ length new)) }
+            (prepared.now.body_position + length self.now.chunk.section)
+            (λ files. IsPutOrNot (Put self.now.name self.now.place prepared.now.header)
+            (S.shows store.old).files files) (S.shows store.old) (S.shows store.new) result }
         ensures held { (IsErrOf result WriteError.Failed → ⊥)
             → IsHeld self.now (S.shows store.new).files }
-        ensures told { OnOk result ((S.shows store.new).files ≡ None → (S.shows store.old).files
-            ≡ None) }
         ensures unbroken { IsErrOf result WriteError.Broken → ⊥ }
-        ensures causes { HasWriteCauses (IsErrOf result WriteError.Failed) (S.shows store.old)
-            (S.shows store.new) }
     {
         let body = self.chunk.body_section();
         put_both(

@@ -40,5 +40,5 @@ returns g c =
       makes = makes;
       left = on_ok c.put.result (λ done. left_begun name old.files new.files done) makes.done;
       unbroken = c.put.ensures.unbroken;
-      causes = causes_then old mid new (c.create.ensures.cause.quiet (λ e. search rules)) (untold_map _ old.files mid.files made) c.put.ensures.causes;
+      causes = causes_then old mid new (c.create.ensures.cause.quiet (λ e. search rules)) (untold_map _ old.files mid.files made) c.put.ensures.puts.causes;
     }

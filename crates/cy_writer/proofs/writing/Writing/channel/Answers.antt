@@ -15,11 +15,11 @@ returns-in_err-put-clause-puts g c =
     let new = g.S.Store.shows c.put.new.store in
     record {
       given = λ given held closed gathered fresh. search rules;
-      memory = λ given held e. (search rules, c.put.ensures.untouched (search rules));
+      memory = λ given held e. (search rules, c.put.ensures.puts.memory (search rules));
       makes = λ given held. makes_same c.put.result c.from_residual-in_err-put.result (puts_into given.name (channel_puts given c.args.channel)) old new
           (search rules) (search rules) (λ e h. search rules);
       left = λ given held closed gathered left. search rules;
-      causes = causes_same old new c.put.ensures.causes (λ e. search rules) (λ e. search rules);
+      causes = causes_same old new c.put.ensures.puts.causes (λ e. search rules) (λ e. search rules);
     }
 
 pub returns-clause-puts : goal.returns-clause-puts
@@ -33,5 +33,5 @@ returns-clause-puts g c =
       makes = λ given held. search rules;
       left = λ given held closed gathered left.
           left_channel given c.args.channel old.files new.files closed gathered (search rules) left;
-      causes = causes_same old new c.put.ensures.causes (λ e. search rules) (λ e. search rules);
+      causes = causes_same old new c.put.ensures.puts.causes (λ e. search rules) (λ e. search rules);
     }

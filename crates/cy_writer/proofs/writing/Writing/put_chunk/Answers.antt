@@ -9,7 +9,7 @@ use Rattle.cy_writer.proofs.writing.Writing.put_chunk.Goals as goal
 
 pub returns-in_err-put_sections-clause-causes : goal.returns-in_err-put_sections-clause-causes
 returns-in_err-put_sections-clause-causes g c =
-    causes_same (g.S.Store.shows c.args.store.now) (g.S.Store.shows c.put_sections.new.store) c.put_sections.ensures.causes (λ e. search rules) (λ e. search rules)
+    causes_same (g.S.Store.shows c.args.store.now) (g.S.Store.shows c.put_sections.new.store) c.put_sections.ensures.puts.causes (λ e. search rules) (λ e. search rules)
 
 pub returns-in_err-put_sections-clause-starved : goal.returns-in_err-put_sections-clause-starved
 returns-in_err-put_sections-clause-starved g c given held e =
@@ -19,7 +19,7 @@ returns-in_err-put_sections-clause-starved g c given held e =
     let some = some_first c.args.self.now.chunk given.gathered held.chunk (λ e. omega (arith, e, c.requires.some)) in
     let Put_so : List ℕ → ℕ → List ℕ → Type 0 = λ name at header.
     (new.files ≡ old.files) ⊎ (new.files ≡ option_map (after_writes (Put name at header ∷ [])) old.files) in
-    let half = c.put_sections.ensures.half (search rules) in
+    let half = c.put_sections.ensures.puts.memory (search rules) in
     let named : Put_so given.name c.prepared.new.self.place c.in_ok-prepared.prepared.header =
     subst (λ (name : List ℕ). Put_so name c.prepared.new.self.place c.in_ok-prepared.prepared.header) there.name half in
     let placed : Put_so given.name (length (front_of given)) c.in_ok-prepared.prepared.header =

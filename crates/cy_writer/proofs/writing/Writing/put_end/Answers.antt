@@ -28,4 +28,4 @@ returns-clause-makes g c given held none =
     ∙ ap (λ (i : List ℕ). W given.name (length (front_of given)) i c.bytes-3.result.now) index_bytes
     ∙ ap (W given.name (length (front_of given)) (index_section (parts_of given.channels given.closed))) header_bytes
     ∙ sym (ap (puts_into given.name) (close_puts-none given none)) in
-    subst (λ (ws : List Write). Makes ws (g.S.Store.shows c.args.store.now) (g.S.Store.shows c.put_both.new.store) c.put_both.result) writes c.put_both.ensures.makes
+    subst (λ (ws : List Write). Makes ws (g.S.Store.shows c.args.store.now) (g.S.Store.shows c.put_both.new.store) c.put_both.result) writes c.put_both.ensures.puts.makes
