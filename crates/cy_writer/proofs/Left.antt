@@ -1,5 +1,5 @@
 -- The file that a writer leaves, and what its next puts make of that.
-use Rattle.std.proofs.Common.{◌≡◌, ℕ, zero, suc, ◌+◌, ◌-◌, ◌/◌, ◌≤◌, ◌<◌, ◌⊎◌, List, [], ◌∷◌, ◌++◌, length, take, drop, Option, Some, None, refl, sym, ap, ◌∙◌, subst, inl, inr, arith, length-append, append-nil, append_assoc}
+use Rattle.std.proofs.Common.{◌≡◌, ℕ, zero, suc, ◌+◌, ◌-◌, ◌/◌, ◌≤◌, ◌⊎◌, List, [], ◌∷◌, ◌++◌, length, take, drop, Option, Some, None, refl, sym, ap, ◌∙◌, subst, inl, inr, arith, length-append, append-nil, append_assoc}
 use Rattle.std.specs.Option.{option_map}
 use Rattle.std.proofs.lemmas.Bool.{cases_lt}
 use Rattle.std.proofs.lemmas.List.{length-drop, drop-drop, drop_all, drop_at, take_at, nil_from_length}
@@ -13,7 +13,7 @@ use Rattle.cy_section.specs.declared.types.ChunkHeader.{ChunkHeader}
 use Rattle.cy_section.specs.declared.types.BodyMessage.{BodyMessage}
 use Rattle.cy_section.specs.declared.types.Channel.{Channel}
 use Rattle.cy_section.specs.Section.{section, header_section, chunk_header_body, channel_body, chunk_body}
-use Rattle.cy_section.specs.RecordText.{parts_of, index_section, incomplete_header, complete_header, chunk_header_of, chunk_header_part, chunk_body_part, least_time, greatest_time, raw_size}
+use Rattle.cy_section.specs.RecordText.{parts_of, index_section, incomplete_header, complete_header, chunk_header_of, chunk_header_part, chunk_body_part, greatest_time, raw_size}
 use Rattle.cy_section.proofs.Lengths.{length-section}
 use Rattle.cy_writer.specs.Writes.{file_after, puts_into}
 use Rattle.cy_writer.specs.Given.{Given, with_channel, with_chunk, nothing_given, chunks_of, front_of, header_room, IsAsLeft, IsLeft, IsTextOf, start_puts, channel_puts, chunk_puts, close_puts}

@@ -1,5 +1,5 @@
 -- What a writer stands for, step by step.
-use Rattle.std.proofs.Common.{◌≡◌, ℕ, zero, suc, ◌+◌, Bool, true, false, List, [], ◌∷◌, ◌++◌, length, map, get_or, slice_set, Option, Some, refl, sym, ap, subst, ◌∙◌, inl, inr, ◌⊎◌, arith, append_assoc, append-nil, length-append}
+use Rattle.std.proofs.Common.{◌≡◌, ℕ, zero, suc, ◌+◌, Bool, true, false, List, [], ◌∷◌, ◌++◌, length, map, get_or, slice_set, Some, refl, sym, ap, ◌∙◌, inl, inr, ◌⊎◌, arith, append_assoc, append-nil, length-append}
 use Rattle.std.specs.Prelude.{slice_get, filter, if◌then◌else◌}
 use Rattle.std.specs.List.{flat_map}
 use Rattle.std.specs.Str.{bytes_eq}
@@ -8,8 +8,6 @@ use Rattle.std.proofs.lemmas.List.{flat_map_more}
 use Rattle.std.proofs.lemmas.List.Elements.{filter-append}
 use Rattle.std.proofs.lemmas.Option.{none-some, same_Some}
 use Rattle.std.proofs.lemmas.Slice.Eq.{bytes_eq-Decides}
-use Rattle.cy_store.specs.Files.{Files, Holds}
-use Rattle.cy_store.specs.Write.{written_at}
 use Rattle.cy_section.specs.declared.types.SectionKind.TheVariants as kind
 use Rattle.cy_section.specs.declared.types.Channel.{Channel}
 use Rattle.cy_section.specs.declared.types.BodyMessage.{BodyMessage}
@@ -18,7 +16,6 @@ use Rattle.cy_section.specs.Chunks.{messages_in, takes}
 use Rattle.cy_section.specs.RecordText.{Part, parts_of, bytes_of, channel_part, chunk_header_part, chunk_body_part, chunk_header_of, count_on, incomplete_header}
 use Rattle.cy_section.proofs.Lengths.{length-header_section}
 use Rattle.cy_writer.specs.Given.{Given, nothing_given, message_on, with_channel, with_chunk, with_message, kept_chunk, messages_of, front_of, chunk_parts}
-use Rattle.cy_writer.proofs.Puts.{holds_weaker, written_at-end}
 use Rattle.cy_writer.specs.Counted.{counted_with}
 use Rattle.cy_writer.proofs.Chunks.{counted_more}
 use Rattle.cy_writer.specs.Kept.{cache_of, kept_channels, kept_chunks, IsChunkOf}

@@ -1,7 +1,7 @@
 -- What the calls of a writer come to. `was` says what the writer stands for before a call, `is`
 -- what it stands for after it.
-use Rattle.std.specs.Prelude.{ℕ, ◌≡◌, ◌≤◌, ◌∷◌, ◌⊎◌, [], List, Some, slice_get, Result, IfOk, OnOk}
-use Rattle.std.specs.Prelude.{OnErr, IsErrOf}
+use Rattle.std.specs.Prelude.{ℕ, ◌≡◌, ◌∷◌, ◌⊎◌, [], List, Some, slice_get, Result, IfOk, OnOk}
+use Rattle.std.specs.Prelude.{IsErrOf}
 use Rattle.cy_store.specs.Files.{Holds}
 use Rattle.cy_store.specs.Write.{Create}
 use Rattle.cy_store.specs.Store.{StoreView, HasWriteCauses}

@@ -1,6 +1,6 @@
 -- The writes of one file, in their order, and what stands where they stop.
-use Rattle.std.specs.Prelude.{ℕ, ◌+◌, ◌≡◌, ◌≤◌, List, [], ◌∷◌, ◌++◌, length, map, take, slice_get}
-use Rattle.std.specs.Prelude.{◌⊎◌, Option, Some, None, Result, OnOk, IsErrOf}
+use Rattle.std.specs.Prelude.{ℕ, ◌+◌, ◌≡◌, ◌≤◌, List, [], ◌∷◌, ◌++◌, length, map}
+use Rattle.std.specs.Prelude.{◌⊎◌, Option, None, Result, OnOk, IsErrOf}
 use Rattle.std.specs.Option.{option_map}
 use Rattle.cy_store.specs.Files.{Files, Holds}
 use Rattle.cy_store.specs.Write.{Write, Put, written_at, after_writes, LeavesIn}

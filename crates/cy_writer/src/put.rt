@@ -16,7 +16,8 @@ pub(crate) fn put<S: Store>(
 ) -> Result<(), WriteError>
     requires { Holds (S.shows store.old).files name.now (λ old. at ≤ length old) }
     ensures puts { PutsInto name.now (Put name.now at bytes.now ∷ []) (at + length bytes.now)
-        (λ files. files ≡ (S.shows store.old).files) (S.shows store.old) (S.shows store.new) result }
+        (λ files. files ≡ (S.shows store.old).files) (S.shows store.old) (S.shows store.new)
+        result }
     ensures kept { (n : ℕ) → Holds (S.shows store.old).files name.now (λ old. n ≤ length old)
         → (IsErrOf result WriteError.Failed → ⊥) → Holds (S.shows store.new).files name.now
         (λ new. n ≤ length new) }

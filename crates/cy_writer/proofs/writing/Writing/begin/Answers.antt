@@ -1,4 +1,4 @@
-use Rattle.std.proofs.Common.{rules, ◌≡◌, ◌≤◌, ◌∷◌, [], length, ◌∙◌, arith}
+use Rattle.std.proofs.Common.{rules, ◌≡◌, ◌≤◌, ◌∷◌, [], length, arith}
 use Rattle.std.specs.Option.{option_map}
 use Rattle.cy_store.specs.Write.{Create, Put, after_write}
 use Rattle.cy_section.specs.Section.{header_section}

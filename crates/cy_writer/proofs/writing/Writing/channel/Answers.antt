@@ -1,10 +1,7 @@
-use Rattle.std.proofs.Common.{rules, ◌≡◌, ◌∷◌, [], List, ℕ, refl, ap, ◌∙◌, subst}
-use Rattle.cy_store.specs.Write.{Write, Put}
-use Rattle.cy_section.specs.declared.types.SectionKind.TheVariants as kind
-use Rattle.cy_section.specs.Section.{section, channel_body}
-use Rattle.cy_writer.specs.Writes.{Makes, puts_into}
-use Rattle.cy_writer.specs.Given.{front_of, channel_puts}
-use Rattle.cy_writer.proofs.Puts.{causes_same, makes_same, on_ok}
+use Rattle.std.proofs.Common.{rules, refl}
+use Rattle.cy_writer.specs.Writes.{puts_into}
+use Rattle.cy_writer.specs.Given.{channel_puts}
+use Rattle.cy_writer.proofs.Puts.{causes_same, makes_same}
 use Rattle.cy_writer.proofs.Standing.{stands_channel}
 use Rattle.cy_writer.proofs.Left.{left_channel}
 use Rattle.cy_writer.proofs.writing.Writing.channel.Goals as goal

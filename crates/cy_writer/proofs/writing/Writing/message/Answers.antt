@@ -1,4 +1,4 @@
-use Rattle.std.proofs.Common.{rules, ◌≡◌, ◌∙◌, Bool, true, false, refl, inl, inr, slice_get, Some}
+use Rattle.std.proofs.Common.{rules, ◌≡◌, ◌∙◌, true, false, refl, inl, inr, slice_get, Some}
 use Rattle.cy_section.specs.declared.types.Channel.{Channel}
 use Rattle.cy_section.specs.Chunks.{takes}
 use Rattle.cy_writer.specs.declared.error.WriteError.TheVariants as write_error
