@@ -9,8 +9,8 @@ use cy_msg::{NamesError, Text};
 use std::alloc::{AllocError, AllocFailed};
 use thiserror::Error;
 
-/// Why a DAG, a component file or the wiring of both is refused. Components are numbered from 0, in the order of the
-/// file. A count above the greatest `u32` is given as that.
+/// Why a DAG, a component file or the wiring of both is refused. Components are numbered from 0, in
+/// the order of the file. A count above the greatest `u32` is given as that.
 #[derive(Debug, Drop, Error)]
 pub enum DagError {
     /// A field's value isn't of its kind.

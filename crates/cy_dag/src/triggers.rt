@@ -1,8 +1,6 @@
 // Tests who writes which channel, and who triggers whom.
-ghost use Rattle.std.specs.Prelude.{◌≡◌, ◌≤◌, ◌<◌, length, slice_get, Some, None, IfOk, IfErr, IsOkUnless};
-ghost use Rattle.std.specs.Prelude.{OnOk, IfSome, All, option_and_then};
-ghost use Rattle.std.specs.List.{position};
-ghost use Rattle.std.specs.Str.{bytes_eq};
+ghost use Rattle.std.specs.Prelude.{◌≡◌, ◌≤◌, ◌<◌, length, None, IfOk, IfErr, IsOkUnless};
+ghost use Rattle.std.specs.Prelude.{OnOk, IfSome, option_and_then};
 ghost use Rattle.cy_dag.specs.Refusals.{IsDue};
 ghost use Rattle.cy_dag.specs.Triggers.{after, cycle_refusal, earlier_writer, is_at, met};
 ghost use Rattle.cy_dag.specs.Triggers.{trigger_in, trigger_of, triggers_of, way_back};

@@ -4,9 +4,9 @@ ghost use Rattle.std.specs.Prelude.{map, IfOk, OnOk, IsOkUnless};
 ghost use Rattle.std.specs.List.{filter};
 ghost use Rattle.std.specs.List.Sorted.{IsPermutation};
 ghost use Rattle.cy_msg.specs.Placement.{scan_of};
-ghost use Rattle.cy_sched.specs.Placing.{HaveOrders, IsOrder, IsPlaced, group_head, head_of};
-ghost use Rattle.cy_sched.specs.Placing.{heads_of, homes_of, members_of, numbers_below, pinned_head};
-ghost use Rattle.cy_sched.specs.Placing.{choreography_heads, is_member};
+ghost use Rattle.cy_sched.specs.Placing.{HaveOrders, IsOrder, IsPlaced, choreography_heads};
+ghost use Rattle.cy_sched.specs.Placing.{group_head, head_of, heads_of, is_member, members_of};
+ghost use Rattle.cy_sched.specs.Placing.{numbers_below, pinned_head};
 ghost use Rattle.cy_sched.specs.Ranks.{HaveRanks};
 ghost use Rattle.cy_sched.specs.SchedFile.{IsPlaceable};
 ghost use Rattle.cy_sched.specs.declared.error.SchedError.TheVariants as sched_error;
@@ -167,8 +167,16 @@ fn push_member(
     if home.context != context {
         return Ok(());
     }
-    ranks.push((Reverse(home.priority), component as u32))?;
+    ranks.push(rank(home.priority, component as u32))?;
     Ok(())
+}
+
+// The rank of a component with this priority.
+fn rank(priority: u32, component: u32) -> Rank
+    ensures priority { result.0.0 ≡ priority }
+    ensures component { result.1 ≡ component }
+{
+    (Reverse(priority), component)
 }
 
 // The components of ranks.
