@@ -4,7 +4,7 @@ use cy_msg::Text;
 use cy_sched::{Group, PinTask, Sched, SchedError, read_sched};
 use std::test::Fail;
 
-const CLASSIC: &str = "scheduler_conf {
+pub(crate) const CLASSIC: &str = "scheduler_conf {
   policy: \"classic\"
   process_level_cpuset: \"0-7,16-23\" # all threads are in the cpuset
   threads: [
