@@ -2,5 +2,4 @@ pub mod Sums
 pub mod Slices
 pub mod Meeting
 pub mod Sound
-pub mod ReadFront
 pub mod Refusals

@@ -6,7 +6,6 @@
 #![tactic(auto)]
 
 mod error;
-mod file;
 mod header;
 mod known;
 mod loading;

@@ -1,14 +1,14 @@
 // A record that was read.
 ghost use Rattle.std.specs.Prelude.{◌≡◌, ◌<◌, ◌+◌, length, take, drop, slice_get, IfSome, Some};
 ghost use Rattle.std.specs.Prelude.{IfOk};
-ghost use Rattle.cy_reader.specs.Load.{LoadAnswer};
+ghost use Rattle.cy_reader.specs.Load.{FileAnswer, LoadAnswer};
 
 use crate::LoadError;
-use crate::file::read_file;
+use crate::header::LONGEST_FILE;
 use crate::loading::{Loading, read_record};
 use cy_msg::Bytes;
 use cy_section::{Channel, Header};
-use cy_store::Store;
+use cy_store::{ReadFile, Store, read_file};
 use std::alloc::Global;
 use std::marker::Model;
 
@@ -32,12 +32,22 @@ impl Model for Record {
     ghost invariant = { λ r. IsSound r.loading };
 }
 
+// The bytes of a file, which are not more than are read.
+fn file_bytes<S: Store>(alloc: Global, store: &mut S, name: &str) -> Result<Bytes, LoadError>
+    ensures { FileAnswer (S.shows store.old) (S.shows store.new) name.now result }
+{
+    match read_file(alloc, store, name, LONGEST_FILE)? {
+        ReadFile::Whole(bytes) => Ok(Bytes::from_vec(bytes)),
+        ReadFile::Longer { size } => Err(LoadError::FileTooLarge { count: size }),
+    }
+}
+
 /// Reads the record of a name. It reads the file whole, in pieces of at most 1,048,576 bytes, and
 /// keeps it beside 24 bytes a message.
 pub fn load<S: Store>(alloc: Global, store: &mut S, name: &str) -> Result<Record, LoadError>
     ensures { LoadAnswer (S.shows store.old) (S.shows store.new) name.now result }
 {
-    let file = read_file(alloc, store, name)?;
+    let file = file_bytes(alloc, store, name)?;
     let (header, loading) = read_record(alloc, file.as_slice())?;
     Ok(Record {
         file,

@@ -1,7 +1,8 @@
 use Rattle.std.proofs.Common.{inl, inr, sym, ap, ◌∙◌}
 use Rattle.std.proofs.lemmas.Result.{err_from_is_err_and}
 use Rattle.cy_reader.specs.Record.{Contents, record_of}
-use Rattle.cy_reader.proofs.Refusals.{held_by, err_is, no_err}
+use Rattle.cy_store.proofs.Pieces.{held_by}
+use Rattle.cy_reader.proofs.Refusals.{err_is, no_err}
 use Rattle.cy_reader.proofs.record.load.Goals as goal
 
 pub returns-in_err-header : goal.returns-in_err-header
@@ -14,7 +15,7 @@ returns-in_err-header g c =
         | inl memory ↦ inl memory
         | inr wrong ↦ inr (inr (held_by (g.S.Store.shows c.args.store.now).files c.args.name.now (λ file e. ap record_of (e ∙ sym c.as_slice.ensures) ∙ wrong) c.in_ok-file.ensures.whole))
       ];
-      same = c.read_file.ensures.same;
+      same = c.file_bytes.ensures.same;
       causes = record {
         faults_stay = causes.faults_stay;
         misses_stay = causes.misses_stay;

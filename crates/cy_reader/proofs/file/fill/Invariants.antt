@@ -1,9 +1,0 @@
-use Rattle.std.proofs.Common.{◌-◌, length}
-use Rattle.cy_reader.proofs.ReadFront.{IsReadTo}
-use Rattle.cy_reader.proofs.file.fill.Given as goal
-
-abbrev pub invariant-loop-read : goal.invariant-loop-read
-invariant-loop-read g l = IsReadTo l.name l.filled l.buffer (g.S.Store.shows l.fn.store) (g.S.Store.shows l.store)
-
-abbrev pub decreases-loop-read : goal.decreases-loop-read
-decreases-loop-read g l = length l.buffer - l.filled
