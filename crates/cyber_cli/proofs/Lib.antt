@@ -1,6 +1,5 @@
 pub mod Files
 pub mod Fronts
-pub mod ReadFront
 pub mod RecordPuts
 pub mod Telling
 pub mod Alone

@@ -15,7 +15,6 @@ mod make;
 mod one;
 mod pass;
 mod play;
-mod read;
 mod recording;
 mod status;
 mod still;

@@ -10,14 +10,13 @@ ghost use Rattle.cyber_cli.specs.Views.{words_of, name_of_file, PassEnds};
 ghost use Rattle.cyber_cli.specs.Made.{IsMade, writes_of};
 
 use crate::failure::{Failure, File};
-use crate::input::{Input, read_input};
+use crate::input::{Input, LONGEST_INPUT, read_input};
 use crate::make::{Made, make};
-use crate::read::read_file;
 use crate::recording::write_record;
 use crate::words::Pass;
 use crate::write::write_file;
 use cy_msg::Bytes;
-use cy_store::{Store, StoreError};
+use cy_store::{ReadFile, Store, StoreError, read_file};
 use cy_writer::WriteError;
 use std::alloc::Global;
 
@@ -84,9 +83,9 @@ pub fn run_pass<S: Store>(alloc: Global, pass: &Pass, store: &mut S) -> Result<B
     requires { is_pass (words_of pass.now) ≡ true }
     ensures { PassEnds (words_of pass.now) (S.shows store.old) (S.shows store.new) result }
 {
-    let bytes = match read_file(alloc, store, pass.input) {
-        Ok(Some(bytes)) => bytes,
-        Ok(None) => return Err(Failure::NotBuilt),
+    let bytes = match read_file(alloc, store, pass.input, LONGEST_INPUT) {
+        Ok(ReadFile::Whole(bytes)) => bytes,
+        Ok(ReadFile::Longer { .. }) => return Err(Failure::NotBuilt),
         Err(error) => return Err(failed_at(File::Input, error)),
     };
     let Some(input) = read_input(alloc, pass, bytes.as_slice())? else {

@@ -1,9 +1,0 @@
-use Rattle.std.proofs.Common.{◌-◌, length}
-use Rattle.cyber_cli.proofs.ReadFront.{IsReadTo}
-use Rattle.cyber_cli.proofs.read.fill.Given as goal
-
-abbrev pub invariant-loop-read : goal.invariant-loop-read
-invariant-loop-read g l = IsReadTo l.name l.filled l.buffer (g.S.Store.shows l.fn.store) (g.S.Store.shows l.store)
-
-abbrev pub decreases-loop-read : goal.decreases-loop-read
-decreases-loop-read g l = length l.buffer - l.filled
