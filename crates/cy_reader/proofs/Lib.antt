@@ -1,4 +1,5 @@
 pub mod Sums
+pub mod Tied
 pub mod Slices
 pub mod Meeting
 pub mod Sound

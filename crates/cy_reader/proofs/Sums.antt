@@ -42,11 +42,11 @@ length_passed p (y ∷ xs) x e passes = by_first (p y) refl (length_passed p xs 
         let same : prefix_len (λ z. not (p z)) (xs ++ x ∷ []) ≡ length xs = more (omega arith) passes in
         rw is (omega arith)
 
-none_found : (b : Bool) (i : ℕ) → (if b then Some i else None) ≡ None → b ≡ false
+pub none_found : (b : Bool) (i : ℕ) → (if b then Some i else None) ≡ None → b ≡ false
 none_found true i e = absurd cc
 none_found false i e = refl
 
-position-added : {X : Type 0} (p : X → Bool) (xs : List X) (x : X) → position p xs ≡ None → p x ≡ true → position p (xs ++ x ∷ []) ≡ Some (length xs)
+pub position-added : {X : Type 0} (p : X → Bool) (xs : List X) (x : X) → position p xs ≡ None → p x ≡ true → position p (xs ++ x ∷ []) ≡ Some (length xs)
 position-added p xs x e passes =
     let many : length xs ≤ prefix_len (λ y. not (p y)) xs = ltb-false _ _ (none_found _ _ e) in
     let all : prefix_len (λ y. not (p y)) xs ≡ length xs = omega (arith, prefix_len-le-length (λ y. not (p y)) xs) in

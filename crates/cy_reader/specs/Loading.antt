@@ -1,25 +1,34 @@
 -- What the program keeps of a file while it reads it.
 use Rattle.std.specs.Prelude.{◌≡◌, ◌⊎◌, ℕ, ◌≤◌, ◌<◌, ◌^◌, All, List, length, take, drop, map}
 use Rattle.std.specs.Prelude.{sum_by, Result, Ok, Err}
+use Rattle.std.specs.HashMap.{get_by_text}
 use Rattle.cy_reader.specs.declared.error.LoadError.{LoadError}
 use Rattle.cy_reader.specs.declared.error.LoadError.TheVariants as load_error
 use Rattle.cy_reader.specs.declared.known.Known.{Known}
+use Rattle.cy_reader.specs.declared.channels.Channels.{Channels}
 use Rattle.cy_reader.specs.declared.loading.Message.{Message}
 use Rattle.cy_reader.specs.declared.loading.Loading.{Loading}
 use Rattle.cy_reader.specs.Record as meaning
-use Rattle.cy_reader.specs.Record.{Contents, size_of, most_channels, largest_channels}
+use Rattle.cy_reader.specs.Record.{Contents, size_of, number_of, most_channels}
+use Rattle.cy_reader.specs.Record.{largest_channels}
 
 -- Channels within their limits.
 pub record AreSmall (channels : List Known) : Type 0 where
   pub few : length channels ≤ most_channels
   pub small : sum_by size_of channels ≤ largest_channels
 
+-- The number that is kept for a name is the channel's, and none is for any other name.
+abbrev pub IsTied : Channels → Type 0
+IsTied channels = (name : List ℕ) → get_by_text channels.numbers name
+    ≡ number_of name channels.list.items
+
 -- What is kept of a file at any moment: fewer messages than 32 bits count, each on a channel that
 -- is kept.
 pub record IsSound (l : Loading) : Type 0 where
-  pub small : AreSmall l.channels.items
+  pub small : AreSmall l.channels.list.items
+  pub tied : IsTied l.channels
   pub few : length l.messages.items < 2 ^ 32
-  pub numbered : All (λ m. m.channel < length l.channels.items) l.messages.items
+  pub numbered : All (λ m. m.channel < length l.channels.list.items) l.messages.items
 
 -- A message, with the content that stands in the file.
 abbrev pub message_of : List ℕ → Message → meaning.Message
@@ -32,7 +41,7 @@ message_of file m = record {
 
 abbrev pub contents_of : List ℕ → Loading → Contents
 contents_of file l = record {
-  channels = l.channels.items;
+  channels = l.channels.list.items;
   messages = map
       (message_of file) l.messages.items;
 }

@@ -5,6 +5,7 @@
 //! together.
 #![tactic(auto)]
 
+mod channels;
 mod error;
 mod header;
 mod known;

@@ -1,13 +1,10 @@
 // Reads the channels and messages of a file's sections.
-ghost use Rattle.std.specs.Prelude.{◌≡◌, ◌≢◌, ◌≤◌, ◌<◌, ◌+◌, ◌++◌, ◌∷◌, [], ◌^◌, length, set};
-ghost use Rattle.std.specs.Prelude.{sum_by, slice_get, IfOk, IfErr, OnOk, IsOkUnless, Some, Ok};
-ghost use Rattle.std.specs.Prelude.{true};
+ghost use Rattle.std.specs.Prelude.{◌≢◌, ◌≤◌, ◌<◌, ◌^◌, length, IfOk, IfErr, OnOk};
 ghost use Rattle.cy_msg.specs.Answer.{AnswersOr};
 ghost use Rattle.cy_section.specs.Messages.{seen};
-ghost use Rattle.cy_reader.specs.Record.{size_of, number_of, within_limits, named_only};
-ghost use Rattle.cy_reader.specs.Record.{channel_given, name_mentioned, message_met, body_met};
+ghost use Rattle.cy_reader.specs.Record.{message_met, body_met};
 ghost use Rattle.cy_reader.specs.Record.{section_met, sections_met, record_of, header_end, nothing};
-ghost use Rattle.cy_reader.specs.Loading.{AreSmall, IsSound, Leads, Kept, contents_of};
+ghost use Rattle.cy_reader.specs.Loading.{IsSound, Leads, Kept, contents_of};
 ghost use Rattle.cy_reader.specs.Stands.{Stands};
 ghost use Rattle.cy_reader.specs.Sections.{sections_from};
 ghost use Rattle.cy_reader.specs.Found.{seen_section};
@@ -16,30 +13,21 @@ ghost use Rattle.cy_section.specs.Reading.{messages_of};
 ghost use Rattle.std.specs.Result.{ForOk, ForErr};
 
 use crate::LoadError;
+use crate::channels::{Channels, give, mention};
 use crate::header::file_header;
-use crate::known::Known;
 use crate::sections::{SectionView, section_at};
-use cy_msg::{Bytes, Text};
 use cy_section::{
-    Channel, HEADER_SIZE, Header, MessageReader, MessageView, SectionKind, read_channel,
-    read_chunk_header,
+    HEADER_SIZE, Header, MessageReader, MessageView, SectionKind, read_channel, read_chunk_header,
 };
 use std::alloc::Global;
 
-/// The greatest number of channels, and of bytes in their names, types and descriptions together.
-const MOST_CHANNELS: usize = 1_024;
-
-const LARGEST_CHANNELS: u64 = 268_435_456;
-
-/// The longest name of a channel and the longest content of a message, in bytes.
-const LONGEST_NAME: u64 = 4_096;
-
+/// The longest content of a message, in bytes.
 const LONGEST_CONTENT: u64 = 268_435_456;
 
 // What was met so far.
 #[derive(Drop)]
 pub(crate) struct Loading {
-    pub channels: Vec<Known>,
+    pub channels: Channels,
     pub messages: Vec<Message>,
 }
 
@@ -50,147 +38,6 @@ pub(crate) struct Message {
     pub time: u64,
     pub start: u32,
     pub length: u32,
-}
-
-// The bytes of the names, types and descriptions of all channels.
-fn total_of(channels: &[Known]) -> u64
-    requires { sum_by size_of channels.now < 2 ^ 62 }
-    ensures { result ≡ sum_by size_of channels.now }
-{
-    let mut total = 0;
-    for known in channels {
-        total += size_of(known);
-    }
-    total
-}
-
-// The bytes of a channel's name, type and description.
-fn size_of(known: &Known) -> u64
-    requires { size_of known.now < 2 ^ 62 }
-    ensures { result ≡ size_of known.now }
-{
-    let channel = &known.channel;
-    let name = channel.name.as_str().len() as u64;
-    let message_type = channel.message_type.as_str().len() as u64;
-    let proto_desc = channel.proto_desc.as_slice().len() as u64;
-    name + message_type + proto_desc
-}
-
-// The number of a channel's name.
-fn number_of(channels: &[Known], name: &str) -> Option<usize>
-    ensures { result ≡ number_of name.now channels.now }
-{
-    channels
-        .iter()
-        .position(|known| known.channel.name.as_str() == name)
-}
-
-// Adds a channel, within the limits.
-#[tactic(auto, using(crate::proofs::Sums::sums))]
-fn add(channels: &mut Vec<Known>, known: Known) -> Result<(), LoadError>
-    requires small { AreSmall channels.old.items }
-    requires size { size_of known < 2 ^ 62 }
-    ensures list { Leads result channels.new.items (within_limits (channels.old.items ++ known
-        ∷ [])) }
-    ensures still_small { OnOk result (AreSmall channels.new.items) }
-    ensures grown { OnOk result (length channels.old.items ≤ length channels.new.items) }
-    ensures not_store { IfErr result (λ e. e ≢ LoadError.Store) }
-{
-    if channels.len() == MOST_CHANNELS {
-        return Err(LoadError::TooManyChannels);
-    }
-    let count = total_of(channels.as_slice()) + size_of(&known);
-    if count > LARGEST_CHANNELS {
-        return Err(LoadError::ChannelsTooLarge { count });
-    }
-    channels.push(known)?;
-    Ok(())
-}
-
-// Puts a channel in the place of one that only messages named.
-#[tactic(auto, using(crate::proofs::Sums::sums))]
-fn replace(channels: &mut Vec<Known>, place: usize, known: Known) -> Result<(), LoadError>
-    requires small { AreSmall channels.old.items }
-    requires size { size_of known < 2 ^ 62 }
-    requires there { place < length channels.old.items }
-    ensures list { Leads result channels.new.items
-        (within_limits (set channels.old.items place known)) }
-    ensures still_small { OnOk result (AreSmall channels.new.items) }
-    ensures grown { OnOk result (length channels.old.items ≤ length channels.new.items) }
-    ensures not_store { IfErr result (λ e. e ≢ LoadError.Store) }
-{
-    let rest = total_of(channels.as_slice()) - size_of(&channels[place]);
-    let count = rest + size_of(&known);
-    if count > LARGEST_CHANNELS {
-        return Err(LoadError::ChannelsTooLarge { count });
-    }
-    channels[place] = known;
-    Ok(())
-}
-
-// Keeps the channel of a section: of two sections with one name the first counts.
-#[tactic(auto, unfolding(crate::specs::Record::channel_given))]
-fn give(channels: &mut Vec<Known>, channel: Channel) -> Result<(), LoadError>
-    requires small { AreSmall channels.old.items }
-    requires size { size_of record { channel = channel; has_section = true } < 2 ^ 62 }
-    ensures list { Leads result channels.new.items (channel_given channel channels.old.items) }
-    ensures still_small { OnOk result (AreSmall channels.new.items) }
-    ensures grown { OnOk result (length channels.old.items ≤ length channels.new.items) }
-    ensures not_store { IfErr result (λ e. e ≢ LoadError.Store) }
-{
-    let count = channel.name.as_str().len() as u64;
-    if count > LONGEST_NAME {
-        return Err(LoadError::NameTooLong { count });
-    }
-    let number = number_of(channels.as_slice(), channel.name.as_str());
-    let known = Known {
-        channel,
-        has_section: true,
-    };
-    match number {
-        None => add(channels, known),
-        Some(place) if channels[place].has_section => Ok(()),
-        Some(place) => replace(channels, place, known),
-    }
-}
-
-// A channel that only a message named so far.
-fn named_only(alloc: Global, name: &str) -> Result<Known, LoadError>
-    ensures known { IfOk result (λ k. k ≡ named_only name.now) }
-    ensures only_memory { IsOkUnless result LoadError.Memory }
-{
-    let channel = Channel {
-        name: Text::from_string(String::from_str(alloc, name)?),
-        message_type: Text::from_string(String::new(alloc)),
-        proto_desc: Bytes::from_vec(Vec::new(alloc)),
-    };
-    Ok(Known {
-        channel,
-        has_section: false,
-    })
-}
-
-// The number of the channel that a message names, which is kept from now on.
-#[tactic(auto, unfolding(crate::specs::Record::name_mentioned), using(crate::proofs::Sums::places))]
-fn mention(alloc: Global, channels: &mut Vec<Known>, name: &str) -> Result<usize, LoadError>
-    requires { AreSmall channels.old.items }
-    ensures list { Leads result channels.new.items (name_mentioned name.now channels.old.items) }
-    ensures number { IfOk result (λ n. number_of name.now channels.new.items ≡ Some n) }
-    ensures below { IfOk result (λ n. n < length channels.new.items) }
-    ensures still_small { OnOk result (AreSmall channels.new.items) }
-    ensures grown { OnOk result (length channels.old.items ≤ length channels.new.items) }
-    ensures not_store { IfErr result (λ e. e ≢ LoadError.Store) }
-{
-    let count = name.len() as u64;
-    if count > LONGEST_NAME {
-        return Err(LoadError::NameTooLong { count });
-    }
-    if let Some(number) = number_of(channels.as_slice(), name) {
-        return Ok(number);
-    }
-    let number = channels.len();
-    add(channels, named_only(alloc, name)?)?;
-    Ok(number)
 }
 
 // Keeps a message.
@@ -219,7 +66,7 @@ fn message_met(
         return Err(LoadError::Memory);
     }
     loading.messages.push(Message {
-        channel: channel as u32,
+        channel,
         time: message.time,
         start: message.content_at as u32,
         length: count as u32,
@@ -298,7 +145,7 @@ fn section_met(
         SectionKind::ChunkBody => body_met(alloc, file, loading, section),
         SectionKind::Channel => {
             let channel = read_channel(alloc, section.body, at)?;
-            give(&mut loading.channels, channel)
+            give(alloc, &mut loading.channels, channel)
         }
     }
 }
@@ -314,7 +161,7 @@ fn sections_met(alloc: Global, file: &[u8]) -> Result<Loading, LoadError>
     ensures not_store { IfErr result (λ e. e ≢ LoadError.Store) }
 {
     let mut loading = Loading {
-        channels: Vec::new(alloc),
+        channels: Channels::new(alloc),
         messages: Vec::new(alloc),
     };
     let mut at = HEADER_SIZE;

@@ -61,7 +61,7 @@ impl Record {
     pub fn channels(&self) -> u32
         ensures { result ≡ length self.now.channels }
     {
-        self.loading.channels.len() as u32
+        self.loading.channels.list.len() as u32
     }
 
     /// The channel of a number. One that only messages name has an empty type and description.
@@ -70,7 +70,7 @@ impl Record {
         ensures { IfSome (slice_get self.now.channels number) (λ known. result.now
             ≡ known.channel) }
     {
-        &self.loading.channels[number as usize].channel
+        &self.loading.channels.list[number as usize].channel
     }
 
     /// The number of messages.

@@ -15,4 +15,4 @@ pub returns-in_ok-channel-in-Channel-clause-met : goal.returns-in_ok-channel-in-
 returns-in_ok-channel-in-Channel-clause-met c =
     let contents = contents_of c.args.file.now c.args.loading.now in
     rw (channel_section (seen_section c.args.section.now) c.in_ok-channel-in-Channel.channel contents c.in-Channel.is c.in_ok-channel-in-Channel.ensures)
-    (channel_leads c.give.result c.in_ok-channel-in-Channel.channel contents c.give.new.channels.items c.give.ensures.list)
+    (channel_leads c.give.result c.in_ok-channel-in-Channel.channel contents c.give.new.channels.list.items c.give.ensures.list)

@@ -12,11 +12,12 @@ loop-loading-init c = (
   omega arith,
   c.requires.long,
   record {
-    small = rw c.new.ensures.items (record { few = omega arith; small = omega arith });
+    small = rw c.new.ensures.none (record { few = omega arith; small = omega arith });
+    tied = c.new.ensures.tied;
     few = rw c.new-2.ensures.items (omega arith);
     numbered = rw c.new-2.ensures.items (All-nil _);
   },
-  rw (c.new.ensures.items, c.new-2.ensures.items) refl,
+  rw (c.new.ensures.none, c.new-2.ensures.items) refl,
 )
 
 pub returns-in_err-section-clause-met : goal.returns-in_err-section-clause-met

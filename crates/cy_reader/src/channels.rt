@@ -1,0 +1,209 @@
+// The channels that are met, within the limits.
+ghost use Rattle.std.specs.Prelude.{◌≡◌, ◌≢◌, ◌≤◌, ◌<◌, ◌+◌, ◌++◌, ◌∷◌, [], ◌^◌, length, set};
+ghost use Rattle.std.specs.Prelude.{sum_by, slice_get, IfOk, IfErr, OnOk, IsOkUnless, Some, None};
+ghost use Rattle.std.specs.Prelude.{Ok, true};
+ghost use Rattle.cy_reader.specs.Record.{size_of, number_of, within_limits, named_only};
+ghost use Rattle.cy_reader.specs.Record.{channel_given, name_mentioned};
+ghost use Rattle.cy_reader.specs.Loading.{AreSmall, IsTied, Leads};
+
+use crate::LoadError;
+use crate::known::Known;
+use cy_msg::{Bytes, Text};
+use cy_section::Channel;
+use std::alloc::Global;
+use std::collections::HashMap;
+
+/// The greatest number of channels, and of bytes in their names, types and descriptions together.
+const MOST_CHANNELS: usize = 1_024;
+
+const LARGEST_CHANNELS: u64 = 268_435_456;
+
+/// The longest name of a channel, in bytes.
+const LONGEST_NAME: u64 = 4_096;
+
+// The channels that were met so far, and the number of each name.
+#[derive(Drop)]
+pub(crate) struct Channels {
+    pub list: Vec<Known>,
+    pub numbers: HashMap<String, u32>,
+}
+
+impl Channels {
+    // No channels.
+    pub(crate) fn new(alloc: Global) -> Self
+        ensures none { result.list.items ≡ [] }
+        ensures tied { IsTied result }
+    {
+        Channels {
+            list: Vec::new(alloc),
+            numbers: HashMap::new(alloc),
+        }
+    }
+}
+
+// The bytes of the names, types and descriptions of all channels.
+fn total_of(channels: &[Known]) -> u64
+    requires { sum_by size_of channels.now < 2 ^ 62 }
+    ensures { result ≡ sum_by size_of channels.now }
+{
+    let mut total = 0;
+    for known in channels {
+        total += size_of(known);
+    }
+    total
+}
+
+// The bytes of a channel's name, type and description.
+fn size_of(known: &Known) -> u64
+    requires { size_of known.now < 2 ^ 62 }
+    ensures { result ≡ size_of known.now }
+{
+    let channel = &known.channel;
+    let name = channel.name.as_str().len() as u64;
+    let message_type = channel.message_type.as_str().len() as u64;
+    let proto_desc = channel.proto_desc.as_slice().len() as u64;
+    name + message_type + proto_desc
+}
+
+// The number of a channel's name.
+fn number_of(channels: &Channels, name: &str) -> Option<u32>
+    requires { IsTied channels.now }
+    ensures { result ≡ number_of name.now channels.now.list.items }
+{
+    channels.numbers.get(name).copied()
+}
+
+// Adds a channel of a new name, within the limits.
+#[tactic(auto, using(crate::proofs::Sums::sums))]
+fn add(alloc: Global, channels: &mut Channels, known: Known) -> Result<(), LoadError>
+    requires small { AreSmall channels.old.list.items }
+    requires tied { IsTied channels.old }
+    requires size { size_of known < 2 ^ 62 }
+    requires fresh { number_of known.channel.name channels.old.list.items ≡ None }
+    ensures list { Leads result channels.new.list.items
+        (within_limits (channels.old.list.items ++ known ∷ [])) }
+    ensures still_small { OnOk result (AreSmall channels.new.list.items) }
+    ensures still_tied { OnOk result (IsTied channels.new) }
+    ensures grown { OnOk result
+        (length channels.old.list.items ≤ length channels.new.list.items) }
+    ensures not_store { IfErr result (λ e. e ≢ LoadError.Store) }
+{
+    if channels.list.len() == MOST_CHANNELS {
+        return Err(LoadError::TooManyChannels);
+    }
+    let count = total_of(channels.list.as_slice()) + size_of(&known);
+    if count > LARGEST_CHANNELS {
+        return Err(LoadError::ChannelsTooLarge { count });
+    }
+    let number = channels.list.len() as u32;
+    let name = String::from_str(alloc, known.channel.name.as_str())?;
+    channels.numbers.insert(name, number)?;
+    channels.list.push(known)?;
+    Ok(())
+}
+
+// Puts a channel in the place of one of its name that only messages named.
+#[tactic(auto, using(crate::proofs::Sums::sums, crate::proofs::Sums::places))]
+fn replace(channels: &mut Channels, number: u32, known: Known) -> Result<(), LoadError>
+    requires small { AreSmall channels.old.list.items }
+    requires tied { IsTied channels.old }
+    requires size { size_of known < 2 ^ 62 }
+    requires there { number_of known.channel.name channels.old.list.items ≡ Some number }
+    ensures list { Leads result channels.new.list.items
+        (within_limits (set channels.old.list.items number known)) }
+    ensures still_small { OnOk result (AreSmall channels.new.list.items) }
+    ensures still_tied { OnOk result (IsTied channels.new) }
+    ensures grown { OnOk result
+        (length channels.old.list.items ≤ length channels.new.list.items) }
+    ensures not_store { IfErr result (λ e. e ≢ LoadError.Store) }
+{
+    let place = number as usize;
+    let rest = total_of(channels.list.as_slice()) - size_of(&channels.list[place]);
+    let count = rest + size_of(&known);
+    if count > LARGEST_CHANNELS {
+        return Err(LoadError::ChannelsTooLarge { count });
+    }
+    channels.list[place] = known;
+    Ok(())
+}
+
+// Keeps the channel of a section: of two sections with one name the first counts.
+#[tactic(auto, unfolding(crate::specs::Record::channel_given))]
+pub(crate) fn give(
+    alloc: Global,
+    channels: &mut Channels,
+    channel: Channel,
+) -> Result<(), LoadError>
+    requires small { AreSmall channels.old.list.items }
+    requires tied { IsTied channels.old }
+    requires size { size_of record { channel = channel; has_section = true } < 2 ^ 62 }
+    ensures list { Leads result channels.new.list.items
+        (channel_given channel channels.old.list.items) }
+    ensures still_small { OnOk result (AreSmall channels.new.list.items) }
+    ensures still_tied { OnOk result (IsTied channels.new) }
+    ensures grown { OnOk result
+        (length channels.old.list.items ≤ length channels.new.list.items) }
+    ensures not_store { IfErr result (λ e. e ≢ LoadError.Store) }
+{
+    let count = channel.name.as_str().len() as u64;
+    if count > LONGEST_NAME {
+        return Err(LoadError::NameTooLong { count });
+    }
+    let number = number_of(channels, channel.name.as_str());
+    let known = Known {
+        channel,
+        has_section: true,
+    };
+    match number {
+        None => add(alloc, channels, known),
+        Some(place) if channels.list[place as usize].has_section => Ok(()),
+        Some(place) => replace(channels, place, known),
+    }
+}
+
+// A channel that only a message named so far.
+fn named_only(alloc: Global, name: &str) -> Result<Known, LoadError>
+    ensures known { IfOk result (λ k. k ≡ named_only name.now) }
+    ensures only_memory { IsOkUnless result LoadError.Memory }
+{
+    let channel = Channel {
+        name: Text::from_string(String::from_str(alloc, name)?),
+        message_type: Text::from_string(String::new(alloc)),
+        proto_desc: Bytes::from_vec(Vec::new(alloc)),
+    };
+    Ok(Known {
+        channel,
+        has_section: false,
+    })
+}
+
+// The number of the channel that a message names, which is kept from now on.
+#[tactic(auto, unfolding(crate::specs::Record::name_mentioned), using(crate::proofs::Sums::places))]
+pub(crate) fn mention(
+    alloc: Global,
+    channels: &mut Channels,
+    name: &str,
+) -> Result<u32, LoadError>
+    requires small { AreSmall channels.old.list.items }
+    requires tied { IsTied channels.old }
+    ensures list { Leads result channels.new.list.items
+        (name_mentioned name.now channels.old.list.items) }
+    ensures number { IfOk result (λ n. number_of name.now channels.new.list.items ≡ Some n) }
+    ensures below { IfOk result (λ n. n < length channels.new.list.items) }
+    ensures still_small { OnOk result (AreSmall channels.new.list.items) }
+    ensures still_tied { OnOk result (IsTied channels.new) }
+    ensures grown { OnOk result
+        (length channels.old.list.items ≤ length channels.new.list.items) }
+    ensures not_store { IfErr result (λ e. e ≢ LoadError.Store) }
+{
+    let count = name.len() as u64;
+    if count > LONGEST_NAME {
+        return Err(LoadError::NameTooLong { count });
+    }
+    if let Some(number) = number_of(channels, name) {
+        return Ok(number);
+    }
+    let number = channels.list.len() as u32;
+    add(alloc, channels, named_only(alloc, name)?)?;
+    Ok(number)
+}
