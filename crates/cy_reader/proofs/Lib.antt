@@ -4,3 +4,4 @@ pub mod Slices
 pub mod Meeting
 pub mod Sound
 pub mod Refusals
+pub mod Playing

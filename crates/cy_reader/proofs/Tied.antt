@@ -24,7 +24,7 @@ position-skipped : {X : Type 0} (p : X → Bool) (xs : List X) (y : X) → p y �
 position-skipped p xs y e =
     let longer : length (xs ++ y ∷ []) ≡ length xs + 1 = omega (arith, length-append xs (y ∷ [])) in
     let pushed : position_or_len p (xs ++ y ∷ []) ≡ cond (eqb (position_or_len p xs) (length xs)) (length xs + 1) (position_or_len p xs)
-        = position_or_len_push p xs y ∙ ap (λ (b : Bool). cond (eqb (position_or_len p xs) (length xs)) (length xs + cond b 0 1) (position_or_len p xs)) e in
+    = position_or_len_push p xs y ∙ ap (λ (b : Bool). cond (eqb (position_or_len p xs) (length xs)) (length xs + cond b 0 1) (position_or_len p xs)) e in
     rw (pushed, longer) (skipped (position_or_len p xs) (length xs) (prefix_len-le-length (λ x. not (p x)) xs))
 
 -- an item in the place of one that passes alike

@@ -4,3 +4,5 @@ pub mod Found
 pub mod Loading
 pub mod Stands
 pub mod Load
+pub mod Play
+pub mod Uses

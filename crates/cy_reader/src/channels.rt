@@ -179,11 +179,7 @@ fn named_only(alloc: Global, name: &str) -> Result<Known, LoadError>
 
 // The number of the channel that a message names, which is kept from now on.
 #[tactic(auto, unfolding(crate::specs::Record::name_mentioned), using(crate::proofs::Sums::places))]
-pub(crate) fn mention(
-    alloc: Global,
-    channels: &mut Channels,
-    name: &str,
-) -> Result<u32, LoadError>
+pub(crate) fn mention(alloc: Global, channels: &mut Channels, name: &str) -> Result<u32, LoadError>
     requires small { AreSmall channels.old.list.items }
     requires tied { IsTied channels.old }
     ensures list { Leads result channels.new.list.items

@@ -7,12 +7,15 @@
 
 mod channels;
 mod error;
+mod filter;
 mod header;
 mod known;
 mod loading;
+mod play;
 mod record;
 mod sections;
 
 pub use error::LoadError;
+pub use filter::{ChannelSet, Filter};
 pub use known::Known;
 pub use record::{Record, load};

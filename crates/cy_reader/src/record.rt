@@ -2,6 +2,7 @@
 ghost use Rattle.std.specs.Prelude.{◌≡◌, ◌<◌, ◌+◌, length, take, drop, slice_get, IfSome, Some};
 ghost use Rattle.std.specs.Prelude.{IfOk};
 ghost use Rattle.cy_reader.specs.Load.{FileAnswer, LoadAnswer};
+ghost use Rattle.cy_reader.specs.Play.{message_at, time_at};
 
 use crate::LoadError;
 use crate::header::LONGEST_FILE;
@@ -89,6 +90,25 @@ impl Record {
     {
         let message = self.loading.messages[place as usize];
         (message.channel, message.time)
+    }
+
+    // A message's time, 0 where there is none at the place.
+    pub(crate) fn time_at(&self, place: u32) -> u64
+        ensures { result ≡ time_at self.now place }
+    {
+        match self.loading.messages.get(place as usize) {
+            Some(message) => message.time,
+            None => 0,
+        }
+    }
+
+    // The channel of a message.
+    pub(crate) fn channel_at(&self, place: u32) -> u32
+        requires { place < length self.now.messages }
+        ensures channel { result ≡ (message_at self.now place).channel }
+        ensures below { result < length self.now.channels }
+    {
+        self.message(place).0
     }
 
     /// A message's content: a slice of the file.

@@ -4,3 +4,5 @@
 
 #[cfg(test)]
 mod loading;
+#[cfg(test)]
+mod play;

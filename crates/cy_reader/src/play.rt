@@ -1,0 +1,244 @@
+// The messages of a record that are played, in order.
+ghost use Rattle.std.specs.Prelude.{◌≡◌, ◌≤◌, ◌<◌, ◌+◌, ◌^◌, ◌++◌, ℕ, [], ◌∷◌, All, length};
+ghost use Rattle.std.specs.Prelude.{IfOk, OnOk, IsOkUnless};
+ghost use Rattle.std.specs.List.{Contains};
+ghost use Rattle.std.specs.List.Sorted.{IsPermutation, IsSortedByKey, IsStableByKey};
+ghost use Rattle.std.specs.Ordering.{nat_cmp};
+ghost use Rattle.cy_msg.specs.Once.{IsOnce};
+ghost use Rattle.cy_reader.specs.Play.{AreNamed, PlayAnswer, all_places, time_at, number_in};
+ghost use Rattle.cy_reader.specs.Play.{message_at, tokens_behind};
+ghost use Rattle.cy_reader.specs.Uses.{AreUses, use_of, use_at, number_by, played_by};
+ghost use Rattle.cy_reader.specs.Uses.{shadowed_by};
+
+use crate::{ChannelSet, Filter, LoadError, Record};
+use cy_msg::{Items, Names, PlayList, Token};
+use cy_wire::whole_of;
+use std::alloc::Global;
+
+/// The most messages that are played.
+const MOST_PLAYED: usize = 4_194_304;
+
+// What becomes of the messages of one channel.
+#[derive(Clone, Copy)]
+pub(crate) struct ChannelUse {
+    // Its number by the names.
+    pub number: u32,
+    // Whether the filter lets it through.
+    pub is_let: bool,
+    // Whether a component writes it.
+    pub is_written: bool,
+}
+
+// The messages that pass the filter: the places of those that are played, in file order, and how
+// many of the others there are.
+#[derive(Drop)]
+struct Passed {
+    places: Vec<u32>,
+    shadowed: u32,
+}
+
+// The number of a name that is kept.
+fn number_of(names: &Names, name: &str) -> u32
+    requires once { IsOnce names.now }
+    requires kept { Contains names.now name.now }
+    ensures { result ≡ number_in names.now name.now }
+{
+    match names.number_of(name) {
+        Some(number) => number,
+        None => 0,
+    }
+}
+
+// The use of a channel.
+fn use_of(names: &Names, filter: &Filter, written: &ChannelSet, name: &str) -> ChannelUse
+    requires once { IsOnce names.now }
+    requires kept { Contains names.now name.now }
+    ensures { result ≡ use_of
+        (record { names = names.now; filter = filter.now; written = written.now }) name.now }
+{
+    let number = number_of(names, name);
+    ChannelUse {
+        number,
+        is_let: filter.lets_channel(name),
+        is_written: written.has(number),
+    }
+}
+
+// The uses of all channels of a record.
+fn uses_of(
+    alloc: Global,
+    whole: &Record,
+    names: &Names,
+    filter: &Filter,
+    written: &ChannelSet,
+) -> Result<Vec<ChannelUse>, LoadError>
+    requires once { IsOnce names.now }
+    requires named { AreNamed whole.now names.now }
+    ensures uses { IfOk result (λ u. AreUses whole.now
+        (record { names = names.now; filter = filter.now; written = written.now }) u.items) }
+    ensures only_memory { IsOkUnless result LoadError.Memory }
+{
+    let mut uses = Vec::with_capacity(alloc, whole.channels() as usize)?;
+    for channel in 0..whole.channels() {
+        let name = whole.channel(channel).name.as_str();
+        uses.push(use_of(names, filter, written, name))?;
+    }
+    Ok(uses)
+}
+
+// The use of the message at a place.
+fn use_at(whole: &Record, uses: &[ChannelUse], place: u32) -> ChannelUse
+    requires there { place < length whole.now.messages }
+    requires all { length uses.now ≡ length whole.now.channels }
+    ensures found { result ≡ use_at uses.now whole.now place }
+    ensures below { (message_at whole.now place).channel < length whole.now.channels }
+{
+    uses[whole.channel_at(place) as usize]
+}
+
+impl Passed {
+    // Takes the message at a place, if it passes.
+    #[tactic(auto, using(crate::proofs::Playing::takes))]
+    fn take(
+        &mut self,
+        whole: &Record,
+        uses: &[ChannelUse],
+        filter: &Filter,
+        place: u32,
+    ) -> Result<(), LoadError>
+        requires there { place < length whole.now.messages }
+        requires all { length uses.now ≡ length whole.now.channels }
+        requires few { self.old.shadowed ≤ place }
+        requires countable { place + 1 < 2 ^ 32 }
+        ensures places { OnOk result (self.new.places.items ≡ self.old.places.items
+            ++ played_by uses.now filter.now whole.now (place ∷ [])) }
+        ensures shadowed { OnOk result (self.new.shadowed ≡ self.old.shadowed
+            + shadowed_by uses.now filter.now whole.now (place ∷ [])) }
+        ensures below { (message_at whole.now place).channel < length whole.now.channels }
+        ensures only_memory { IsOkUnless result LoadError.Memory }
+    {
+        let found = use_at(whole, uses, place);
+        let is_let = found.is_let && filter.lets_time(whole.time_at(place));
+        match (is_let, found.is_written) {
+            (true, true) => {
+                self.shadowed += 1;
+                Ok(())
+            }
+            (true, false) => {
+                self.places.push(place)?;
+                Ok(())
+            }
+            (false, _) => Ok(()),
+        }
+    }
+}
+
+// The messages that pass.
+fn passing(
+    alloc: Global,
+    whole: &Record,
+    uses: &[ChannelUse],
+    filter: &Filter,
+) -> Result<Passed, LoadError>
+    requires { length uses.now ≡ length whole.now.channels }
+    ensures places { IfOk result (λ p. p.places.items
+        ≡ played_by uses.now filter.now whole.now (all_places whole.now)) }
+    ensures shadowed { IfOk result (λ p. p.shadowed
+        ≡ shadowed_by uses.now filter.now whole.now (all_places whole.now)) }
+    ensures below { OnOk result ((n : ℕ) → n < length whole.now.messages
+        → (message_at whole.now n).channel < length whole.now.channels) }
+    ensures only_memory { IsOkUnless result LoadError.Memory }
+{
+    let mut passed = Passed {
+        places: Vec::new(alloc),
+        shadowed: 0,
+    };
+    for place in 0..whole.messages() {
+        passed.take(whole, uses, filter, place)?;
+    }
+    Ok(passed)
+}
+
+// Puts places in the order of their times: equal times stay in file order.
+fn sort(whole: &Record, places: &mut Vec<u32>) -> Result<(), LoadError>
+    ensures same { IsPermutation places.old.items places.new.items }
+    ensures by_time { OnOk result (IsSortedByKey (time_at whole.now) nat_cmp places.new.items) }
+    ensures stable { OnOk result (IsStableByKey (time_at whole.now) nat_cmp places.old.items
+        places.new.items) }
+    ensures only_memory { IsOkUnless result LoadError.Memory }
+{
+    places.sort_by_key(|place| whole.time_at(*place))?;
+    Ok(())
+}
+
+// The messages at these places, numbered on each channel. There are so many names.
+fn tokens_of(
+    alloc: Global,
+    whole: &Record,
+    uses: &[ChannelUse],
+    names: u32,
+    places: &[u32],
+) -> Result<Vec<Token>, LoadError>
+    requires all { length uses.now ≡ length whole.now.channels }
+    requires numbers { All (λ u. u.number < names) uses.now }
+    requires there { All (λ place. place < length whole.now.messages) places.now }
+    requires few { length places.now + 1 < 2 ^ 32 }
+    ensures tokens { IfOk result (λ t. t.items ≡ tokens_behind (number_by uses.now whole.now)
+        whole.now [] places.now) }
+    ensures only_memory { IsOkUnless result LoadError.Memory }
+{
+    let mut tokens = Vec::with_capacity(alloc, places.len())?;
+    let mut counts = vec![in alloc; 0u32; names as usize]?;
+    for place in places {
+        let number = use_at(whole, uses, *place).number;
+        let count = &mut counts[number as usize];
+        *count += 1;
+        tokens.push(Token {
+            channel: number,
+            seq: *count,
+            time: whole.time_at(*place),
+            whole: whole_of(whole.content(*place)),
+            origin: Some(tokens.len() as u32),
+        })?;
+    }
+    Ok(tokens)
+}
+
+impl Record {
+    /// The messages that are played by a filter, where components write some channels. Messages
+    /// stand in the order of their times, and equal times in file order; each channel's are
+    /// numbered from 1. A message that passes the filter and stands on a channel that a component
+    /// writes is not played, and counted as shadowed. More than 4,194,304 to be played are
+    /// `TooManyPlayed`; there is no other error but `Memory`. Every channel of the record stands in
+    /// `names`.
+    pub fn play_list(
+        &self,
+        alloc: Global,
+        names: &Names,
+        filter: &Filter,
+        written: &ChannelSet,
+    ) -> Result<PlayList, LoadError>
+        requires { AreNamed self.now names.now }
+        ensures { PlayAnswer self.now
+            (record { names = names.now; filter = filter.now; written = written.now }) result }
+    {
+        let count = names.count();
+        let uses = uses_of(alloc, self, names, filter, written)?;
+        let Passed {
+            mut places,
+            shadowed,
+        } = passing(alloc, self, &uses, filter)?;
+        if places.len() > MOST_PLAYED {
+            return Err(LoadError::TooManyPlayed {
+                count: places.len() as u64,
+            });
+        }
+        sort(self, &mut places)?;
+        let tokens = tokens_of(alloc, self, &uses, count, &places)?;
+        Ok(PlayList {
+            tokens: Items::new(tokens),
+            places: Items::new(places),
+            shadowed,
+        })
+    }
+}
