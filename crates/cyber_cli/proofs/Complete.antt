@@ -1,18 +1,19 @@
--- Where the words are in form, the file is there and played, and no count rose, the answer is Done or Memory.
-use Rattle.std.proofs.Common.{◌≡◌, ℕ, List, Option, Some, None, refl, sym, ◌∙◌, subst, inl, inr}
+-- Where no count of faults rose, the answer is what the files call for, or Memory.
+use Rattle.std.proofs.Common.{◌≡◌, ℕ, List, Option, Some, None, refl, sym, ap, ◌∙◌, subst, inl, inr}
 use Rattle.std.specs.Prelude.{◌⊎◌, IsSomeAnd}
 use Rattle.std.specs.FinMap.{get}
-use Rattle.cy_store.specs.Files.{Files, Holds, Lacks}
-use Rattle.cy_store.specs.Store.{StoreView, Rose, StoreRose}
+use Rattle.std.proofs.lemmas.Option.{MatchOption-at_some}
+use Rattle.cy_store.specs.Files.{Files}
+use Rattle.cy_store.specs.Store.{StoreView, Rose}
 use Rattle.cyber_cli.specs.declared.status.Status.{Status}
 use Rattle.cyber_cli.specs.declared.status.Status.TheVariants.{Done, Refused, Usage, StoreFault, SinkFault, Limit, Memory}
 use Rattle.cyber_cli.specs.declared.input.Input.{Input}
-use Rattle.cyber_cli.specs.Words.{PassWords, pass_of}
+use Rattle.cyber_cli.specs.Words.{PassWords}
 use Rattle.cyber_cli.specs.Input.{IsInput}
-use Rattle.cyber_cli.specs.Due.{Sinks, Answers, IsDue, IsTold, IsUntold, IsPlayed}
-
-same_words : (p q : PassWords) (words : List (List ℕ)) → pass_of words ≡ Some p → pass_of words ≡ Some q → p ≡ q
-same_words p q words e f = let g : Some p ≡ Some q = sym e ∙ f in cc
+use Rattle.cyber_cli.specs.Command.{Command, Pass, Work}
+use Rattle.cyber_cli.specs.Pass.{IsPlayed}
+use Rattle.cyber_cli.specs.Outcome.{IsAccepted, IsTaken, IsRefused, IsAbsent}
+use Rattle.cyber_cli.specs.Due.{Sinks, Answers, IsDueFor, IsMisused, IsTold, IsUntold, CallsFor, IsComplete}
 
 -- a status other than SinkFault and Memory is answered where it is due
 told_so : (due : Status) (line : List ℕ) (old new : Sinks) (answer : Status) → IsTold due line old new answer → (answer ≡ due) ⊎ ((answer ≡ SinkFault) ⊎ (answer ≡ Memory))
@@ -39,44 +40,86 @@ no_sink_fault : (due : Status) (line : List ℕ) (old new : Sinks) (answer : Sta
 no_sink_fault due line old new answer t e out err =
     elim (untold_rose due line old new (subst (IsTold due line old new) e t)) [ inl r ↦ out r | inr r ↦ err r ]
 
--- the file is there, so it isn't missed, and it is played, so it isn't refused
-due_done : (words : List (List ℕ)) (p : PassWords) (old new : StoreView) (due : Status) (line : List ℕ) → pass_of words ≡ Some p → IsPlayed p old.files
-    → (Rose old.faults new.faults → ⊥) → IsDue words old new due line → (due ≡ Done) ⊎ (due ≡ Memory)
-due_done words p old new Done line asked played store d = inl refl
-due_done words p old new Refused line asked played store (q, same, refused) =
-    absurd (not_refused old.files q (subst (λ (x : PassWords). IsPlayed x old.files) (same_words p q words asked same) played) refused.not_input)
-  where
-    not_refused : (files : Option Files) (q : PassWords) → IsPlayed q files → Holds files q.input (λ bytes. (i : Input) → IsInput q bytes i → ⊥) → ⊥
-    not_refused None q (bytes, i, held, input) none = absurd held
-    not_refused (Some m) q (bytes, i, held, input) none =
-        found (get m q.input) held none
-      where
-        found : (o : Option (List ℕ)) → o ≡ Some bytes → IsSomeAnd o (λ b. (i : Input) → IsInput q b i → ⊥) → ⊥
-        found None e n = cc
-        found (Some b) e n = let same : bytes ≡ b = cc in n i (subst (λ (x : List ℕ). IsInput q x i) same input)
-due_done words p old new Usage line asked played store d = absurd (let e : None ≡ Some p = sym d.0 ∙ asked in cc)
-due_done words p old new StoreFault line asked played store (q, same, faulted) =
-    absurd (not_faulted (subst (λ (x : PassWords). IsPlayed x old.files) (same_words p q words asked same) played) faulted.rose)
-  where
-    not_lacking : (files : Option Files) → IsPlayed q files → Lacks files q.input → ⊥
-    not_lacking None (bytes, i, held, input) lacks = absurd held
-    not_lacking (Some m) (bytes, i, held, input) lacks = let e : None ≡ Some bytes = sym lacks ∙ held in absurd (cc)
+-- what an accepted work says of the files
+held_is : (o : Option (List ℕ)) (bytes : List ℕ) → IsSomeAnd o (λ told. told ≡ bytes) → o ≡ Some bytes
+held_is None bytes h = absurd h
+held_is (Some b) bytes h = ap (λ (x : List ℕ). Some x) h
 
-    not_faulted : IsPlayed q old.files → StoreRose old new q.input → ⊥
-    not_faulted played (inl rose) = store rose
-    not_faulted played (inr (rose, lacks)) = not_lacking old.files played lacks
-due_done words p old new SinkFault line asked played store d = absurd d
-due_done words p old new Limit line asked played store d = absurd d
-due_done words p old new Memory line asked played store d = inr refl
+taken : (c : Command) (m : Files) (work : Work) → IsAccepted c (Some m) work → IsTaken c m
+taken (Pass p) m work a = (a.bytes, a.input, held_is (get m p.input) a.bytes a.held, a.played)
 
-pub complete : (words : List (List ℕ)) (p : PassWords) (old_store new_store : StoreView) (old new : Sinks) (answer : Status) → Answers words old_store new_store old new answer
-    → pass_of words ≡ Some p → IsPlayed p old_store.files → (Rose old_store.faults new_store.faults → ⊥)
-    → (Rose old.out.faults new.out.faults → ⊥) → (Rose old.err.faults new.err.faults → ⊥) → (answer ≡ Done) ⊎ (answer ≡ Memory)
-complete words p old_store new_store old new answer a asked played store out err =
+-- what is due is called for, where no faults rose
+called : (c : Command) (old new : StoreView) (m : Files) (due : Status) (line : List ℕ) → old.files ≡ Some m → (Rose old.faults new.faults → ⊥)
+    → IsDueFor c old new due line → (due ≡ Memory) ⊎ CallsFor c m due
+called c old new m Done line told quiet d = inr (taken c m d.work (subst (λ (files : Option Files). IsAccepted c files d.work) told d.accepted))
+called c old new m Refused line told quiet d = inr (line, subst (λ (files : Option Files). IsRefused c files Refused line) told d.refused)
+called c old new m Usage line told quiet d = absurd d
+called c old new m StoreFault line told quiet (inl read) =
+    elim read.rose [
+      | inl rose ↦ absurd (quiet rose)
+      | inr missed ↦ inr (read.name, subst (λ (files : Option Files). IsAbsent c files read.name) told missed.1)
+    ]
+called c old new m StoreFault line told quiet (inr written) =
+    elim written.rose [
+      | inl rose ↦ absurd (quiet rose)
+      | inr missed ↦ absurd (let e : None ≡ Some m = sym missed.1 ∙ told in cc)
+    ]
+called c old new m SinkFault line told quiet d = absurd d
+called c old new m Limit line told quiet d = inr (line, subst (λ (files : Option Files). IsRefused c files Limit line) told d.refused)
+called c old new m Memory line told quiet d = inl refl
+
+-- the files call for one status alone: by what the record is
+abbrev Stands : PassWords → Files → Status → Type 0
+Stands p m due = ((due ≡ Done) × IsPlayed p m) ⊎ (((due ≡ Refused) × IsSomeAnd (get m p.input) (λ b. (i : Input) → IsInput p b i → ⊥)) ⊎ ((due ≡ StoreFault) × (get m p.input ≡ None)))
+
+pass_stands : (p : PassWords) (m : Files) (due : Status) → CallsFor (Pass p) m due → Stands p m due
+pass_stands p m Done h = inl (refl, h)
+pass_stands p m Refused h = inr (inl (refl, h.1.not_input))
+pass_stands p m Usage h = absurd h
+pass_stands p m StoreFault h = inr (inr (refl, subst (λ (name : List ℕ). get m name ≡ None) h.1.0 h.1.1))
+pass_stands p m SinkFault h = absurd h
+pass_stands p m Limit h = absurd (let e : Limit ≡ Refused = h.1.refused in cc)
+pass_stands p m Memory h = absurd h
+
+not_refused : (o : Option (List ℕ)) (p : PassWords) (bytes : List ℕ) (i : Input) → o ≡ Some bytes → IsInput p bytes i
+    → IsSomeAnd o (λ b. (i : Input) → IsInput p b i → ⊥) → ⊥
+not_refused None p bytes i e input n = n
+not_refused (Some b) p bytes i e input n = let same : bytes ≡ b = cc in n i (subst (λ (x : List ℕ). IsInput p x i) same input)
+
+not_absent : (o : Option (List ℕ)) (bytes : List ℕ) → o ≡ Some bytes → o ≡ None → ⊥
+not_absent o bytes e f = cc
+
+there : (o : Option (List ℕ)) (P : List ℕ → Type 0) → IsSomeAnd o P → o ≡ None → ⊥
+there None P h e = h
+there (Some b) P h e = cc
+
+one_stands : (p : PassWords) (m : Files) (a b : Status) → Stands p m a → Stands p m b → a ≡ b
+one_stands p m a b (inl x) (inl y) = x.0 ∙ sym y.0
+one_stands p m a b (inl (x, (bytes, i, e, input))) (inr (inl y)) = absurd (not_refused (get m p.input) p bytes i e input y.1)
+one_stands p m a b (inl (x, (bytes, i, e, input))) (inr (inr y)) = absurd (not_absent (get m p.input) bytes e y.1)
+one_stands p m a b (inr (inl x)) (inl (y, (bytes, i, e, input))) = absurd (not_refused (get m p.input) p bytes i e input x.1)
+one_stands p m a b (inr (inl x)) (inr (inl y)) = x.0 ∙ sym y.0
+one_stands p m a b (inr (inl x)) (inr (inr y)) = absurd (there (get m p.input) (λ b. (i : Input) → IsInput p b i → ⊥) x.1 y.1)
+one_stands p m a b (inr (inr x)) (inl (y, (bytes, i, e, input))) = absurd (not_absent (get m p.input) bytes e x.1)
+one_stands p m a b (inr (inr x)) (inr (inl y)) = absurd (there (get m p.input) (λ b. (i : Input) → IsInput p b i → ⊥) y.1 x.1)
+one_stands p m a b (inr (inr x)) (inr (inr y)) = x.0 ∙ sym y.0
+
+one_call : (c : Command) (m : Files) (a b : Status) → CallsFor c m a → CallsFor c m b → a ≡ b
+one_call (Pass p) m a b x y = one_stands p m a b (pass_stands p m a x) (pass_stands p m b y)
+
+pub complete : (words : List (List ℕ)) (old_store new_store : StoreView) (old new : Sinks) (answer : Status) → Answers words old_store new_store old new answer
+    → IsComplete words old_store new_store old new answer
+complete words old_store new_store old new answer a c m due asked told call store out err =
     elim (told_so a.due a.line old new answer a.is_told) [
-      | inl same ↦ elim (due_done words p old_store new_store a.due a.line asked played store a.is_due) [ inl d ↦ inl (same ∙ d) | inr m ↦ inr (same ∙ m) ]
+      | inl same ↦ elim (called c old_store new_store m a.due a.line told store is_due) [
+        | inl memory ↦ inr (same ∙ memory)
+        | inr calls ↦ inl (same ∙ one_call c m a.due due calls call)
+      ]
       | inr other ↦ elim other [
         | inl fault ↦ absurd (no_sink_fault a.due a.line old new answer a.is_told fault out err)
         | inr memory ↦ inr memory
       ]
     ]
+  where
+    is_due : IsDueFor c old_store new_store a.due a.line
+    is_due = MatchOption-at_some (IsMisused old_store new_store a.due a.line) (λ c. IsDueFor c old_store new_store a.due a.line) c asked a.is_due

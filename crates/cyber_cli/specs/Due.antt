@@ -1,92 +1,78 @@
 -- What the program answers: which status is due, with what stands in the store, and how it is told.
-use Rattle.std.specs.Prelude.{ℕ, ◌≡◌, ◌⊎◌, List, ◌++◌, take, Option, Some, None}
+use Rattle.std.specs.Prelude.{ℕ, ◌≡◌, ◌⊎◌, List, ◌++◌, take, Some, MatchOption}
 use Rattle.std.specs.Option.{option_map}
-use Rattle.std.specs.FinMap.{get, insert}
-use Rattle.cy_store.specs.Files.{Files, Holds}
-use Rattle.cy_store.specs.Write.{Write, name_of}
-use Rattle.cy_store.specs.Store.{StoreView, SinkView, StoreRose, Rose}
-use Rattle.cy_section.specs.declared.types.BodyMessage.{BodyMessage}
+use Rattle.cy_store.specs.Files.{Files}
+use Rattle.cy_store.specs.Write.{Write, name_of, after_writes}
+use Rattle.cy_store.specs.Store.{StoreView, SinkView, Rose, WriteRose}
 use Rattle.cy_writer.specs.Writes.{StopsAt, StopsBefore}
-use Rattle.wake_core.specs.Run.{Run}
 use Rattle.cyber_cli.specs.declared.status.Status.{Status}
 use Rattle.cyber_cli.specs.declared.status.Status.TheVariants.{Done, Refused, Usage, StoreFault}
 use Rattle.cyber_cli.specs.declared.status.Status.TheVariants.{SinkFault, Limit, Memory}
-use Rattle.cyber_cli.specs.Words.{PassWords, pass_of}
-use Rattle.cyber_cli.specs.declared.input.Input.{Input}
-use Rattle.cyber_cli.specs.Input.{IsInput}
-use Rattle.cyber_cli.specs.Tape.{IsPassed, pass_record, pass_trace, pass_line}
-use Rattle.cyber_cli.specs.Writes.{pass_writes}
-use Rattle.cyber_cli.specs.Lines.{usage_line, memory_line, output_line, store_line, not_built_line}
+use Rattle.cyber_cli.specs.Command.{Command, Work, command_of}
+use Rattle.cyber_cli.specs.Outcome.{IsReadBy, IsAccepted, IsTaken, IsRefused, IsAbsent}
+use Rattle.cyber_cli.specs.Lines.{usage_line, memory_line, output_line, store_line}
 
--- The record file is accepted, and what `pass` makes of it.
-pub record IsAccepted (p : PassWords) (files : Option Files) (i : Input) (w : Run)
-    (chunks : List (List BodyMessage)) : Type 0 where
-  pub bytes : List ℕ
-  pub held : Holds files p.input (λ told. told ≡ bytes)
-  pub input : IsInput p bytes i
-  pub passed : IsPassed p i w chunks
+-- Done: the files are accepted, what the command makes of them is written, and its text is the line
+-- that is due.
+pub record IsDone (c : Command) (old new : StoreView) (line : List ℕ) : Type 0 where
+  pub work : Work
+  pub accepted : IsAccepted c old.files work
+  pub written : new.files ≡ option_map (after_writes work.writes) old.files
+  pub told : line ≡ work.text
 
--- Done: both files hold their texts, and every other name is as before.
-pub record IsDone (p : PassWords) (old new : StoreView) (line : List ℕ) : Type 0 where
-  pub input : Input
-  pub run : Run
-  pub chunks : List (List BodyMessage)
-  pub accepted : IsAccepted p old.files input run chunks
-  pub files : new.files
-      ≡ option_map (λ m. insert (insert m p.output (pass_record p input chunks)) p.trace
-      (pass_trace p input run)) old.files
-  pub told : line ≡ pass_line input run
+-- Refused or Limit: the files are refused, and the store is as it was, its counts too, so that no
+-- read failed.
+pub record RefusesFiles (c : Command) (old new : StoreView) (due : Status) (line : List ℕ) : Type 0
+  where
+    pub same : new ≡ old
+    pub refused : IsRefused c old.files due line
 
--- Refused: the store is unchanged, its counts too, so that no read failed; and the record file is
--- none that `pass` plays.
-pub record IsRefused (p : PassWords) (old new : StoreView) (line : List ℕ) : Type 0 where
-  pub same : new ≡ old
-  pub not_input : Holds old.files p.input (λ bytes. (i : Input) → IsInput p bytes i → ⊥)
-  pub told : line ≡ not_built_line p.input
+-- A file was not read: the store's faults rose, or its misses did and the file isn't there. No file
+-- is changed.
+pub record FailsToRead (c : Command) (old new : StoreView) (line : List ℕ) : Type 0 where
+  pub name : List ℕ
+  pub read : IsReadBy c name
+  pub rose : Rose old.faults new.faults ⊎ (Rose old.misses new.misses × IsAbsent c old.files name)
+  pub same : new.files ≡ old.files
+  pub told : line ≡ store_line name
 
 -- A write failed: those before it were done, and the file that it names is told.
-pub record FailsToWrite (p : PassWords) (old new : StoreView) (line : List ℕ) : Type 0 where
-  pub input : Input
-  pub run : Run
-  pub chunks : List (List BodyMessage)
-  pub accepted : IsAccepted p old.files input run chunks
+pub record FailsToWrite (c : Command) (old new : StoreView) (line : List ℕ) : Type 0 where
+  pub work : Work
+  pub accepted : IsAccepted c old.files work
   pub failed : Write
-  pub stops : StopsAt (pass_writes p input run chunks) failed old.files new.files
+  pub rose : WriteRose old new
+  pub stops : StopsAt work.writes failed old.files new.files
   pub told : line ≡ store_line (name_of failed)
 
--- A fault of the store: its count rose, and either the record file wasn't read and nothing is
--- changed, or a write failed.
-pub record IsFaulted (p : PassWords) (old new : StoreView) (line : List ℕ) : Type 0 where
-  pub rose : StoreRose old new p.input
-  pub stands : ((new.files ≡ old.files) × (line ≡ store_line p.input)) ⊎ FailsToWrite p old new line
-
 -- Memory ran out between two writes.
-pub record StopsForMemory (p : PassWords) (old new : StoreView) : Type 0 where
-  pub input : Input
-  pub run : Run
-  pub chunks : List (List BodyMessage)
-  pub accepted : IsAccepted p old.files input run chunks
-  pub stops : StopsBefore (pass_writes p input run chunks) old.files new.files
+pub record StopsForMemory (c : Command) (old new : StoreView) : Type 0 where
+  pub work : Work
+  pub accepted : IsAccepted c old.files work
+  pub stops : StopsBefore work.writes old.files new.files
 
--- Want of memory: nothing is changed, or some of the writes are done.
-abbrev pub IsStarved : PassWords → StoreView → StoreView → Type 0
-IsStarved p old new = (new.files ≡ old.files) ⊎ StopsForMemory p old new
-
--- The words ask for `pass`, and it has P.
-abbrev pub AsksForPass : List (List ℕ) → (PassWords → Type 0) → Type 0
-AsksForPass words P = (p : PassWords) × (pass_of words ≡ Some p) × P p
-
--- A status is due, with the line that tells it: what the words, the files and the store's counts
+-- A status is due for a command, with the line that tells it: what the files and the store's counts
 -- were for it, and what stands in the store. No sink is used before.
-abbrev pub IsDue : List (List ℕ) → StoreView → StoreView → Status → List ℕ → Type 0
-IsDue words old new Done line = AsksForPass words (λ p. IsDone p old new line)
-IsDue words old new Refused line = AsksForPass words (λ p. IsRefused p old new line)
-IsDue words old new Usage line = (pass_of words ≡ None) × (new ≡ old) × (line ≡ usage_line)
-IsDue words old new StoreFault line = AsksForPass words (λ p. IsFaulted p old new line)
-IsDue words old new SinkFault line = ⊥
-IsDue words old new Limit line = ⊥
-IsDue words old new Memory line = AsksForPass words (λ p. IsStarved p old new)
+abbrev pub IsDueFor : Command → StoreView → StoreView → Status → List ℕ → Type 0
+IsDueFor c old new Done line = IsDone c old new line
+IsDueFor c old new Refused line = RefusesFiles c old new Refused line
+IsDueFor c old new Usage line = ⊥
+IsDueFor c old new StoreFault line = FailsToRead c old new line ⊎ FailsToWrite c old new line
+IsDueFor c old new SinkFault line = ⊥
+IsDueFor c old new Limit line = RefusesFiles c old new Limit line
+IsDueFor c old new Memory line = ((new.files ≡ old.files) ⊎ StopsForMemory c old new)
     × (line ≡ memory_line)
+
+-- Usage: the words ask for no command, and the store is as it was.
+pub record IsMisused (old new : StoreView) (due : Status) (line : List ℕ) : Type 0 where
+  pub usage : due ≡ Usage
+  pub same : new ≡ old
+  pub told : line ≡ usage_line
+
+-- A status is due by the words.
+abbrev pub IsDue : List (List ℕ) → StoreView → StoreView → Status → List ℕ → Type 0
+IsDue words old new due line =
+    MatchOption (command_of words) (IsMisused old new due line) (λ c. IsDueFor c old new due line)
 
 -- The two sinks, before and after.
 pub record Sinks : Type 0 where
@@ -132,21 +118,20 @@ pub record Answers (words : List (List ℕ)) (old_store new_store : StoreView) (
   pub is_due : IsDue words old_store new_store due line
   pub is_told : IsTold due line old new answer
 
--- A store tells its files, and they have P.
-abbrev pub Tells : Option Files → (Files → Type 0) → Type 0
-Tells None P = ⊥
-Tells (Some m) P = P m
+-- What the files call for: Done where they are accepted, the status of their refusal, StoreFault
+-- where one isn't there.
+abbrev pub CallsFor : Command → Files → Status → Type 0
+CallsFor c m Done = IsTaken c m
+CallsFor c m Refused = (line : List ℕ) × IsRefused c (Some m) Refused line
+CallsFor c m Limit = (line : List ℕ) × IsRefused c (Some m) Limit line
+CallsFor c m StoreFault = (name : List ℕ) × IsAbsent c (Some m) name
+CallsFor c m other = ⊥
 
--- The record file is there, in a store that tells its files, and it is played.
-abbrev pub IsPlayed : PassWords → Option Files → Type 0
-IsPlayed p files = (bytes : List ℕ) × (i : Input) × Tells files (λ m. get m p.input ≡ Some bytes)
-    × IsInput p bytes i
-
--- The answer is Done or Memory where the words are in form, the record is there and played, and no
--- count of faults rose.
+-- Where the words ask for a command, the store tells its files and no count of faults rose, the
+-- answer is what the files call for, or Memory.
 abbrev pub IsComplete : List (List ℕ) → StoreView → StoreView → Sinks → Sinks → Status → Type 0
-IsComplete words old_store new_store old new answer = (p : PassWords) → pass_of words ≡ Some p
-    → IsPlayed p old_store.files
+IsComplete words old_store new_store old new answer = (c : Command) (m : Files) (due : Status)
+    → command_of words ≡ Some c → old_store.files ≡ Some m → CallsFor c m due
     → (Rose old_store.faults new_store.faults → ⊥) → (Rose old.out.faults new.out.faults → ⊥)
     → (Rose old.err.faults new.err.faults → ⊥)
-    → (answer ≡ Done) ⊎ (answer ≡ Memory)
+    → (answer ≡ due) ⊎ (answer ≡ Memory)

@@ -1,8 +1,11 @@
 pub mod Words
+pub mod Command
+pub mod Lines
 pub mod Input
 pub mod Tape
 pub mod Writes
-pub mod Lines
+pub mod Pass
+pub mod Outcome
 pub mod Due
 pub mod Views
 pub mod Line

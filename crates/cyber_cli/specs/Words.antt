@@ -1,6 +1,6 @@
--- The words that the program takes.
+-- The words of each command.
 use Rattle.std.specs.Prelude.{ℕ, ◌==◌, ◌&&◌, nat_le, not, Bool, false, if◌then◌else◌, List, [], ◌∷◌}
-use Rattle.std.specs.Prelude.{length, Option, Some, None, codes}
+use Rattle.std.specs.Prelude.{length, Option, Some, None}
 use Rattle.std.specs.Str.{bytes_eq}
 
 -- The words of `pass`: the record that is played, the record and the trace that are written, and
@@ -30,12 +30,14 @@ is_pass p =
     (bytes_eq p.trace p.input)
     && not (bytes_eq p.from p.to)
 
--- What a command and its words ask for.
-abbrev pub asked_by : List ℕ → PassWords → Option PassWords
-asked_by command p = if bytes_eq command (codes "pass") && is_pass p then Some p else None
-
--- What the words ask for, where they are of a known form.
+-- What the words behind `pass` ask for, where they are of its form.
 abbrev pub pass_of : List (List ℕ) → Option PassWords
-pass_of (command ∷ input ∷ output ∷ trace ∷ from ∷ to ∷ []) =
-    asked_by command record { input = input; output = output; trace = trace; from = from; to = to }
+pass_of (input ∷ output ∷ trace ∷ from ∷ to ∷ []) =
+    let p : PassWords = record {
+      input = input;
+      output = output;
+      trace = trace;
+      from = from;
+      to = to;
+    } in if is_pass p then Some p else None
 pass_of words = None

@@ -1,19 +1,22 @@
 //! The calls of the program `cyber`, for other programs too: they play recorded messages through
 //! components.
 //!
-//! `specs/Due` says what they answer, `specs/Words` which words they take, `specs/Input` which
-//! records are played, `specs/Tape` what is made of them, `specs/Writes` in which order files are
+//! `specs/Due` says what they answer, `specs/Command` which commands there are and which words ask
+//! for them, `specs/Outcome` what the files are to each: for `pass` by `specs/Input`, which records
+//! are played, `specs/Tape`, what is made of them, and `specs/Writes`, in which order files are
 //! written.
 #![tactic(auto)]
 
 mod candidate;
+mod commands;
+mod due;
 mod failure;
+mod fault_text;
 mod input;
 mod line;
 mod list;
 mod make;
 mod one;
-mod pass;
 mod play;
 mod recording;
 mod status;

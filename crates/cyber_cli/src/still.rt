@@ -3,78 +3,28 @@ ghost use Rattle.std.specs.Prelude.{◌≡◌, ◌≢◌};
 ghost use Rattle.cyber_cli.specs.Line.{bytes_of_line};
 ghost use Rattle.cyber_cli.specs.Due.{IsDue, IsTold, GetsFront, Answers, IsComplete};
 ghost use Rattle.cy_store.specs.Store.{SinkView};
-ghost use Rattle.cyber_cli.specs.Views.{words_of, IsDueAfter};
 
-use crate::failure::{Failure, File};
+use crate::commands::run_pass;
+use crate::due::Due;
+use crate::fault_text::{OUTPUT_LINE, USAGE_LINE};
 use crate::line::{Line, write_line};
-use crate::pass::run_pass;
 use crate::status::Status;
-use crate::words::{Pass, pass_words};
+use crate::words::{Command, command_of};
 use cy_msg::Text;
 use cy_store::{Sink, SinkError, Store};
 use std::alloc::Global;
-
-const USAGE_LINE: &str = "cyber: the words are not of a known form\n";
-
-const MEMORY_LINE: &str = "cyber: out of memory\n";
-
-const OUTPUT_LINE: &str = "cyber: the output failed\n";
-
-const STORE_FAILED: &str = ": the store failed\n";
-
-const NOT_BUILT: &str = ": a form not built yet\n";
-
-// A status that is due, and the line that tells it.
-#[derive(Drop)]
-struct Due<'a> {
-    status: Status,
-    line: Line<'a>,
-}
-
-// What is due after a failure.
-fn due_after<'a>(pass: &Pass<'a>, failure: Failure) -> Due<'a>
-    ensures { IsDueAfter (words_of pass.now) failure result.status (bytes_of_line result.line) }
-{
-    match failure {
-        Failure::NotBuilt => Due {
-            status: Status::Refused,
-            line: Line::Named(pass.input, NOT_BUILT),
-        },
-        Failure::Store(file) => {
-            let name = match file {
-                File::Input => pass.input,
-                File::Output => pass.output,
-                File::Trace => pass.trace,
-            };
-            Due {
-                status: Status::StoreFault,
-                line: Line::Named(name, STORE_FAILED),
-            }
-        }
-        Failure::Memory => Due {
-            status: Status::Memory,
-            line: Line::Fixed(MEMORY_LINE),
-        },
-    }
-}
 
 // Does what the words ask for, and says which status is due.
 fn due_of<'a, S: Store>(alloc: Global, words: &'a [Text], store: &mut S) -> Due<'a>
     ensures { IsDue words.now (S.shows store.old) (S.shows store.new) result.status
         (bytes_of_line result.line) }
 {
-    let Some(pass) = pass_words(words) else {
-        return Due {
+    match command_of(words) {
+        Some(Command::Pass(pass)) => run_pass(alloc, &pass, store),
+        None => Due {
             status: Status::Usage,
             line: Line::Fixed(USAGE_LINE),
-        };
-    };
-    match run_pass(alloc, &pass, store) {
-        Ok(line) => Due {
-            status: Status::Done,
-            line: Line::Made(line),
         },
-        Err(failure) => due_after(&pass, failure),
     }
 }
 
@@ -132,13 +82,15 @@ fn tell<O: Sink, E: Sink>(due: &Due, out: &mut O, err: &mut E) -> Status
     }
 }
 
-/// Does what the words ask for: `pass RECORD OUT TRACE FROM TO` plays a record through one
-/// component that passes each message of the channel FROM on to the channel TO, and writes a record
-/// of all messages and a trace of all calls.
+/// Does what the words ask for.
 ///
-/// The line that tells what was done goes to `out`, and one that tells of a refusal or a fault goes
-/// to `err`. The answer is one of the seven statuses; its contract says which is due, what stands
-/// in the store then, and how it is told.
+/// `pass RECORD OUT TRACE FROM TO` plays a record through one component that passes each message of
+/// the channel FROM on to the channel TO, and writes a record of all messages and a trace of all
+/// calls.
+///
+/// The text or the line that tells what was done goes to `out`, and one that tells of a refusal or a
+/// fault goes to `err`. The answer is one of the seven statuses; its contract says which is due,
+/// what stands in the store then, and how it is told.
 pub fn cyber_still<S: Store, O: Sink, E: Sink>(
     alloc: Global,
     words: &[Text],

@@ -1,7 +1,8 @@
-// The words that the program takes.
+// The words that the program takes, command by command.
 ghost use Rattle.std.specs.Prelude.{◌≡◌, true, Some, None, IfSome, MatchOption};
-ghost use Rattle.cyber_cli.specs.Words.{is_word, is_pass, asked_by, pass_of};
-ghost use Rattle.cyber_cli.specs.Views.{words_of};
+ghost use Rattle.cyber_cli.specs.Words.{is_word, is_pass, pass_of};
+ghost use Rattle.cyber_cli.specs.Command.{command_of};
+ghost use Rattle.cyber_cli.specs.Views.{words_of, command_asked, IsInForm};
 
 use cy_msg::Text;
 
@@ -21,6 +22,13 @@ pub struct Pass<'a> {
     pub from: &'a str,
     /// The channel that the component writes.
     pub to: &'a str,
+}
+
+/// What the words ask for.
+#[derive(Clone, Copy)]
+pub enum Command<'a> {
+    /// To play a record through one component that passes its messages on.
+    Pass(Pass<'a>),
 }
 
 // Whether a text may stand as a name.
@@ -51,26 +59,13 @@ impl Pass<'_> {
     }
 }
 
-// What a command and its words ask for.
-fn asked<'a>(command: &str, pass: Pass<'a>) -> Option<Pass<'a>>
-    ensures asked { MatchOption result (asked_by command.now (words_of pass.entry) ≡ None)
-        (λ p. asked_by command.now (words_of pass.entry) ≡ Some (words_of p)) }
-    ensures form { IfSome result (λ p. is_pass (words_of p) ≡ true) }
-{
-    if command == "pass" && pass.is_in_form() {
-        Some(pass)
-    } else {
-        None
-    }
-}
-
-/// What the words ask for; None where they are of no known form.
-pub fn pass_words<'a>(words: &'a [Text]) -> Option<Pass<'a>>
+// What the words behind `pass` ask for.
+fn pass_words<'a>(words: &'a [Text]) -> Option<Pass<'a>>
     ensures asked { MatchOption result (pass_of words.now ≡ None) (λ p. pass_of words.now
         ≡ Some (words_of p)) }
     ensures form { IfSome result (λ p. is_pass (words_of p) ≡ true) }
 {
-    let [command, input, output, trace, from, to] = words else {
+    let [input, output, trace, from, to] = words else {
         return None;
     };
     let pass = Pass {
@@ -80,5 +75,20 @@ pub fn pass_words<'a>(words: &'a [Text]) -> Option<Pass<'a>>
         from: from.as_str(),
         to: to.as_str(),
     };
-    asked(command.as_str(), pass)
+    if pass.is_in_form() { Some(pass) } else { None }
+}
+
+/// What the words ask for; None where they are of no known form.
+pub fn command_of<'a>(words: &'a [Text]) -> Option<Command<'a>>
+    ensures asked { MatchOption result (command_of words.now ≡ None) (λ c. command_of words.now
+        ≡ Some (command_asked c)) }
+    ensures form { IfSome result IsInForm }
+{
+    let [name, words @ ..] = words else {
+        return None;
+    };
+    match name.as_str() {
+        "pass" => Some(Command::Pass(pass_words(words)?)),
+        _ => None,
+    }
 }

@@ -6,13 +6,20 @@ ghost use Rattle.cy_store.specs.Store.{WriteRose};
 ghost use Rattle.cyber_cli.specs.declared.failure.File.{File};
 ghost use Rattle.cyber_cli.specs.Words.{is_pass};
 ghost use Rattle.cy_writer.specs.Writes.{StopsAt, StopsBefore};
-ghost use Rattle.cyber_cli.specs.Views.{words_of, name_of_file, PassEnds};
+ghost use Rattle.cyber_cli.specs.Command as command;
+ghost use Rattle.cyber_cli.specs.Line.{bytes_of_line};
+ghost use Rattle.cyber_cli.specs.Due.{IsDueFor};
+ghost use Rattle.cyber_cli.specs.Views.{words_of, name_of_file, PassEnds, IsDueAfter};
 ghost use Rattle.cyber_cli.specs.Made.{IsMade, writes_of};
 
+use crate::due::{Due, out_of_memory, store_failed};
 use crate::failure::{Failure, File};
+use crate::fault_text::NOT_BUILT;
 use crate::input::{Input, LONGEST_INPUT, read_input};
+use crate::line::Line;
 use crate::make::{Made, make};
 use crate::recording::write_record;
+use crate::status::Status;
 use crate::words::Pass;
 use crate::write::write_file;
 use cy_msg::Bytes;
@@ -76,10 +83,10 @@ fn write_both<S: Store>(
     Ok(())
 }
 
-/// Plays a record through one component and writes the record of all messages and the trace.
-/// Answers the line that tells what was done. All reading is done before the first file is made.
+// Plays a record through one component and writes the record of all messages and the trace.
+// Answers the line that tells what was done. All reading is done before the first file is made.
 #[tactic(auto, using(crate::proofs::PassExits::unchanged))]
-pub fn run_pass<S: Store>(alloc: Global, pass: &Pass, store: &mut S) -> Result<Bytes, Failure>
+fn pass_on<S: Store>(alloc: Global, pass: &Pass, store: &mut S) -> Result<Bytes, Failure>
     requires { is_pass (words_of pass.now) ≡ true }
     ensures { PassEnds (words_of pass.now) (S.shows store.old) (S.shows store.new) result }
 {
@@ -97,4 +104,38 @@ pub fn run_pass<S: Store>(alloc: Global, pass: &Pass, store: &mut S) -> Result<B
     write_both(alloc, store, pass, &input, &made)?;
     let Made { line, .. } = made;
     Ok(line)
+}
+
+// What is due after a failure.
+fn due_after<'a>(pass: &Pass<'a>, failure: Failure) -> Due<'a>
+    ensures { IsDueAfter (words_of pass.now) failure result.status (bytes_of_line result.line) }
+{
+    match failure {
+        Failure::NotBuilt => Due {
+            status: Status::Refused,
+            line: Line::Named(pass.input, NOT_BUILT),
+        },
+        Failure::Store(file) => store_failed(match file {
+            File::Input => pass.input,
+            File::Output => pass.output,
+            File::Trace => pass.trace,
+        }),
+        Failure::Memory => out_of_memory(),
+    }
+}
+
+/// What is due for `pass` with these words: it plays the record that they name, and writes the record
+/// of all messages and the trace.
+pub fn run_pass<'a, S: Store>(alloc: Global, pass: &Pass<'a>, store: &mut S) -> Due<'a>
+    requires { is_pass (words_of pass.now) ≡ true }
+    ensures { IsDueFor (command.Pass (words_of pass.now)) (S.shows store.old) (S.shows store.new)
+        result.status (bytes_of_line result.line) }
+{
+    match pass_on(alloc, pass, store) {
+        Ok(line) => Due {
+            status: Status::Done,
+            line: Line::Made(line),
+        },
+        Err(failure) => due_after(pass, failure),
+    }
 }

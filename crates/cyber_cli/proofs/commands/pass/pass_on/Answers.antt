@@ -3,7 +3,7 @@ use Rattle.std.proofs.lemmas.Result.{err_from_is_err_and}
 use Rattle.cyber_cli.specs.Input.{IsInput}
 use Rattle.cyber_cli.specs.Views.{words_of}
 use Rattle.cyber_cli.proofs.PassExits.{done, stopped}
-use Rattle.cyber_cli.proofs.pass.run_pass.Goals as goal
+use Rattle.cyber_cli.proofs.commands.pass.pass_on.Goals as goal
 
 pub returns-in_err-write_both : goal.returns-in_err-write_both
 returns-in_err-write_both g c =
@@ -14,7 +14,7 @@ returns-in_err-write_both g c =
     let p = err_from_is_err_and c.from_residual-in_err-write_both.result c.from_residual-in_err-write_both.ensures.1 in
     rw (p.1, p.2) (stopped (words_of c.args.pass.now) c.in-Some.input c.in_ok-made.made c.in-Ok-Whole.bytes.items
     (g.S.Store.shows c.args.store.now) (g.S.Store.shows c.read_file.new.store) (g.S.Store.shows c.write_both.new.store) c.in_err-write_both.field-0.0
-    c.requires c.in_ok-made.ensures.made held (subst P c.as_slice.ensures.value read) c.read_file.ensures.same (c.read_file.ensures.causes.quiet (λ e. search rules))
+    c.requires c.in_ok-made.ensures.made (record { held = held; input = subst P c.as_slice.ensures.value read }) c.read_file.ensures.same (c.read_file.ensures.causes.quiet (λ e. search rules))
     e.failed e.memory e.built e.causes)
 
 pub returns : goal.returns
@@ -24,4 +24,4 @@ returns g c =
     let P : List ℕ → Type 0 = λ bytes. IsInput (words_of c.args.pass.now) bytes c.in-Some.input in
     done (words_of c.args.pass.now) c.in-Some.input c.in_ok-made.made c.in-Ok-Whole.bytes.items
     (g.S.Store.shows c.args.store.now) (g.S.Store.shows c.read_file.new.store) (g.S.Store.shows c.write_both.new.store)
-    c.requires c.in_ok-made.ensures.made held (subst P c.as_slice.ensures.value read) c.read_file.ensures.same c.in_ok-write_both.ensures.done
+    c.requires c.in_ok-made.ensures.made (record { held = held; input = subst P c.as_slice.ensures.value read }) c.read_file.ensures.same c.in_ok-write_both.ensures.done

@@ -13,7 +13,7 @@ use Rattle.cyber_cli.specs.Tape.{pass_channels}
 use Rattle.cyber_cli.specs.Recorded.{tape_chunks}
 use Rattle.cyber_cli.specs.Writes.{record_puts, file_writes}
 use Rattle.cyber_cli.proofs.BothFiles.{Blames, first_fails, first_starves, second_fails, second_starves, fault}
-use Rattle.cyber_cli.proofs.pass.write_both.Goals as goal
+use Rattle.cyber_cli.proofs.commands.pass.write_both.Goals as goal
 
 pub returns-in-Err-clause-failed : goal.returns-in-Err-clause-failed
 returns-in-Err-clause-failed g c =

@@ -1,0 +1,26 @@
+-- What the files of a store are to each command: accepted, refused or not there.
+use Rattle.std.specs.Prelude.{ℕ, ◌≡◌, List, Option}
+use Rattle.cy_store.specs.Files.{Files, Lacks}
+use Rattle.cyber_cli.specs.declared.status.Status.{Status}
+use Rattle.cyber_cli.specs.Command.{Command, Pass, Work}
+use Rattle.cyber_cli.specs.Pass.{IsPassWork, IsPlayed, IsPassRefusal}
+
+-- A file that the command reads has this name.
+abbrev pub IsReadBy : Command → List ℕ → Type 0
+IsReadBy (Pass p) name = name ≡ p.input
+
+-- Each file that the command reads is there and accepted, and this is what it makes of them.
+abbrev pub IsAccepted : Command → Option Files → Work → Type 0
+IsAccepted (Pass p) files work = IsPassWork p files work
+
+-- Each of them is there and accepted, whatever it makes of them.
+abbrev pub IsTaken : Command → Files → Type 0
+IsTaken (Pass p) m = IsPlayed p m
+
+-- The first thing in the command's way is a refusal, with this status and this line.
+abbrev pub IsRefused : Command → Option Files → Status → List ℕ → Type 0
+IsRefused (Pass p) files due line = IsPassRefusal p files due line
+
+-- It is a file of this name, which isn't there.
+abbrev pub IsAbsent : Command → Option Files → List ℕ → Type 0
+IsAbsent (Pass p) files name = (name ≡ p.input) × Lacks files name
