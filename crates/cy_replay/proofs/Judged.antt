@@ -46,7 +46,7 @@ unless_none name g refusal x y none same = rw (none, same) refl
 pub dag_accepted : (name : List ℕ) (file : Fields) (dag : Dag) → dag_refusal file ≡ None → dag.components ≡ components_of file → dag.unknown ≡ unknown_in_dag file → in_file name fault.Dag (dag_of file) ≡ Accepts (dag_says dag)
 dag_accepted name file dag none components unknown = rw (none, components, unknown) refl
 
-due_is : (due : Option DagError) (e : DagError) (g : Fault) → IsDue due e → dag_fault e ≡ Some g → (due ≡ Some e) × (fault.Dag e ≡ g)
+pub due_is : (due : Option DagError) (e : DagError) (g : Fault) → IsDue due e → dag_fault e ≡ Some g → (due ≡ Some e) × (fault.Dag e ≡ g)
 due_is due dag_error.Memory g is e = absurd cc
 due_is due e g is told = (is, cc)
 

@@ -1,9 +1,10 @@
 // Why a replay can't be set up.
 ghost use Rattle.std.specs.Prelude.{◌≡◌, ◌⊎◌};
+ghost use Rattle.cy_replay.specs.Steps.{IsFault, dag_fault, sched_fault};
 ghost use Rattle.cy_replay.specs.declared.error.SetupError.TheVariants as setup_error;
 
 use cy_dag::DagError;
-use cy_msg::Text;
+use cy_msg::{NamesError, Text};
 use cy_sched::SchedError;
 use cy_text::TextError;
 use std::alloc::{AllocError, AllocFailed, Global};
@@ -63,6 +64,14 @@ impl<T: Drop> From<AllocFailed<T>> for SetupError {
     }
 }
 
+impl From<NamesError> for SetupError {
+    ghost from_gives = { λ _ e. e ≡ setup_error.Memory };
+
+    fn from(_: NamesError) -> Self {
+        SetupError::Memory
+    }
+}
+
 /// A fault of a file, or want of memory for its name.
 pub(crate) fn refused(alloc: Global, file: &str, fault: Fault) -> SetupError
     ensures { (result ≡ setup_error.Memory)
@@ -81,5 +90,25 @@ pub(crate) fn failed(alloc: Global, file: &str) -> SetupError
     match Text::new(alloc, file) {
         Ok(file) => SetupError::Store { file },
         Err(_) => SetupError::Memory,
+    }
+}
+
+/// A fault of a DAG or a component file.
+pub(crate) fn dag_fault(alloc: Global, file: &str, fault: DagError) -> SetupError
+    ensures { IsFault file.now (dag_fault fault) result }
+{
+    match fault {
+        DagError::Memory => SetupError::Memory,
+        fault => refused(alloc, file, Fault::Dag(fault)),
+    }
+}
+
+/// A fault of a scheduler file.
+pub(crate) fn sched_fault(alloc: Global, file: &str, fault: SchedError) -> SetupError
+    ensures { IsFault file.now (sched_fault fault) result }
+{
+    match fault {
+        SchedError::Memory => SetupError::Memory,
+        fault => refused(alloc, file, Fault::Sched(fault)),
     }
 }

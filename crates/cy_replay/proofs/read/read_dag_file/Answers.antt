@@ -5,7 +5,7 @@ use Rattle.cy_replay.specs.Configuration.{text_in, dag_of}
 use Rattle.cy_replay.specs.Faults.{in_file}
 use Rattle.cy_replay.specs.Steps.{dag_says, dag_fault}
 use Rattle.cy_replay.proofs.Judged.{first_err, then_fault, dag_refused}
-use Rattle.cy_replay.proofs.configuration.read_dag_file.Goals as goal
+use Rattle.cy_replay.proofs.read.read_dag_file.Goals as goal
 
 pub returns-in_err-tree : goal.returns-in_err-tree
 returns-in_err-tree g c =

@@ -6,17 +6,17 @@ use Rattle.cy_replay.specs.Configuration.{text_in}
 use Rattle.cy_replay.specs.Faults.{in_file, unless}
 use Rattle.cy_replay.specs.Steps.{sched_fault}
 use Rattle.cy_replay.proofs.Judged.{first_err, then_fault, sched_refused}
-use Rattle.cy_replay.proofs.configuration.read_sched_file.Goals as goal
+use Rattle.cy_replay.proofs.read.read_sched_file.Goals as goal
 
-pub returns-in_err-tree : goal.returns-in_err-tree
-returns-in_err-tree g c =
+pub returns-in_err-tree-clause-comes : goal.returns-in_err-tree-clause-comes
+returns-in_err-tree-clause-comes g c =
     let p = err_from_is_err_and c.from_residual.result c.from_residual.ensures.1 in
     let name = c.args.name.now in
     rw (p.1, p.2)
     (first_err (λ s. s) (text_in name) (λ file. in_file name fault.Sched (unless (sched_refusal file) (sched_of file))) (λ file. file ≡ name) (λ file. file ≡ name) _ _ _ (λ file asked. asked) c.in_err-tree.ensures.comes)
 
-pub returns : goal.returns
-returns g c =
+pub returns-clause-comes : goal.returns-clause-comes
+returns-clause-comes g c =
     let name = c.args.name.now in
     then_fault (λ s. s) (text_in name) (λ file. in_file name fault.Sched (unless (sched_refusal file) (sched_of file))) (λ file. file ≡ name) (λ file. file ≡ name) _ _ c.in_ok-tree.tree name (sched_fault c.in-Err.fault) _ c.in_ok-tree.ensures.comes c.sched_fault.ensures
     (sched_refused name c.in_ok-tree.tree c.in-Err.fault c.in-Err.ensures.refused)

@@ -6,26 +6,26 @@ use Rattle.cy_replay.specs.Configuration.{text_in, config_by}
 use Rattle.cy_replay.specs.Faults.{in_file}
 use Rattle.cy_replay.specs.Steps.{dag_fault}
 use Rattle.cy_replay.proofs.Judged.{first_err, then_value, then_fault, config_accepted, config_refused}
-use Rattle.cy_replay.proofs.configuration.read_config.Goals as goal
+use Rattle.cy_replay.proofs.read.read_config.Goals as goal
 
-pub returns-in_err-tree : goal.returns-in_err-tree
-returns-in_err-tree g c =
+pub returns-in_err-tree-clause-comes : goal.returns-in_err-tree-clause-comes
+returns-in_err-tree-clause-comes g c =
     let p = err_from_is_err_and c.from_residual.result c.from_residual.ensures.1 in
     let component = c.args.component.now in
     let name = component.config_file_path in
     rw (p.1, p.2)
     (first_err (λ config. config) (text_in name) (λ file. in_file name fault.Dag (config_by c.args.number (class_named component.class_name) file)) (λ file. file ≡ name) (λ file. file ≡ name) _ _ _ (λ file asked. asked) (rw c.as_str-name.ensures.value at c.in_err-tree.ensures.comes))
 
-pub returns-in-Ok : goal.returns-in-Ok
-returns-in-Ok g c =
+pub returns-in-Ok-clause-comes : goal.returns-in-Ok-clause-comes
+returns-in-Ok-clause-comes g c =
     let component = c.args.component.now in
     let name = component.config_file_path in
     let class = class_named component.class_name in
     then_value (λ config. config) (text_in name) (λ file. in_file name fault.Dag (config_by c.args.number class file)) (λ file. file ≡ name) (λ file. file ≡ name) _ _ c.in_ok-tree.tree c.in-Ok.config (rw c.as_str-name.ensures.value at c.in_ok-tree.ensures.comes)
-    (config_accepted name c.args.number class c.in_ok-tree.tree c.in-Ok.config (rw c.as_str.ensures.value at c.in-Ok.ensures.accepted) (rw c.as_str.ensures.value at c.in-Ok.ensures.config))
+    (config_accepted name c.args.number class c.in_ok-tree.tree c.in-Ok.config (rw c.as_str.ensures.value at c.in-Ok.ensures.config).0 (rw c.as_str.ensures.value at c.in-Ok.ensures.config).1)
 
-pub returns : goal.returns
-returns g c =
+pub returns-clause-comes : goal.returns-clause-comes
+returns-clause-comes g c =
     let component = c.args.component.now in
     let name = component.config_file_path in
     let class = class_named component.class_name in

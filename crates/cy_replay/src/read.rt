@@ -1,0 +1,133 @@
+// Reads the configuration files of a replay.
+ghost use Rattle.std.specs.Prelude.{◌≡◌, ◌≤◌, Some, length, option_map, IfOk, IsOkUnless};
+ghost use Rattle.std.specs.List.{Contains};
+ghost use Rattle.cy_replay.specs.Comes.{ComesTo};
+ghost use Rattle.cy_replay.specs.Configuration.{dag_in, config_in, configs_in, sched_in, files_of};
+ghost use Rattle.cy_replay.specs.Configuration.{configuration_in, IsAsked};
+ghost use Rattle.cy_dag.specs.Wiring.{AreConfigs, IsOfClass};
+ghost use Rattle.cy_sched.specs.SchedFile.{IsPlaceable, default_sched};
+ghost use Rattle.cy_replay.specs.Steps.{dag_says, configured};
+
+use crate::error::{dag_fault, sched_fault};
+use crate::text::read_text;
+use crate::{Configuration, SetupError};
+use cy_dag::{Config, Dag, DagComponent, read_component_config, read_dag};
+use cy_msg::Items;
+use cy_sched::{Sched, read_sched};
+use cy_store::Store;
+use std::alloc::Global;
+
+// Reads a DAG file.
+fn read_dag_file<S: Store>(alloc: Global, store: &mut S, name: &str) -> Result<Dag, SetupError>
+    ensures { ComesTo dag_says (dag_in name.now) (λ file. file ≡ name.now)
+        (S.shows store.old) (S.shows store.new) result }
+{
+    let tree = read_text(alloc, store, name)?;
+    match read_dag(alloc, &tree) {
+        Ok(dag) => Ok(dag),
+        Err(fault) => Err(dag_fault(alloc, name, fault)),
+    }
+}
+
+// Reads the file of the component of a number.
+fn read_config<S: Store>(
+    alloc: Global,
+    store: &mut S,
+    number: u32,
+    component: &DagComponent,
+) -> Result<Config, SetupError>
+    ensures comes { ComesTo (λ config. config) (config_in number component.now)
+        (λ file. file ≡ component.now.config_file_path) (S.shows store.old) (S.shows store.new)
+        result }
+    ensures of_class { IfOk result (IsOfClass component.now.class_name) }
+{
+    let name = component.config_file_path.as_str();
+    let tree = read_text(alloc, store, name)?;
+    match read_component_config(alloc, &tree, number, component.class_name.as_str()) {
+        Ok(config) => Ok(config),
+        Err(fault) => Err(dag_fault(alloc, name, fault)),
+    }
+}
+
+// Reads the files of components, in their order.
+fn read_configs<S: Store>(
+    alloc: Global,
+    store: &mut S,
+    components: &[DagComponent],
+) -> Result<Vec<Config>, SetupError>
+    requires { length components.now ≤ 64 }
+    ensures comes { ComesTo (λ configs. configs.items) (configs_in components.now)
+        (Contains (files_of components.now)) (S.shows store.old) (S.shows store.new) result }
+    ensures fit { IfOk result (λ configs. AreConfigs components.now configs.items) }
+{
+    let mut configs = Vec::new(alloc);
+    for (number, component) in components.iter().enumerate() {
+        configs.push(read_config(alloc, store, number as u32, component)?)?;
+    }
+    Ok(configs)
+}
+
+// Reads a scheduler file.
+fn read_sched_file<S: Store>(alloc: Global, store: &mut S, name: &str) -> Result<Sched, SetupError>
+    ensures comes { ComesTo (λ sched. sched) (sched_in (Some name.now)) (λ file. file ≡ name.now)
+        (S.shows store.old) (S.shows store.new) result }
+    ensures placeable { IfOk result IsPlaceable }
+{
+    let tree = read_text(alloc, store, name)?;
+    match read_sched(alloc, &tree) {
+        Ok(sched) => Ok(sched),
+        Err(fault) => Err(sched_fault(alloc, name, fault)),
+    }
+}
+
+// The scheduler where no file is given.
+fn default_scheduler(alloc: Global) -> Result<Sched, SetupError>
+    ensures sched { IfOk result (λ s. s ≡ default_sched) }
+    ensures placeable { IfOk result IsPlaceable }
+    ensures only_memory { IsOkUnless result SetupError.Memory }
+{
+    match Sched::default_grp(alloc) {
+        Ok(sched) => Ok(sched),
+        Err(_) => Err(SetupError::Memory),
+    }
+}
+
+// Reads a scheduler file, or makes the default scheduler where no file is given.
+fn read_scheduler<S: Store>(
+    alloc: Global,
+    store: &mut S,
+    name: Option<&str>,
+) -> Result<Sched, SetupError>
+    ensures comes { ComesTo (λ sched. sched) (sched_in (option_map (λ n. n.now) name.entry))
+        (λ file. option_map (λ n. n.now) name.entry ≡ Some file) (S.shows store.old) (S.shows store.new)
+        result }
+    ensures placeable { IfOk result IsPlaceable }
+{
+    match name {
+        Some(name) => read_sched_file(alloc, store, name),
+        None => default_scheduler(alloc),
+    }
+}
+
+/// Reads the configuration files of a replay: a DAG file, the component files that it names, in the
+/// order of the DAG, and a scheduler file, if one is given. The first thing in the way is answered.
+pub fn read_configuration<S: Store>(
+    alloc: Global,
+    store: &mut S,
+    dag: &str,
+    sched: Option<&str>,
+) -> Result<Configuration, SetupError>
+    ensures comes { ComesTo configured (configuration_in dag.now (option_map (λ n. n.now) sched.entry))
+        (IsAsked dag.now (option_map (λ n. n.now) sched.entry) (S.shows store.old).files) (S.shows store.old)
+        (S.shows store.new) result }
+    ensures placeable { IfOk result (λ c. IsPlaceable c.sched) }
+{
+    let dag = read_dag_file(alloc, store, dag)?;
+    let configs = read_configs(alloc, store, dag.components.as_slice())?;
+    let sched = read_scheduler(alloc, store, sched)?;
+    Ok(Configuration {
+        dag,
+        configs: Items::new(configs),
+        sched,
+    })
+}
