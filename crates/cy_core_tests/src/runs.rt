@@ -8,7 +8,7 @@ use cy_comp::{Kind, Plan, Wiring};
 use cy_msg::{ContextPlan, Items, Names, Placement, PlayList, Text, Token, Tuple};
 use cy_trace::trace_text;
 use std::test::Fail;
-use wake_core::{CoreError, World, serial};
+use wake_core::{CoreError, PassWorld as World, pass_serial as serial};
 
 /// The trace of the two messages.
 const TRACE: &str = r#"cyber-trace 1

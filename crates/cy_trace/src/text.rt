@@ -10,7 +10,7 @@ use cy_comp::{Plan, Wiring};
 use cy_msg::Bytes;
 use std::alloc::Global;
 use std::io;
-use wake_core::World;
+use wake_core::PassWorld as World;
 
 /// The trace of a world that was made for a wiring: what was played and how many messages were
 /// shadowed, each component's arrivals, calls and end, and the tape. Its only error is `Memory`.

@@ -19,7 +19,7 @@ use cy_comp::Wiring;
 use cy_msg::Bytes;
 use cy_trace::{TraceError, trace_text};
 use std::alloc::Global;
-use wake_core::World;
+use wake_core::PassWorld as World;
 
 /// The run of an input, as the world that it left, with the trace and the line that tell of it.
 #[derive(Drop)]

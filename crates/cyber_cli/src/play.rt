@@ -14,7 +14,7 @@ use crate::list::play_list;
 use crate::wiring::pass_placement;
 use cy_comp::Wiring;
 use std::alloc::Global;
-use wake_core::{CoreError, World, serial};
+use wake_core::{CoreError, PassWorld as World, pass_serial as serial};
 
 // The world before so many messages are played on the channel that is read.
 #[tactic(auto, using(wake_core::proofs::PlannedPass::planned_pass))]

@@ -1,12 +1,12 @@
 -- What the lists of a world say of its run.
 use Rattle.std.specs.Prelude.{[], ◌∷◌}
-use Rattle.wake_core.specs.declared.world.World.{World}
+use Rattle.wake_core.specs.declared.pass_world.PassWorld.{PassWorld}
 use Rattle.wake_core.specs.World.{WorldView}
 use Rattle.wake_core.specs.Run.{Run}
 use Rattle.wake_core.specs.Pass.{pass_route, run_of}
 
 -- What a world shows of itself.
-unfoldable pub world_of : World → WorldView
+unfoldable pub world_of : PassWorld → WorldView
 world_of w = record {
   routes = pass_route w.queue ∷ [];
   channels = 2;

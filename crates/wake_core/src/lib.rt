@@ -15,11 +15,11 @@ mod entries;
 mod error;
 pub mod laws;
 mod phase;
-mod serial_run;
-mod world;
+mod pass_run;
+mod pass_world;
 
 pub use entries::{MOST_PLANNED, planned};
 pub use error::CoreError;
 pub use phase::Phase;
-pub use serial_run::serial;
-pub use world::World;
+pub use pass_run::pass_serial;
+pub use pass_world::PassWorld;

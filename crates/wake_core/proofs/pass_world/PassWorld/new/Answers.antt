@@ -3,7 +3,7 @@ use Rattle.std.proofs.lemmas.Option.{slice_get_read}
 use Rattle.wake_core.specs.WorldOf.{world_of}
 use Rattle.wake_core.proofs.KeptSteps.{kept_opening}
 use Rattle.wake_core.proofs.PlannedPass.{routes_of-pass, room_opening}
-use Rattle.wake_core.proofs.world.World.new.Goals as goal
+use Rattle.wake_core.proofs.pass_world.PassWorld.new.Goals as goal
 
 pub invariant_of-result-clause-room : goal.invariant_of-result-clause-room
 invariant_of-result-clause-room c = room_opening c.args.wiring.now.names c.args.wiring.now.plans c.args.counts.now _ c.planned-count.result _ _ _

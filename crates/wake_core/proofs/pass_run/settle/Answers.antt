@@ -1,7 +1,7 @@
 use Rattle.std.proofs.Common.{◌∙◌}
 use Rattle.wake_core.specs.WorldOf.{world_of}
 use Rattle.wake_core.proofs.SettleSteps.{step_onward, step_last, stays_on}
-use Rattle.wake_core.proofs.serial_run.settle.Goals as goal
+use Rattle.wake_core.proofs.pass_run.settle.Goals as goal
 
 pub loop-preserved : goal.loop-preserved
 loop-preserved c = record {

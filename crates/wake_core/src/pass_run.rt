@@ -10,13 +10,13 @@ ghost use Rattle.wake_core.specs.World.{IsMadeFor};
 ghost use Rattle.wake_core.specs.WorldOf.{world_of, with_run};
 ghost use Rattle.wake_core.specs.Pass.{passed_tape};
 
-use crate::World;
+use crate::PassWorld;
 use cy_msg::{Placement, PlayList};
 
 /// Plays the messages of a list, one after another, in a world that was made for it and in which
 /// nothing was played yet. After each message the component is resumed as long as it can be; after
 /// the last one the clock is set to its greatest value. It takes no memory.
-pub fn serial(world: &mut World, list: &PlayList, placement: &Placement)
+pub fn pass_serial(world: &mut PassWorld, list: &PlayList, placement: &Placement)
     requires opening { (world_of world.old).run ≡ opening }
     requires made { IsMadeFor (world_of world.old) list.now.tokens }
     requires scan { scan_of placement.now.contexts ≡ 0 ∷ [] }
@@ -41,7 +41,7 @@ pub fn serial(world: &mut World, list: &PlayList, placement: &Placement)
 }
 
 // Resumes the component until it can't be.
-fn settle(world: &mut World)
+fn settle(world: &mut PassWorld)
     ensures settles { Settles (next (world_of world.old).routes (0 ∷ [])) (world_of world.old).run
         (world_of world.new).run }
     ensures stays { world_of world.new ≡ with_run (world_of world.old) (world_of world.new).run }

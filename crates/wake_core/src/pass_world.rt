@@ -14,7 +14,7 @@ use std::alloc::Global;
 /// The world of one component that passes the messages of channel 0 on to channel 1. Contracts see
 /// it as the `WorldView` that `world_of` gives.
 #[derive(Drop)]
-pub struct World {
+pub struct PassWorld {
     queue: u32,
     counts: Vec<u32>,
     body: Body,
@@ -29,7 +29,7 @@ pub struct World {
 }
 
 #[tactic(auto, unfolding(crate::specs::WorldOf::world_of, crate::specs::Run::set_at))]
-impl World {
+impl PassWorld {
     ghost use Rattle.std.specs.Prelude.{◌≡◌, ◌<◌, ◌≤◌, ◌+◌, ◌-◌, ◌^◌, ◌↔◌, ℕ, Bool, true, false};
     ghost use Rattle.std.specs.Prelude.{[], ◌∷◌, Some, None, length, slice_get, slice_index};
     ghost use Rattle.std.specs.Prelude.{if◌then◌else◌, IfOk, IsErrOf};
@@ -46,7 +46,7 @@ impl World {
     /// The world of a wiring of one component, before anything is played, for a list with so many
     /// messages on each channel. It takes all the memory that the run needs. `TooMany` says that
     /// more entries are planned than a world keeps.
-    pub fn new(alloc: Global, wiring: &Wiring, counts: &[u32]) -> Result<World, CoreError>
+    pub fn new(alloc: Global, wiring: &Wiring, counts: &[u32]) -> Result<PassWorld, CoreError>
         requires wiring { IsPassWiring wiring.now.names wiring.now.plans }
         requires counts { length counts.now ≡ length wiring.now.names }
         ensures routes { IfOk result (λ w. (world_of w).routes ≡ routes_of wiring.now.plans) }
@@ -65,7 +65,7 @@ impl World {
         }
         let messages = counts[0] as usize;
         let plan = &wiring.plans.as_slice()[0];
-        Ok(World {
+        Ok(PassWorld {
             queue: plan.queue,
             counts: Vec::from_slice(alloc, counts)?,
             body: Body::new(alloc, &plan.kind)?,

@@ -1,7 +1,7 @@
 use Rattle.wake_core.specs.Run.{set_at}
 use Rattle.wake_core.specs.WorldOf.{world_of}
 use Rattle.wake_core.proofs.KeptSteps.{kept_play}
-use Rattle.wake_core.proofs.world.World.play.Goals as goal
+use Rattle.wake_core.proofs.pass_world.PassWorld.play.Goals as goal
 
 pub invariant_of-self-clause-kept : goal.invariant_of-self-clause-kept
 unfolding world_of set_at

@@ -5,7 +5,7 @@ use Rattle.wake_core.specs.WorldOf.{world_of}
 use Rattle.wake_core.proofs.Passed.{serial-passed}
 use Rattle.wake_core.proofs.Lawful.{run_lawful, run_history, run_played}
 use Rattle.wake_core.proofs.SerialSteps.{made_at, made_channel, made_room, play_onward, play_stays, play_arrived, serial_ends}
-use Rattle.wake_core.proofs.serial_run.serial.Goals as goal
+use Rattle.wake_core.proofs.pass_run.pass_serial.Goals as goal
 
 pub play-requires-clause-channel : goal.play-requires-clause-channel
 unfolding world_of

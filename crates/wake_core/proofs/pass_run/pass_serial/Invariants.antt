@@ -3,7 +3,7 @@ use Rattle.wake_core.specs.Run.{Run}
 use Rattle.wake_core.specs.Settle.{Runs}
 use Rattle.wake_core.specs.Serial.{play, next}
 use Rattle.wake_core.specs.WorldOf.{world_of, with_run}
-use Rattle.wake_core.proofs.serial_run.serial.Given as goal
+use Rattle.wake_core.proofs.pass_run.pass_serial.Given as goal
 
 -- What the rest of the messages comes to from here, all of them come to from the beginning.
 abbrev pub invariant-loop-token : goal.invariant-loop-token

@@ -3,7 +3,7 @@ use Rattle.wake_core.specs.Run.{Run}
 use Rattle.wake_core.specs.Settle.{Settles}
 use Rattle.wake_core.specs.Serial.{next}
 use Rattle.wake_core.specs.WorldOf.{world_of, with_run}
-use Rattle.wake_core.proofs.serial_run.settle.Given as goal
+use Rattle.wake_core.proofs.pass_run.settle.Given as goal
 
 -- What settles from here settles from the beginning.
 abbrev pub invariant-loop : goal.invariant-loop

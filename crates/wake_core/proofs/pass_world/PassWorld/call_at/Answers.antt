@@ -10,7 +10,7 @@ use Rattle.cy_comp.specs.Step.{step, out_of, passed}
 use Rattle.cy_comp.specs.Body.{BodyView}
 use Rattle.wake_core.specs.WorldOf.{world_of}
 use Rattle.wake_core.proofs.KeptSteps.{fetch_found, kept_room, kept_call, kept_next_is}
-use Rattle.wake_core.proofs.world.World.call_at.Goals as goal
+use Rattle.wake_core.proofs.pass_world.PassWorld.call_at.Goals as goal
 
 pub overflow_sub-position : goal.overflow_sub-position
 overflow_sub-position c = (fetch_found _ _ _ _ c.requires).some

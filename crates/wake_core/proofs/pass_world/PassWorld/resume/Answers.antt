@@ -4,7 +4,7 @@ use Rattle.cy_comp.specs.declared.call.Call.{Call}
 use Rattle.cy_comp.specs.Calls.{cursor_after}
 use Rattle.wake_core.specs.WorldOf.{world_of}
 use Rattle.wake_core.proofs.KeptSteps.{kept_none}
-use Rattle.wake_core.proofs.world.World.resume.Goals as goal
+use Rattle.wake_core.proofs.pass_world.PassWorld.resume.Goals as goal
 
 -- What the code's fetch found is what a fetch behind the calls finds.
 found_none : (calls shown : List Call) (cursor tail count queue : ℕ) → shown ≡ calls → cursor ≡ cursor_after shown → tail ≡ count
