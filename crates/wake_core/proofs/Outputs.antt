@@ -1,5 +1,5 @@
 -- What calls put out, with one call more; the outcome of the last; and where an output stands among them.
-use Rattle.std.proofs.Common.{ℕ, zero, suc, ◌+◌, ◌-◌, ◌≡◌, ◌≢◌, ◌≤◌, refl, sym, ◌∙◌, ap, arith, List, [], ◌∷◌, ◌++◌, length, length-append, take, Some, None, Option, slice_get, append_assoc, append-nil}
+use Rattle.std.proofs.Common.{ℕ, zero, suc, ◌+◌, ◌-◌, ◌≡◌, ◌≢◌, ◌≤◌, refl, sym, ◌∙◌, ap, arith, List, [], ◌∷◌, ◌++◌, length, length-append, take, Some, None, Option, slice_get, append_assoc, append-nil, subst, option_map}
 use Rattle.std.proofs.Math.Seq.{take-length}
 use Rattle.cy_msg.specs.declared.token.Token.{Token}
 use Rattle.cy_msg.specs.declared.token.Tuple.{Tuple}
@@ -155,3 +155,13 @@ outs_but_last channel (x ∷ calls) =
   where
     none : (n : ℕ) → suc n ≡ 0 → ⊥
     none n e = cc
+
+behind : (xs : List Token) (channel before : ℕ) (o : Option Out) → slice_get (xs ++ put_out channel before o) (length xs) ≡ option_map (output channel (before + 1)) o
+unfolding put_out
+behind [] channel before None = refl
+behind [] channel before (Some out) = refl
+behind (x ∷ xs) channel before o = behind xs channel before o
+
+-- What a call puts out stands behind all before it.
+pub next_out : (channel : ℕ) (xs : List Token) (o : Option Out) (n : ℕ) → n ≡ length xs → slice_get (xs ++ put_out channel (length xs) o) n ≡ option_map (output channel (n + 1)) o
+next_out channel xs o n e = subst (λ n. slice_get (xs ++ put_out channel (length xs) o) n ≡ option_map (output channel (n + 1)) o) (sym e) (behind xs channel (length xs) o)

@@ -18,7 +18,7 @@ use Rattle.wake_core.specs.Sound.{IsWired}
 use Rattle.wake_core.proofs.Listing.{either}
 use Rattle.wake_core.proofs.Writers.{source_root, source_after_root, unwritten_out, writes_some, IsWriter}
 
-writes_from-routes : (first : ℕ) (plans : List Plan) (channel : ℕ) → writes_from first (routes_of plans) channel ≡ writer_from (λ (p : Plan). p.out) first plans channel
+pub writes_from-routes : (first : ℕ) (plans : List Plan) (channel : ℕ) → writes_from first (routes_of plans) channel ≡ writer_from (λ (p : Plan). p.out) first plans channel
 writes_from-routes first [] channel = refl
 writes_from-routes first (p ∷ plans) channel = ap (λ o. cond (p.out == channel) (Some first) o) (writes_from-routes (first + 1) plans channel)
 
@@ -67,7 +67,7 @@ module _ (names : List (List ℕ)) (plans : List Plan) (wiring : IsWiring names 
           (p, is, ap (λ (x : Route). x.out) route ∙ w.writes)
 
   -- From a written channel a source is that of the writer's first reader.
-  source_of-writer : (channel c : ℕ) (p : Plan) → writes_from 0 (routes_of plans) channel ≡ Some c → slice_get plans c ≡ Some p → source_of (routes_of plans) channel ≡ first_reader (route_of p)
+  pub source_of-writer : (channel c : ℕ) (p : Plan) → writes_from 0 (routes_of plans) channel ≡ Some c → slice_get plans c ≡ Some p → source_of (routes_of plans) channel ≡ first_reader (route_of p)
   source_of-writer channel c p e at = rw (e, slice_get-map route_of plans c, at) refl
 
   -- Where so many steps come to a written channel, so many components are on the way.
@@ -157,7 +157,7 @@ module _ (names : List (List ℕ)) (plans : List Plan) (wiring : IsWiring names 
           some_none : Some d ≡ None → ⊥
           some_none e = cc
 
-  its_plan : (c : ℕ) (x : Route) → slice_get (routes_of plans) c ≡ Some x → (p : Plan) × (slice_get plans c ≡ Some p) × (route_of p ≡ x)
+  pub its_plan : (c : ℕ) (x : Route) → slice_get (routes_of plans) c ≡ Some x → (p : Plan) × (slice_get plans c ≡ Some p) × (route_of p ≡ x)
   its_plan c x at = by (slice_get plans c) refl (sym (slice_get-map route_of plans c) ∙ at)
     where
       by : (o : Option Plan) → slice_get plans c ≡ o → option_map route_of o ≡ Some x → (p : Plan) × (slice_get plans c ≡ Some p) × (route_of p ≡ x)

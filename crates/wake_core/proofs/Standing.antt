@@ -76,7 +76,7 @@ added_arrived P k before a all here n tuple e j m at = go (a.0 == 0) (latest_of 
             joined_of P a.1 ts here (latest_of_arrived P 1 (k - 1) before all ts is) j m (ap (λ x. slice_get (messages_of x) j) same ∙ at)
         only (suc n) e = cc
 
-get_parts : {X : Type 0} (xs ys : List X) (n : ℕ) (x : X) → slice_get (xs ++ ys) n ≡ Some x → (slice_get xs n ≡ Some x) ⊎ ((i : ℕ) × (slice_get ys i ≡ Some x))
+pub get_parts : {X : Type 0} (xs ys : List X) (n : ℕ) (x : X) → slice_get (xs ++ ys) n ≡ Some x → (slice_get xs n ≡ Some x) ⊎ ((i : ℕ) × (slice_get ys i ≡ Some x))
 get_parts [] ys n x e = inr (n, e)
 get_parts (y ∷ xs) ys zero x e = inl e
 get_parts (y ∷ xs) ys (suc n) x e = get_parts xs ys n x e

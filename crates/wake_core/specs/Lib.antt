@@ -5,10 +5,14 @@ pub mod Planned
 pub mod World
 pub mod Pass
 pub mod PassWiring
-pub mod WorldOf
 pub mod Plain
 pub mod Events
 pub mod Sound
 pub mod LawfulRun
 pub mod Laws
 pub mod Kept
+pub mod Fields
+pub mod Owing
+pub mod Opening
+pub mod WorldCalls
+pub mod WorldOf

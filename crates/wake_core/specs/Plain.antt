@@ -14,15 +14,12 @@ use Rattle.cy_comp.specs.Calls.{last_outcome, outs}
 use Rattle.wake_core.specs.Run.{Route, played_of, writes_from}
 pub use Rattle.cy_comp.specs.declared.state.State.{State}
 pub use Rattle.cy_comp.specs.declared.state.State.TheVariants.{Ready, DataWait, Sleep, Finished}
+pub use Rattle.wake_core.specs.declared.phase.Hand.{Hand}
 pub use Rattle.wake_core.specs.declared.phase.Phase.{Phase}
 pub use Rattle.wake_core.specs.declared.phase.Phase.TheVariants.{Fresh, Woken, Known, Asked, Empty}
 pub use Rattle.wake_core.specs.declared.phase.Phase.TheVariants.{Running, Sending, Done}
 
--- A croutine in hand, and how far its holder is with it.
-pub record Hand : Type 0 where
-  pub croutine : ℕ
-  pub phase : Phase
-
+-- A croutine in hand, in a phase.
 abbrev pub hand : ℕ → Phase → Option Hand
 hand c phase = Some record { croutine = c; phase = phase }
 

@@ -6,20 +6,13 @@ use Rattle.cy_msg.specs.declared.token.Token.{Token}
 use Rattle.cy_msg.specs.Tokens.{on_channel}
 use Rattle.cy_fuse.specs.Fusion.{Arrival, fused}
 use Rattle.cy_fuse.specs.Fetch.{fetch}
-use Rattle.cy_comp.specs.declared.kind.Kind.{Kind}
 use Rattle.cy_comp.specs.declared.call.Call.{Call}
 use Rattle.cy_comp.specs.declared.plan.Plan.{Plan}
 use Rattle.cy_comp.specs.Wiring.{writer_from}
 use Rattle.cy_comp.specs.Calls.{cursor_after, outs}
+pub use Rattle.wake_core.specs.declared.route.Route.{Route}
 
--- What a run needs of a component: its class, the channels that it reads, how many tuples it keeps,
--- and its own channel.
-pub record Route : Type 0 where
-  pub kind : Kind
-  pub readers : List ℕ
-  pub queue : ℕ
-  pub out : ℕ
-
+-- What a run needs of a component of a wiring.
 abbrev pub route_of : Plan → Route
 route_of p = record { kind = p.kind; readers = p.readers; queue = p.queue; out = p.out }
 

@@ -1,5 +1,10 @@
--- What the lists of a world say of its run.
-use Rattle.std.specs.Prelude.{[], ◌∷◌}
+-- What a world shows of its run.
+use Rattle.std.specs.Prelude.{ℕ, [], ◌∷◌, None, Option, option_map}
+use Rattle.cy_msg.specs.declared.token.Tuple.{Tuple}
+use Rattle.wake_core.specs.declared.world.World.{World}
+use Rattle.wake_core.specs.declared.found.Found.{Found}
+use Rattle.wake_core.specs.Plain.{Plain}
+use Rattle.wake_core.specs.Fields.{plain_at, read}
 use Rattle.wake_core.specs.declared.pass_world.PassWorld.{PassWorld}
 use Rattle.wake_core.specs.World.{WorldView}
 use Rattle.wake_core.specs.Run.{Run}
@@ -17,3 +22,13 @@ world_of w = record {
 -- A world whose run came to this.
 abbrev pub with_run : WorldView → Run → WorldView
 with_run w run = record w { run = run }
+
+-- The plain world that a world is.
+unfoldable pub plain_of : World → Plain
+plain_of w = plain_at w.fixed.routes.items w.fixed.counts.items w.visitors.items w.routines.items
+    w.found.items w.spent.items w.hands.items w.owed.items w.tape.items w.clock w.closing
+
+-- The tuple on which a component is still to be stepped: a fetch gave it, and no step was made
+-- since.
+unfoldable pub to_step : World → ℕ → Option Tuple
+to_step w c = option_map (λ (f : Found). f.tuple) (read (λ f. f) None w.found.items c)

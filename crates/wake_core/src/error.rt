@@ -3,6 +3,7 @@ ghost use Rattle.std.specs.Prelude.{◌≡◌};
 ghost use Rattle.wake_core.specs.declared.error.CoreError.TheVariants as core_error;
 
 use cy_comp::CompError;
+use cy_fuse::FuseError;
 use std::alloc::{AllocError, AllocFailed};
 use thiserror::Error;
 
@@ -40,6 +41,14 @@ impl From<CompError> for CoreError {
     ghost from_gives = { λ _ e. e ≡ core_error.Memory };
 
     fn from(_: CompError) -> Self {
+        CoreError::Memory
+    }
+}
+
+impl From<FuseError> for CoreError {
+    ghost from_gives = { λ _ e. e ≡ core_error.Memory };
+
+    fn from(_: FuseError) -> Self {
         CoreError::Memory
     }
 }

@@ -13,13 +13,20 @@
 
 mod entries;
 mod error;
+mod fixed;
+mod found;
 pub mod laws;
-mod phase;
+mod owed;
 mod pass_run;
 mod pass_world;
+mod phase;
+mod route;
+mod world;
 
 pub use entries::{MOST_PLANNED, planned};
 pub use error::CoreError;
-pub use phase::Phase;
 pub use pass_run::pass_serial;
 pub use pass_world::PassWorld;
+pub use phase::{Hand, Phase};
+pub use route::Route;
+pub use world::World;

@@ -1,4 +1,4 @@
-// How far a thread is with the croutine that it holds.
+// The croutine that a thread holds, and how far it is with it.
 
 /// The phase of a croutine that a thread has in hand.
 #[derive(Clone, Copy, Debug, PartialEq, Eq)]
@@ -19,4 +19,13 @@ pub enum Phase {
     Sending,
     /// What it is to do next is stored.
     Done,
+}
+
+/// A croutine in hand, and how far its holder is with it.
+#[derive(Clone, Copy, Debug, PartialEq, Eq)]
+pub struct Hand {
+    /// The number of its component.
+    pub croutine: u32,
+    /// How far its holder is with it.
+    pub phase: Phase,
 }

@@ -1,0 +1,73 @@
+-- What a fetch by a visitor is in a world.
+use Rattle.std.proofs.Common.{ℕ, ◌+◌, ◌-◌, ◌≡◌, ◌≢◌, ◌≤◌, ◌<◌, Bool, true, false, refl, sym, ◌∙◌, ap, ap₂, subst, inl, inr, arith, Option, Some, None, List, [], ◌∷◌, ◌++◌, length, slice_get, option_map, option_and_then, ◌==◌, ◌||◌, if◌then◌else◌, nat_lt, nat_le, min, max}
+use Rattle.std.proofs.lemmas.Bool.Decides.{nat_tests}
+use Rattle.cy_msg.specs.declared.token.Tuple.{Tuple}
+use Rattle.cy_fuse.specs.Fusion.{fused}
+use Rattle.cy_fuse.specs.Fetch.{fetch}
+use Rattle.cy_fuse.specs.Visitor.{VisitorView, visited}
+use Rattle.cy_comp.specs.declared.kind.Kind.{Kind}
+use Rattle.cy_comp.specs.declared.call.Call.{Call}
+use Rattle.cy_comp.specs.Step.{outcome_after, out_of}
+use Rattle.cy_comp.specs.Calls.{tuples_of}
+use Rattle.cy_comp.specs.Routine.{RoutineView, answer_to}
+use Rattle.wake_core.specs.Run.{Route}
+use Rattle.wake_core.specs.Planned.{planned_count, first_reader}
+use Rattle.wake_core.specs.Plain.{Plain, tail_at}
+use Rattle.wake_core.specs.Events.{call_on, next_call}
+use Rattle.wake_core.specs.Sound.{Consistent}
+use Rattle.wake_core.specs.Fields.{queue_of}
+use Rattle.wake_core.proofs.Arriving.{fused_planned}
+
+-- A buffer that keeps as many items as ever come answers as one that keeps more.
+pub same_ring : (index tail queue few : ℕ) → 1 ≤ queue → tail ≤ few → fetch index tail (max 1 (min queue few)) ≡ fetch index tail queue
+unfolding fetch
+same_ring index tail queue few some l = by (tail == 0) (nat_lt tail index) (index == 0) (nat_le (index + max 1 (min queue few)) tail) (nat_le (index + queue) tail) refl refl refl refl refl
+  where
+    less : index ≢ 0 → index + queue ≤ tail → index + max 1 (min queue few) ≤ tail
+    less n a = omega arith
+
+    more : index ≢ 0 → index + max 1 (min queue few) ≤ tail → index + queue ≤ tail
+    more n a = omega arith
+
+    by : (a b c d e : Bool) → (tail == 0) ≡ a → nat_lt tail index ≡ b → (index == 0) ≡ c → nat_le (index + max 1 (min queue few)) tail ≡ d → nat_le (index + queue) tail ≡ e
+        → (if a || b then None else (if c || d then Some tail else Some index)) ≡ (if a || b then None else (if c || e then Some tail else Some index))
+    by true b c d e ea eb ec ed ee = refl
+    by false true c d e ea eb ec ed ee = refl
+    by false false true d e ea eb ec ed ee = refl
+    by false false false true true ea eb ec ed ee = refl
+    by false false false false false ea eb ec ed ee = refl
+    by false false false true false ea eb ec ed ee = absurd (grind (arith, nat_tests, ec, ed, ee, more))
+    by false false false false true ea eb ec ed ee = absurd (grind (arith, nat_tests, ec, ed, ee, less))
+
+-- The call that a tuple makes which a fetch found, with its position and the tail.
+abbrev pub call_of : RoutineView → (Tuple × ℕ × ℕ) → Call
+call_of r f = record { position = f.1; tail = f.2; tuple = f.0; out = out_of (answer_to r f.0) }
+
+-- What a fetch finds, mapped to the calls that it makes.
+mapped : (r : RoutineView) (tuples : List Tuple) (o : Option ℕ)
+    → option_and_then (λ (n : ℕ). option_map (λ (t : Tuple). call_of r (t, n, length tuples)) (slice_get tuples (n - 1))) o
+    ≡ option_map (call_of r) (option_and_then (λ (n : ℕ). option_map (λ (t : Tuple). (t, n, length tuples)) (slice_get tuples (n - 1))) o)
+mapped r tuples None = refl
+mapped r tuples (Some n) = by (slice_get tuples (n - 1))
+  where
+    by : (o : Option Tuple) → option_map (λ (t : Tuple). call_of r (t, n, length tuples)) o ≡ option_map (call_of r) (option_map (λ (t : Tuple). (t, n, length tuples)) o)
+    by None = refl
+    by (Some t) = refl
+
+-- The call that a fetch makes is on what the component's visitor finds.
+pub next_visited : (w : Plain) (c index : ℕ) (x : Route) (r : RoutineView) (v : VisitorView) → slice_get w.routes c ≡ Some x → r.kind ≡ x.kind → r.calls ≡ w.calls c
+    → v.arrivals ≡ w.arrivals c → v.roles ≡ length x.readers → v.queue ≡ queue_of w.routes w.counts x → 1 ≤ x.queue → index ≡ w.cursors c → Consistent w
+    → next_call w c ≡ option_map (call_of r) (visited index v)
+next_visited w c index x r v at kind calls arrivals roles queue some cursor s =
+    let tuples : List Tuple = fused (w.arrivals c) (length x.readers) in
+    let same_tuples : fused v.arrivals v.roles ≡ tuples = ap₂ fused arrivals roles in
+    let few : length tuples ≤ planned_count w.routes w.counts (first_reader x) = fused_planned w c x at s in
+    let found : fetch index (length (fused v.arrivals v.roles)) v.queue ≡ fetch (w.cursors c) (length tuples) x.queue =
+    rw (same_tuples, queue, cursor) (same_ring (w.cursors c) (length tuples) x.queue (planned_count w.routes w.counts (first_reader x)) some few) in
+    let calls_on : (λ (n : ℕ) (t : Tuple). call_on x w c n t) ≡ (λ (n : ℕ) (t : Tuple). call_of r (t, n, length tuples)) = rw (kind, calls) refl in
+    rw at (
+    ap (λ (f : ℕ → Tuple → Call). option_and_then (λ (n : ℕ). option_map (f n) (slice_get tuples (n - 1))) (fetch (w.cursors c) (length tuples) x.queue)) calls_on
+    ∙ mapped r tuples (fetch (w.cursors c) (length tuples) x.queue)
+    ∙ ap (λ (o : Option ℕ). option_map (call_of r) (option_and_then (λ (n : ℕ). option_map (λ (t : Tuple). (t, n, length tuples)) (slice_get tuples (n - 1))) o)) (sym found)
+    ∙ ap (λ (l : List Tuple). option_map (call_of r) (option_and_then (λ (n : ℕ). option_map (λ (t : Tuple). (t, n, length l)) (slice_get l (n - 1))) (fetch index (length (fused v.arrivals v.roles)) v.queue))) (sym same_tuples)
+    )

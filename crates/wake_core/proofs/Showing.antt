@@ -1,0 +1,120 @@
+-- What the fields show to readers.
+use Rattle.std.proofs.Common.{ℕ, true, ◌+◌, ◌-◌, ◌≡◌, ◌≢◌, ◌≤◌, ◌<◌, refl, sym, ◌∙◌, ap, arith, Option, Some, None, List, [], ◌∷◌, length, get_or, slice_get, drop, option_map, option_and_then}
+use Rattle.std.specs.Option.{option_map_or}
+use Rattle.std.proofs.lemmas.Option.{slice_get_within, slice_get-get_or, slice_get_past}
+use Rattle.cy_msg.specs.declared.token.Token.{Token}
+use Rattle.cy_msg.specs.Tokens.{on_channel}
+use Rattle.cy_fuse.specs.Fusion.{Arrival}
+use Rattle.cy_comp.specs.declared.call.Call.{Call}
+use Rattle.cy_comp.specs.declared.call.Out.{Out}
+use Rattle.cy_comp.specs.Calls.{outs, output}
+use Rattle.cy_comp.specs.Routine.{RoutineView}
+use Rattle.wake_core.specs.declared.found.Found.{Found}
+use Rattle.wake_core.specs.declared.owed.Owed.{Owed}
+use Rattle.wake_core.specs.declared.entries.TheConstants.{MOST_PLANNED}
+use Rattle.wake_core.specs.Run.{Route, readers_of}
+use Rattle.wake_core.specs.Planned.{planned}
+use Rattle.wake_core.specs.Plain.{Plain, outs_of, taped_of, unsent_of, reads, lists_reader}
+use Rattle.wake_core.specs.Sound.{Sound}
+use Rattle.wake_core.specs.WorldCalls.{IsRoutineOf}
+use Rattle.wake_core.specs.Fields.{read, no_routine, shown_calls, calls_at, fills_of, IsFixed, IsWaiting, IsOwing}
+use Rattle.wake_core.proofs.Owing.{drop_first}
+use Rattle.wake_core.proofs.Listing.{get_in}
+use Rattle.wake_core.proofs.Readers.{reader_reads, lists_reader_first}
+use Rattle.wake_core.proofs.Limits.{count_limit}
+
+-- A component that is stepped shows the calls of its routine.
+pub none_found : (o : Option Found) → option_map (λ (f : Found). f.tuple) o ≡ None → o ≡ None
+none_found None e = refl
+none_found (Some f) e = absurd (cc)
+
+pub calls_stepped : (routines : List RoutineView) (found : List (Option Found)) (c : ℕ) → option_map (λ (f : Found). f.tuple) (read (λ f. f) None found c) ≡ None
+    → calls_at routines found c ≡ (read (λ r. r) no_routine routines c).calls
+calls_stepped routines found c e = ap (shown_calls (read (λ r. r) no_routine routines c)) (none_found (read (λ f. f) None found c) e)
+
+-- Its unsent output is the one that its routine says waits.
+pub unsent_is : (routes : List Route) (calls : ℕ → List Call) {routines : ℕ → RoutineView} {found : ℕ → Option Found} {sent : ℕ → ℕ} (tape : List Token) (c : ℕ) (x : Route) → slice_get routes c ≡ Some x
+    → calls c ≡ (routines c).calls → IsWaiting routes routines found sent tape
+    → slice_get (outs_of routes calls c) (taped_of routes tape c) ≡ option_map (output x.out (taped_of routes tape c + 1)) (routines c).pending
+unsent_is routes calls {routines} {found} {sent} tape c x at is h =
+    ap (λ (o : Option Route). slice_get (option_map_or (λ (x : Route). outs x.out (calls c)) o []) (taped_of routes tape c)) at
+    ∙ ap (λ (cs : List Call). slice_get (outs x.out cs) (taped_of routes tape c)) is
+    ∙ ap (slice_get (outs x.out (routines c).calls)) (sym (h.counted c))
+    ∙ h.unsent c x at
+    ∙ ap (λ n. option_map (output x.out (n + 1)) (routines c).pending) (h.counted c)
+
+-- There is a component of each number.
+pub some_route : (routes : List Route) (c : ℕ) → c < length routes → (X : Type 0) → ((x : Route) → slice_get routes c ≡ Some x → X) → X
+some_route routes c l X by = go (slice_get routes c) refl
+  where
+    go : (o : Option Route) → slice_get routes c ≡ o → X
+    go None at = absurd (get_in routes c l at)
+    go (Some x) at = by x at
+
+pub unsent_none : (routes : List Route) (calls : ℕ → List Call) {routines : ℕ → RoutineView} {found : ℕ → Option Found} {sent : ℕ → ℕ} (tape : List Token) (c : ℕ) → c < length routes
+    → calls c ≡ (routines c).calls → (routines c).pending ≡ None → IsWaiting routes routines found sent tape
+    → None ≡ slice_get (outs_of routes calls c) (taped_of routes tape c)
+unsent_none routes calls tape c l is none h = some_route routes c l _ (λ x at. sym (unsent_is routes calls tape c x at is h ∙ ap (option_map (output x.out (taped_of routes tape c + 1))) none))
+
+pub unsent_some : (routes : List Route) (calls : ℕ → List Call) {routines : ℕ → RoutineView} {found : ℕ → Option Found} {sent : ℕ → ℕ} (tape : List Token) (c : ℕ) (channel seq : ℕ) (out : Out) (t : Token) → c < length routes
+    → calls c ≡ (routines c).calls → (routines c).pending ≡ Some out → ((x : Route) → slice_get routes c ≡ Some x → channel ≡ x.out) → seq ≡ sent c → t ≡ output channel (seq + 1) out
+    → IsWaiting routes routines found sent tape
+    → Some t ≡ slice_get (outs_of routes calls c) (taped_of routes tape c)
+unsent_some routes calls tape c channel seq out t l is some channel_is seq_is t_is h = some_route routes c l _ (λ x at.
+    ap Some (t_is ∙ ap (λ k. output k (seq + 1) out) (channel_is x at) ∙ ap (λ n. output x.out (n + 1) out) (seq_is ∙ h.counted c))
+    ∙ sym (unsent_is routes calls tape c x at is h ∙ ap (option_map (output x.out (taped_of routes tape c + 1))) some))
+
+-- No component has more outputs on the tape than are planned.
+pub sent_limit : (w : Plain) (c sent : ℕ) → c < length w.routes → sent ≡ taped_of w.routes w.tape c → planned w.routes w.counts ≤ MOST_PLANNED → Sound w → sent ≤ MOST_PLANNED
+sent_limit w c sent l is limited s = some_route w.routes c l _ (λ x at.
+    let taped : taped_of w.routes w.tape c ≡ length (on_channel x.out w.tape) = ap (λ (o : Option Route). length (option_map_or (λ (x : Route). on_channel x.out w.tape) o [])) at in
+    let few = s.consistent.room.taped x.out in
+    let most = count_limit w.routes w.counts x.out MOST_PLANNED limited (s.consistent.wired.outs_known c x at) in
+    omega (arith, is, taped, few, most))
+
+-- What arrived came to one of at most four readers.
+pub few_roles : (w : Plain) (c n : ℕ) (a : Arrival) → slice_get (w.arrivals c) n ≡ Some a → IsFixed w.routes w.counts → Sound w → a.0 < 4
+few_roles w c n a at fixed s = by (slice_get w.routes c) refl (s.consistent.delivered.known c n a at)
+  where
+    by : (o : Option Route) → slice_get w.routes c ≡ o → option_and_then (λ (x : Route). slice_get x.readers a.0) o ≢ None → a.0 < 4
+    by None at some = absurd (some refl)
+    by (Some x) at some = let most = fixed.few_readers c x at in go (slice_get x.readers a.0) refl some most
+      where
+        go : (o : Option ℕ) → slice_get x.readers a.0 ≡ o → o ≢ None → length x.readers ≤ 4 → a.0 < 4
+        go None e some most = absurd (some refl)
+        go (Some r) e some most = let within = slice_get_within x.readers a.0 r e in omega (arith, within, most)
+
+-- The routine that is shown.
+pub routine_of : (w : Plain) {found : ℕ → Option Found} {sent : ℕ → ℕ} {routines : ℕ → RoutineView} (c : ℕ) (r : RoutineView) → routines c ≡ r → w.states c ≡ r.state → w.calls c ≡ (routines c).calls
+    → IsWaiting w.routes routines found sent w.tape → IsRoutineOf c w r
+routine_of w {routines = routines} c r is state calls h = record {
+  kind = λ x at. ap (λ (r : RoutineView). r.kind) (sym is) ∙ h.kinds c x at;
+  state = sym state;
+  calls = sym (calls ∙ ap (λ (r : RoutineView). r.calls) is);
+  pending = λ x at. unsent_is w.routes w.calls w.tape c x at calls h ∙ ap (λ (r : RoutineView). option_map (output x.out (taped_of w.routes w.tape c + 1)) r.pending) is;
+}
+
+-- The first reader that is left.
+pub fills_none : (routes : List Route) (o : Owed) → o.fills ≡ 0 → None ≡ slice_get (fills_of routes o) 0
+fills_none routes o e =
+    let readers = readers_of routes o.token.channel in
+    sym (drop_first readers (length readers - o.fills) ∙ slice_get_past readers (length readers - o.fills) (omega (arith, e)))
+
+pub fills_some : (routes : List Route) (o : Owed) (readers : List (ℕ × ℕ)) (d : ℕ × ℕ) → readers ≡ readers_of routes o.token.channel → length readers - o.fills < length readers
+    → Some (get_or readers (length readers - o.fills) d) ≡ slice_get (fills_of routes o) 0
+fills_some routes o readers d is l =
+    sym (slice_get-get_or readers (length readers - o.fills) d l)
+    ∙ ap (λ (rs : List (ℕ × ℕ)). slice_get rs (length rs - o.fills)) is
+    ∙ sym (drop_first (readers_of routes o.token.channel) (length (readers_of routes o.token.channel) - o.fills))
+
+-- A channel that is read is known.
+pub channel_known : (routes : List Route) (counts : List ℕ) (channel : ℕ) → 1 ≤ length (readers_of routes channel) → IsFixed routes counts → channel < length counts
+channel_known routes counts channel some fixed = by (readers_of routes channel) refl some (λ v j e. reader_reads routes channel v j e)
+  where
+    known : (v j : ℕ) (o : Option Route) → slice_get routes v ≡ o → option_and_then (λ (x : Route). slice_get x.readers j) o ≡ Some channel → channel < length counts
+    known v j None at e = cc
+    known v j (Some x) at e = fixed.known v x at j channel e
+
+    by : (rs : List (ℕ × ℕ)) → readers_of routes channel ≡ rs → 1 ≤ length rs → ((v j : ℕ) → lists_reader v j (readers_of routes channel) ≡ true → reads routes v j ≡ Some channel) → channel < length counts
+    by [] is some reader = absurd (omega (arith, some))
+    by (r ∷ rs) is some reader = known r.0 r.1 (slice_get routes r.0) refl (reader r.0 r.1 (ap (lists_reader r.0 r.1) is ∙ lists_reader_first r.0 r.1 rs))

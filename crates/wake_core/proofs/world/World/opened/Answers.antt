@@ -1,0 +1,64 @@
+use Rattle.std.proofs.Common.{ℕ, ◌*◌, ◌≡◌, ◌≤◌, sym, ◌∙◌, ap, refl, length, map, replicate, arith, List, Option, None, true, false, [], option_map}
+use Rattle.std.proofs.lemmas.List.{length-map, length-replicate}
+use Rattle.cy_comp.specs.declared.plan.Plan.{Plan}
+use Rattle.wake_core.specs.WorldOf.{plain_of, to_step}
+use Rattle.wake_core.specs.declared.found.Found.{Found}
+use Rattle.wake_core.specs.Run.{Route, route_of, routes_of}
+use Rattle.wake_core.specs.Plain.{Plain, Hand, opening_world}
+use Rattle.wake_core.specs.Fields.{read}
+use Rattle.wake_core.specs.Opening.{first_visitor, first_routine}
+use Rattle.wake_core.proofs.Rooted.{wired}
+use Rattle.wake_core.proofs.HeldTimes.{held_to_time}
+use Rattle.wake_core.proofs.Beginning.{none_alone, length_found, length_hands, read_equal, flags_from, stepping_from, waiting_from, visited_from, roomy_from, owing_from, counted_from, plain_from, sound_from}
+use Rattle.wake_core.proofs.world.World.opened.Goals as goal
+
+pub invariant_of-result : goal.invariant_of-result
+invariant_of-result c =
+    let names = c.args.wiring.now.names in
+    let plans = c.args.wiring.now.plans in
+    let routes = c.in_ok-fixed.ensures.routes in
+    let counts = c.in_ok-fixed.ensures.counts in
+    let visitors = c.in_ok-visitors_for.ensures.visitors in
+    let routines = c.in_ok-routines_for.ensures.routines in
+    let n = length c.as_slice-size.result.now in
+    let found : c.in_ok-vec.field-0.items ≡ replicate n None = c.in_ok-vec.ensures.items_if_clones_equal (none_alone _ (λ x e. e)) in
+    let spent : c.in_ok-vec-2.field-0.items ≡ replicate n true = c.in_ok-vec-2.ensures.items_if_clones_equal (λ y e. e) in
+    let sent : c.in_ok-vec-3.field-0.items ≡ replicate n 0 = c.in_ok-vec-3.ensures.items_if_clones_equal (λ y e. e) in
+    let held : c.in_ok-vec-4.field-0.items ≡ replicate n false = c.in_ok-vec-4.ensures.items_if_clones_equal (λ y e. e) in
+    let hands : c.in_ok-vec-5.field-0.items ≡ replicate 65 None = c.in_ok-vec-5.ensures.items_if_clones_equal (none_alone _ (λ x e. e)) in
+    let owed = c.in_ok-owed_for.ensures.owed in
+    let tape = c.in_ok-with_capacity.ensures.items in
+    let size : n ≡ length c.in_ok-fixed.fixed.routes.items = ap length c.as_slice-size.ensures ∙ sym (length-map plans route_of) ∙ ap length (sym routes) in
+    record {
+      sized = record {
+        visitors_fit = ap length visitors ∙ length-map (routes_of plans) (first_visitor (routes_of plans) c.args.counts.now) ∙ ap length (sym routes);
+        routines_fit = ap length routines ∙ length-map (routes_of plans) (first_routine (routes_of plans) c.args.counts.now) ∙ ap length (sym routes);
+        found_fit = length_found found ∙ size;
+        spent_fit = ap length spent ∙ length-replicate n true ∙ size;
+        sent_fit = ap length sent ∙ length-replicate n 0 ∙ size;
+        held_fit = ap length held ∙ length-replicate n false ∙ size;
+        hands_fit = length_hands hands;
+        owed_fit = owed.many;
+      };
+      flagged = flags_from (sym size) held hands;
+      stepping = stepping_from n found;
+      waiting = waiting_from c.args.counts.now n routes routines found sent tape;
+      visited = visited_from routes counts visitors;
+      roomy = roomy_from routes counts visitors routines (omega (arith, c.planned_messages.ensures.sum, c.in_ok-with_capacity.ensures.capacity));
+      owing = owing_from size owed;
+      counted = counted_from c.in_ok-fixed.fixed.routes.items tape;
+      sound = sound_from (plain_from n routes counts visitors routines found spent hands owed tape)
+          (wired names plans c.args.wiring.now.lawful c.args.counts.now c.requires.counts (λ k p earlier tuple until out at. held_to_time p.kind earlier tuple until out));
+    }
+
+pub returns-clause-opening : goal.returns-clause-opening
+unfolding plain_of to_step
+returns-clause-opening c =
+    let n = length c.as_slice-size.result.now in
+    let found : c.in_ok-vec.field-0.items ≡ replicate n None = c.in_ok-vec.ensures.items_if_clones_equal (none_alone _ (λ x e. e)) in
+    let spent : c.in_ok-vec-2.field-0.items ≡ replicate n true = c.in_ok-vec-2.ensures.items_if_clones_equal (λ y e. e) in
+    let hands : c.in_ok-vec-5.field-0.items ≡ replicate 65 None = c.in_ok-vec-5.ensures.items_if_clones_equal (none_alone _ (λ x e. e)) in
+    record {
+      opens = plain_from n c.in_ok-fixed.ensures.routes c.in_ok-fixed.ensures.counts c.in_ok-visitors_for.ensures.visitors c.in_ok-routines_for.ensures.routines found spent hands c.in_ok-owed_for.ensures.owed c.in_ok-with_capacity.ensures.items;
+      stepped = λ k. ap (λ (fs : List (Option Found)). option_map (λ (f : Found). f.tuple) (read (λ f. f) None fs k)) found ∙ ap (λ (fs : ℕ → Option Found). option_map (λ (f : Found). f.tuple) (fs k)) (read_equal None n);
+    }

@@ -1,0 +1,151 @@
+// The opening world.
+ghost use Rattle.std.specs.Prelude.{◌≡◌, ◌≤◌, IfOk, IfErr, length, map, max, min};
+ghost use Rattle.wake_core.specs.declared.error.CoreError.TheVariants as CoreError;
+ghost use Rattle.wake_core.specs.declared.entries.TheConstants.{MOST_PLANNED};
+ghost use Rattle.wake_core.specs.Run.{routes_of};
+ghost use Rattle.wake_core.specs.Planned.{planned as planned_entries};
+ghost use Rattle.wake_core.specs.Opening.{first_visitor, first_routine, IsNothing, AreNothing};
+
+use crate::entries::{planned_at, planned_messages, planned_on};
+use crate::fixed::Fixed;
+use crate::owed::Owed;
+use crate::{CoreError, MOST_PLANNED, World, planned};
+use cy_comp::{Routine, Wiring};
+use cy_fuse::Visitor;
+use cy_msg::Token;
+use std::alloc::Global;
+
+// The threads: the player and 64 others.
+const THREADS: usize = 65;
+
+impl World {
+    ghost use Rattle.std.specs.Prelude.{◌≡◌, ◌≤◌, ◌↔◌, ℕ, length, IfOk, IfErr, IsErrOf};
+    ghost use Rattle.wake_core.specs.declared.error.CoreError.TheVariants as CoreError;
+    ghost use Rattle.wake_core.specs.declared.entries.TheConstants.{MOST_PLANNED};
+    ghost use Rattle.wake_core.specs.Run.{routes_of};
+    ghost use Rattle.wake_core.specs.Planned.{planned as planned_entries};
+    ghost use Rattle.wake_core.specs.WorldOf.{plain_of, to_step};
+    ghost use Rattle.wake_core.specs.WorldCalls.{IsOpening, IsTooMany};
+
+    /// The opening world of a wiring, for a list with so many messages on each channel. It takes
+    /// all the memory that a run needs. `TooMany` says that more entries are planned than a world
+    /// keeps, and how many.
+    pub fn new(alloc: Global, wiring: &Wiring, counts: &[u32]) -> Result<Self, CoreError>
+        requires { length counts.now ≡ length wiring.now.names }
+        ensures opening { IfOk result (λ w.
+            IsOpening (routes_of wiring.now.plans) counts.now (plain_of w) (to_step w)) }
+        ensures too_many { (count : ℕ) → IsErrOf result (CoreError.TooMany count)
+            ↔ IsTooMany (routes_of wiring.now.plans) counts.now count }
+    {
+        let count = planned(wiring, counts);
+        if count > MOST_PLANNED {
+            return Err(CoreError::TooMany { count });
+        }
+        World::opened(alloc, wiring, counts)
+    }
+
+    // The opening world, where no more entries are planned than a world keeps.
+    fn opened(alloc: Global, wiring: &Wiring, counts: &[u32]) -> Result<Self, CoreError>
+        requires counts { length counts.now ≡ length wiring.now.names }
+        requires limited { planned_entries (routes_of wiring.now.plans) counts.now ≤ MOST_PLANNED }
+        ensures opening { IfOk result (λ w.
+            IsOpening (routes_of wiring.now.plans) counts.now (plain_of w) (to_step w)) }
+        ensures memory { IfErr result (λ e. e ≡ CoreError.Memory) }
+    {
+        let fixed = Fixed::new(alloc, wiring, counts)?;
+        let size = wiring.plans.as_slice().len();
+        Ok(World {
+            fixed,
+            visitors: visitors_for(alloc, wiring, counts)?,
+            routines: routines_for(alloc, wiring, counts)?,
+            found: vec![in alloc; None; size]?,
+            spent: vec![in alloc; true; size]?,
+            sent: vec![in alloc; 0; size]?,
+            held: vec![in alloc; false; size]?,
+            hands: vec![in alloc; None; THREADS]?,
+            owed: owed_for(alloc, 4 * size)?,
+            tape: Vec::with_capacity(alloc, planned_messages(wiring, counts) as usize)?,
+            played: 0,
+            clock: 0,
+            closing: false,
+        })
+    }
+}
+
+// The visitors, before anything arrived: each keeps as many tuples as its component's queue, or as
+// many as can come, where these are fewer, and has room for all arrivals.
+fn visitors_for(alloc: Global, wiring: &Wiring, counts: &[u32]) -> Result<Vec<Visitor>, CoreError>
+    requires counts { length counts.now ≡ length wiring.now.names }
+    requires limited { planned_entries (routes_of wiring.now.plans) counts.now ≤ MOST_PLANNED }
+    ensures visitors { IfOk result (λ v. v.items ≡ map
+        (first_visitor (routes_of wiring.now.plans) counts.now) (routes_of wiring.now.plans)) }
+    ensures memory { IfErr result (λ e. e ≡ CoreError.Memory) }
+{
+    let mut visitors = Vec::with_capacity(alloc, wiring.plans.as_slice().len())?;
+    for plan in wiring.plans.as_slice() {
+        let readers = plan.readers.as_slice();
+        let queue = kept_of(plan.queue, planned_on(wiring, counts, readers[0]));
+        let spare = planned_at(wiring, counts, readers) as u32;
+        visitors.push(Visitor::prepare(alloc, queue, readers.len() as u8, spare)?)?;
+    }
+    Ok(visitors)
+}
+
+// How many tuples are kept, of as many as can come: a buffer keeps one at least.
+fn kept_of(queue: u32, coming: u32) -> u32
+    ensures kept { result ≡ max 1 (min queue coming) }
+    ensures some { 1 ≤ result }
+{
+    let least = if coming < queue { coming } else { queue };
+    if least == 0 { 1 } else { least }
+}
+
+// The routines, before any call, each with room for all calls.
+fn routines_for(alloc: Global, wiring: &Wiring, counts: &[u32]) -> Result<Vec<Routine>, CoreError>
+    requires { length counts.now ≡ length wiring.now.names }
+    ensures routines { IfOk result (λ v. v.items ≡ map
+        (first_routine (routes_of wiring.now.plans) counts.now) (routes_of wiring.now.plans)) }
+    ensures memory { IfErr result (λ e. e ≡ CoreError.Memory) }
+{
+    let mut routines = Vec::with_capacity(alloc, wiring.plans.as_slice().len())?;
+    for plan in wiring.plans.as_slice() {
+        let spare = planned_on(wiring, counts, plan.readers.as_slice()[0]);
+        routines.push(Routine::new(alloc, &plan.kind, spare)?)?;
+    }
+    Ok(routines)
+}
+
+// What the threads owe, which is nothing, with room for so many components in each list.
+fn owed_for(alloc: Global, room: usize) -> Result<Vec<Owed>, CoreError>
+    ensures owed { IfOk result (λ v. AreNothing room 65 v.items) }
+    ensures memory { IfErr result (λ e. e ≡ CoreError.Memory) }
+{
+    let mut owed = Vec::with_capacity(alloc, THREADS)?;
+    for _ in 0..THREADS {
+        owed.push(nothing(alloc, room)?)?;
+    }
+    Ok(owed)
+}
+
+// What a thread owes that owes nothing.
+fn nothing(alloc: Global, room: usize) -> Result<Owed, CoreError>
+    ensures owes { IfOk result (λ o. IsNothing room o) }
+    ensures memory { IfErr result (λ e. e ≡ CoreError.Memory) }
+{
+    Ok(Owed {
+        token: BLANK,
+        fills: 0,
+        news: Vec::with_capacity(alloc, room)?,
+        looked: 0,
+        clearing: Vec::with_capacity(alloc, room)?,
+    })
+}
+
+// A message that stands for none.
+const BLANK: Token = Token {
+    channel: 0,
+    seq: 0,
+    time: 0,
+    whole: None,
+    origin: None,
+};

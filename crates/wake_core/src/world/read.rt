@@ -1,0 +1,132 @@
+// What a world tells of itself.
+ghost use Rattle.std.specs.Prelude.{◌≡◌};
+ghost use Rattle.cy_comp.specs.Calls.{output};
+
+use crate::World;
+use cy_comp::{Out, Routine, State};
+use cy_msg::Token;
+
+impl World {
+    ghost use Rattle.std.specs.Prelude.{◌≡◌, ◌<◌, ◌≤◌, ℕ, Some, None, length, slice_get};
+    ghost use Rattle.cy_msg.specs.declared.token.Token.{Token};
+    ghost use Rattle.cy_fuse.specs.Fusion.{Arrival};
+    ghost use Rattle.wake_core.specs.Plain.{played_count, unsent_of};
+    ghost use Rattle.wake_core.specs.WorldOf.{plain_of, to_step};
+    ghost use Rattle.wake_core.specs.WorldCalls.{IsRoutineOf};
+
+    /// What arrived at a component, in order: the number of the reader that each message came to,
+    /// and the message.
+    pub fn arrivals(&self, component: u32) -> &[(u8, Token)]
+        requires { component < length (plain_of self.now).routes }
+        ensures arrivals { result.now ≡ (plain_of self.now).arrivals component }
+        ensures roles { (n : ℕ) (a : Arrival) → slice_get result.now n ≡ Some a → a.0 < 4 }
+    {
+        self.visitors[component as usize].arrivals()
+    }
+
+    /// The routine of a component that isn't still to be stepped.
+    pub fn routine(&self, component: u32) -> &Routine
+        requires component { component < length (plain_of self.now).routes }
+        requires stepped { to_step self.now component ≡ None }
+        ensures { IsRoutineOf component (plain_of self.now) result.now }
+    {
+        &self.routines[component as usize]
+    }
+
+    /// The messages in the order in which they were sent.
+    pub fn tape_list(&self) -> &[Token]
+        ensures tape { result.now ≡ (plain_of self.now).tape }
+        ensures known { (n : ℕ) (t : Token) → slice_get result.now n ≡ Some t
+            → t.channel < length (plain_of self.now).counts }
+    {
+        self.tape.as_slice()
+    }
+
+    /// How many messages were played.
+    pub fn played(&self) -> u32
+        ensures { result ≡ played_count (plain_of self.now) }
+    {
+        self.played
+    }
+
+    /// The clock, in nanoseconds.
+    pub fn clock(&self) -> u64
+        ensures { result ≡ (plain_of self.now).clock }
+    {
+        self.clock
+    }
+
+    /// Whether a component's flag is spent. A clear flag says that there is news for it.
+    pub fn spent(&self, component: u32) -> bool
+        requires { component < length (plain_of self.now).routes }
+        ensures { result ≡ (plain_of self.now).spent component }
+    {
+        self.spent[component as usize]
+    }
+
+    /// Whether all was played and the run is closing.
+    pub fn closing(&self) -> bool
+        ensures { result ≡ (plain_of self.now).closing }
+    {
+        self.closing
+    }
+
+    /// The output of a component that is still to be sent, as a message of its channel; none where
+    /// all were sent.
+    pub(crate) fn unsent(&self, component: u32) -> Option<Token>
+        requires component { component < length (plain_of self.now).routes }
+        requires stepped { to_step self.now component ≡ None }
+        ensures { result ≡ unsent_of (plain_of self.now) component }
+    {
+        let index = component as usize;
+        let out = self.routines[index].pending()?;
+        Some(output_as(self.fixed.out(index), self.sent[index] + 1, out))
+    }
+
+    /// The state of a component.
+    pub(crate) fn state(&self, component: u32) -> State
+        requires { component < length (plain_of self.now).routes }
+        ensures { result ≡ (plain_of self.now).states component }
+    {
+        self.routines[component as usize].state()
+    }
+
+    /// The first reader that a thread still has to fill: the component and the number of its
+    /// reader.
+    pub(crate) fn first_fill(&self, thread: u32) -> Option<(u32, u8)>
+        requires { thread ≤ 64 }
+        ensures { result ≡ slice_get ((plain_of self.now).fills thread) 0 }
+    {
+        let owed = &self.owed[thread as usize];
+        if owed.fills == 0 {
+            return None;
+        }
+        let readers = self.fixed.readers(owed.token.channel);
+        Some(readers[readers.len() - owed.fills])
+    }
+
+    /// The first of a thread's news.
+    pub(crate) fn first_news(&self, thread: u32) -> Option<u32>
+        requires { thread ≤ 64 }
+        ensures { result ≡ slice_get ((plain_of self.now).news thread) 0 }
+    {
+        let owed = &self.owed[thread as usize];
+        if owed.looked == owed.news.len() {
+            return None;
+        }
+        Some(owed.news[owed.looked])
+    }
+}
+
+// An output as a message of a channel, with its number there.
+fn output_as(channel: u32, seq: u32, out: Out) -> Token
+    ensures { result ≡ output channel seq out }
+{
+    Token {
+        channel,
+        seq,
+        time: out.time,
+        whole: out.whole,
+        origin: out.origin,
+    }
+}
