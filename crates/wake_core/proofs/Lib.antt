@@ -55,3 +55,17 @@ pub mod Counting
 pub mod Tabled
 pub mod Beginning
 pub mod Showing
+pub mod Resting
+pub mod Playing
+pub mod Taking
+pub mod Parking
+pub mod Sending
+pub mod Putting
+pub mod Resuming
+pub mod Called
+pub mod Turning
+pub mod Ending
+pub mod Listed
+pub mod Handing
+pub mod Scanning
+pub mod Acting

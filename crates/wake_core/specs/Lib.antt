@@ -11,6 +11,8 @@ pub mod Sound
 pub mod LawfulRun
 pub mod Laws
 pub mod Kept
+pub mod Rest
+pub mod Turns
 pub mod Fields
 pub mod Owing
 pub mod Opening

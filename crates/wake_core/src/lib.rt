@@ -21,6 +21,7 @@ mod pass_run;
 mod pass_world;
 mod phase;
 mod route;
+mod serial_run;
 mod world;
 
 pub use entries::{MOST_PLANNED, planned};
@@ -29,4 +30,5 @@ pub use pass_run::pass_serial;
 pub use pass_world::PassWorld;
 pub use phase::{Hand, Phase};
 pub use route::Route;
+pub use serial_run::{finish, serial};
 pub use world::World;

@@ -1,0 +1,318 @@
+-- What the calls on a croutine in hand need and give, where thread 0 alone does anything.
+use Rattle.std.proofs.Common.{ℕ, ◌≡◌, ◌≢◌, Bool, true, false, refl, sym, ◌∙◌, ap, subst, inl, inr, List, [], Option, Some, None, option_map, arith}
+use Rattle.cy_msg.specs.declared.token.Token.{Token}
+use Rattle.cy_msg.specs.declared.token.Tuple.{Tuple}
+use Rattle.cy_comp.specs.declared.call.Call.{Call}
+use Rattle.cy_comp.specs.declared.call.Outcome.{Outcome}
+use Rattle.cy_comp.specs.Calls.{held_until}
+use Rattle.wake_core.specs.Run.{set_at, writes_from}
+use Rattle.wake_core.specs.Plain.{Plain, hand, State, Ready, DataWait, Phase, Known, Asked, Empty, Running, Sending, last_of, unsent_of}
+use Rattle.wake_core.specs.Events.{Ticks, Tapes, Sends, Asks, Fetches, Yields, Releases, IsNext, OwesNothing, next_call, state_after, after_tape, after_send, after_ask, after_call, after_none, after_fetch, after_yield}
+use Rattle.wake_core.specs.Sound.{Sound}
+use Rattle.wake_core.specs.WorldCalls.{in_hand, phase_sent, MayTape, Taped, MayAsk, MayFetch, MayStep, IsStepped}
+use Rattle.wake_core.specs.Rest.{IsAtRest}
+use Rattle.wake_core.specs.Turns.{Delivers, Delivered, Plays, IsInHand, IsCalled, IsCalledFrom, MaySendOut, MayGiveBack, GivesBack, SendsOut, Resumes, Finds, is_held}
+use Rattle.wake_core.proofs.Places.{set_at_same, set_at_there}
+use Rattle.wake_core.proofs.Playing.{plays_by}
+use Rattle.wake_core.proofs.Sending.{output_written, delivered_by}
+use Rattle.wake_core.proofs.Resuming.{held_resumes, none_resumes}
+use Rattle.wake_core.proofs.Called.{called_by, called_quiet, called_sent}
+use Rattle.wake_core.proofs.Taking.{takes_hand, passes_rest}
+use Rattle.wake_core.proofs.Handing.{in_hand_is}
+
+-- The next message may be played.
+module _ (t : Token) (w m : Plain) (rest : IsAtRest w) (next : IsNext t w) (tick : Ticks t.time w m) where
+  next_on : IsNext t m
+  next_on = subst (IsNext t) (sym tick.effect) record { unwritten = next.unwritten; next = next.next; within = next.within }
+
+  play_tapes : Tapes t m (after_tape 0 t m)
+  play_tapes = record {
+    owes = subst (OwesNothing 0) (sym tick.effect) record { filled = (rest 0).owes.filled; looked = (rest 0).owes.looked; cleared = (rest 0).owes.cleared };
+    next = next_on;
+    now = sym (ap (λ (x : Plain). x.clock) tick.effect);
+    effect = refl;
+  }
+
+  pub play_may : MayTape 0 t m
+  play_may = record { player = λ none. refl; played = λ none. play_tapes; sent = λ some. absurd (some next_on.unwritten) }
+
+  pub play_stepped : (to_step : ℕ → Option Tuple) → writes_from 0 m.routes t.channel ≢ None → IsStepped 0 m to_step
+  play_stepped to_step some = absurd (some next_on.unwritten)
+
+  module _ (n : Plain) (taped : Taped 0 t m n) where
+    play_taped : Tapes t m n
+    play_taped = taped.played next_on.unwritten
+
+    pub play_token : n.tokens 0 ≡ t
+    play_token = ap (λ (x : Plain). x.tokens 0) play_taped.effect ∙ set_at_same 0 t m.tokens
+
+    pub play_looked : n.news 0 ≡ []
+    play_looked = ap (λ (x : Plain). x.news 0) play_taped.effect ∙ play_tapes.owes.looked
+
+    pub play_cleared : n.clearing 0 ≡ []
+    play_cleared = ap (λ (x : Plain). x.clearing 0) play_taped.effect ∙ play_tapes.owes.cleared
+
+    pub play_plays : (v : Plain) → Delivers 0 n v → Plays t w v
+    play_plays v d = plays_by t w m n v rest tick play_taped d
+
+-- An output of the croutine in hand may be sent.
+module _ (t : Token) (w : Plain) (may : MaySendOut t w) (s : Sound w) where
+  out_written : writes_from 0 w.routes t.channel ≡ Some (in_hand 0 w)
+  out_written = output_written w (in_hand 0 w) t may.sends.unsent s.consistent
+
+  some_none : (n : ℕ) → Some n ≡ None → ⊥
+  some_none n e = cc
+
+  written : writes_from 0 w.routes t.channel ≢ None
+  written e = some_none (in_hand 0 w) (sym out_written ∙ e)
+
+  pub send_may : MayTape 0 t w
+  send_may = record { player = λ none. refl; played = λ none. absurd (written none); sent = λ some. may.sends }
+
+  module _ (m : Plain) (taped : Taped 0 t w m) where
+    send_taped : Sends 0 (in_hand 0 w) (phase_sent (w.hands 0)) t w m
+    send_taped = taped.sent written
+
+    pub send_token : m.tokens 0 ≡ t
+    send_token = ap (λ (x : Plain). x.tokens 0) send_taped.effect ∙ set_at_same 0 t w.tokens
+
+    pub send_looked : m.news 0 ≡ []
+    send_looked = ap (λ (x : Plain). x.news 0) send_taped.effect ∙ send_taped.owes.looked
+
+    pub send_cleared : m.clearing 0 ≡ []
+    send_cleared = ap (λ (x : Plain). x.clearing 0) send_taped.effect ∙ send_taped.owes.cleared
+
+    pub send_delivered : (v : Plain) → Delivers 0 m v → Delivered (in_hand 0 w) (phase_sent (w.hands 0)) t w v
+    send_delivered v d = delivered_by (in_hand 0 w) (phase_sent (w.hands 0)) t w m v may.alone s.consistent send_taped d
+
+-- One in hand in another phase than Running is not to be stepped.
+pub other_stepped : (c : ℕ) (f : Phase) (w : Plain) (to_step : ℕ → Option Tuple) → w.hands 0 ≡ hand c f → f ≢ Running → IsStepped 0 w to_step
+other_stepped c f w to_step held other running = absurd (other (phase_of (sym held ∙ running)))
+  where
+    phase_of : {n : ℕ} → hand c f ≡ hand n Running → f ≡ Running
+    phase_of e = grind (arith, e)
+
+pub here_stepped : (c : ℕ) (f : Phase) (w : Plain) (to_step : ℕ → Option Tuple) → w.hands 0 ≡ hand c f → to_step c ≡ None → IsStepped 0 w to_step
+here_stepped c f w to_step held none running = ap to_step (in_hand_is c f w held) ∙ none
+
+-- A held output.
+module _ (c : ℕ) (t : Token) (w : Plain) (h : IsInHand c Known w) (ready : w.states c ≡ Ready) (unsent : unsent_of w c ≡ Some t) where
+  known_sends : phase_sent (w.hands 0) ≡ Sending
+  known_sends = ap phase_sent h.held
+
+  it : in_hand 0 w ≡ c
+  it = in_hand_is c Known w h.held
+
+  pub held_may : MaySendOut t w
+  held_may = record {
+    alone = h.alone;
+    sends = subst (λ n. Sends 0 n (phase_sent (w.hands 0)) t w (after_send 0 n (phase_sent (w.hands 0)) t w)) (sym it)
+        record { owes = h.owes; held = inr (h.held, ready, known_sends); unsent = unsent; effect = refl };
+  }
+
+  pub held_stepped : (to_step : ℕ → Option Tuple) → IsStepped 0 w to_step
+  held_stepped to_step = other_stepped c Known w to_step h.held (λ e. cc)
+
+  module _ (m : Plain) (d : Delivered (in_hand 0 w) (phase_sent (w.hands 0)) t w m) where
+    held_sent : Delivered c Sending t w m
+    held_sent = subst (λ f. Delivered c f t w m) known_sends (subst (λ n. Delivered n (phase_sent (w.hands 0)) t w m) it d)
+
+    sent_it : in_hand 0 m ≡ c
+    sent_it = in_hand_is c Sending m held_sent.in_hand.held
+
+    pub sent_may : MayGiveBack Ready m
+    sent_may = subst (λ n. Yields 0 n Ready m (after_yield 0 n Ready m)) (sym sent_it)
+        record { owes = held_sent.in_hand.owes; held = inr (inr (held_sent.in_hand.held, refl, held_sent.all)); effect = refl }
+
+    pub sent_stepped : (to_step : ℕ → Option Tuple) → IsStepped 0 m to_step
+    sent_stepped to_step = other_stepped c Sending m to_step held_sent.in_hand.held (λ e. cc)
+
+    pub held_back_resumes : (v : Plain) → Sound w → GivesBack Ready m v → Resumes c w v
+    held_back_resumes v s g = held_resumes c t w m g.between v h s ready unsent held_sent
+        (subst (λ n. Yields 0 n Ready m g.between) sent_it g.yields)
+        (subst (λ n. Releases 0 n g.between v) sent_it g.releases)
+
+-- A fetch, and what it finds.
+module _ (c : ℕ) (w : Plain) (h : IsInHand c Known w) (ready : w.states c ≡ Ready) (none_held : unsent_of w c ≡ None) where
+  known_it : in_hand 0 w ≡ c
+  known_it = in_hand_is c Known w h.held
+
+  pub call_may : MayAsk 0 w
+  call_may = subst (λ n. Asks 0 n w (after_ask 0 n w)) (sym known_it) record { held = h.held; ready = ready; none_held = none_held; effect = refl }
+
+  module _ (m : Plain) (asks : Asks 0 (in_hand 0 w) w m) where
+    asked : Asks 0 c w m
+    asked = subst (λ n. Asks 0 n w m) known_it asks
+
+    asked_held : m.hands 0 ≡ hand c Asked
+    asked_held = ap (λ (x : Plain). x.hands 0) asked.effect ∙ set_at_same 0 (hand c Asked) w.hands
+
+    asked_it : in_hand 0 m ≡ c
+    asked_it = in_hand_is c Asked m asked_held
+
+    pub fetch_may : MayFetch 0 m
+    fetch_may = asked_held ∙ ap (λ n. hand n Asked) (sym asked_it)
+
+    module _ (n : Plain) (fetches : Fetches 0 (in_hand 0 m) m n) where
+      fetched : Fetches 0 c m n
+      fetched = subst (λ k. Fetches 0 k m n) asked_it fetches
+
+      -- It found nothing.
+      module _ (answer : None ≡ option_map (λ (x : Call). x.tuple) (next_call m (in_hand 0 m))) where
+        none_call : next_call m c ≡ None
+        none_call = ap (next_call m) (sym asked_it) ∙ by (next_call m (in_hand 0 m)) answer
+          where
+            by : (o : Option Call) → None ≡ option_map (λ (x : Call). x.tuple) o → o ≡ None
+            by None e = refl
+            by (Some x) e = cc
+
+        nothing_is : n ≡ after_none 0 c m
+        nothing_is = fetched.effect ∙ ap (λ (o : Option Call). after_fetch 0 c o m) none_call
+
+        nothing_held : n.hands 0 ≡ hand c Empty
+        nothing_held = ap (λ (x : Plain). x.hands 0) nothing_is ∙ set_at_same 0 (hand c Empty) m.hands
+
+        nothing_it : in_hand 0 n ≡ c
+        nothing_it = in_hand_is c Empty n nothing_held
+
+        pub nothing_may : MayGiveBack DataWait n
+        nothing_may = subst (λ k. Yields 0 k DataWait n (after_yield 0 k DataWait n)) (sym nothing_it) record {
+          owes = record {
+            filled = ap (λ (x : Plain). x.fills 0) (nothing_is ∙ ap (after_none 0 c) asked.effect) ∙ h.owes.filled;
+            looked = ap (λ (x : Plain). x.news 0) (nothing_is ∙ ap (after_none 0 c) asked.effect) ∙ h.owes.looked;
+            cleared = ap (λ (x : Plain). x.clearing 0) (nothing_is ∙ ap (after_none 0 c) asked.effect) ∙ h.owes.cleared;
+          };
+          held = inl (nothing_held, refl);
+          effect = refl;
+        }
+
+        pub nothing_stepped : (to_step : ℕ → Option Tuple) → IsStepped 0 n to_step
+        nothing_stepped to_step = other_stepped c Empty n to_step nothing_held (λ e. cc)
+
+        pub nothing_resumes : (v : Plain) → GivesBack DataWait n v → Resumes c w v
+        nothing_resumes v g = none_resumes c w m n g.between v h asked fetched none_call
+            (subst (λ k. Yields 0 k DataWait n g.between) nothing_it g.yields)
+            (subst (λ k. Releases 0 k g.between v) nothing_it g.releases)
+
+      -- It found a tuple.
+      module _ (tuple : Tuple) (answer : Some tuple ≡ option_map (λ (x : Call). x.tuple) (next_call m (in_hand 0 m))) where
+        pub some_call : (x : Call) × (next_call m c ≡ Some x)
+        some_call = by (next_call m (in_hand 0 m)) answer (ap (next_call m) (sym asked_it))
+          where
+            by : (o : Option Call) → Some tuple ≡ option_map (λ (x : Call). x.tuple) o → next_call m c ≡ o → (x : Call) × (next_call m c ≡ Some x)
+            by None e is = cc
+            by (Some x) e is = (x, is)
+
+        made_is : n ≡ after_call 0 c some_call.0 m
+        made_is = fetched.effect ∙ ap (λ (o : Option Call). after_fetch 0 c o m) some_call.1
+
+        made_held : n.hands 0 ≡ hand c Running
+        made_held = ap (λ (x : Plain). x.hands 0) made_is ∙ set_at_same 0 (hand c Running) m.hands
+
+        made_it : in_hand 0 n ≡ c
+        made_it = in_hand_is c Running n made_held
+
+        pub step_may : (before after : ℕ → Option Tuple) → after ≡ set_at (in_hand 0 m) (Some tuple) before → MayStep 0 tuple n after
+        step_may before after e = record {
+          held = made_held ∙ ap (λ k. hand k Running) (sym made_it);
+          given = ap (λ (f : ℕ → Option Tuple). f (in_hand 0 n)) e ∙ set_at_there (in_hand 0 m) (Some tuple) before (in_hand 0 n) (made_it ∙ sym asked_it);
+        }
+
+        pub step_stepped : (before after : ℕ → Option Tuple) → after ≡ set_at (in_hand 0 n) None before → after c ≡ None
+        step_stepped before after e = ap (λ (f : ℕ → Option Tuple). f c) e ∙ set_at_there (in_hand 0 n) None before c (sym made_it)
+
+        module _ (s : Sound w) (o : Plain) (same : o ≡ n) where
+          pub made_called : IsCalledFrom c some_call.0 w o
+          made_called = record {
+            before = h;
+            sound = s;
+            ready = ready;
+            called = subst (λ (x : Plain). IsCalled c some_call.0 w x) (sym same) (called_by c some_call.0 w m n h asked fetched some_call.1);
+          }
+
+          pub made_in_hand : IsInHand c Running o
+          made_in_hand = made_called.called.in_hand
+
+          pub made_last : (outcome : Outcome) → last_of n.routes n.calls (in_hand 0 n) ≡ Some outcome → last_of o.routes o.calls c ≡ Some outcome
+          made_last outcome e = ap (λ (x : Plain). last_of x.routes x.calls c) same ∙ ap (last_of n.routes n.calls) (sym made_it) ∙ e
+
+-- What follows a call.
+module _ (c : ℕ) (w : Plain) (h : IsInHand c Running w) (outcome : Outcome) (last : last_of w.routes w.calls c ≡ Some outcome) where
+  running_it : in_hand 0 w ≡ c
+  running_it = in_hand_is c Running w h.held
+
+  running_sends : phase_sent (w.hands 0) ≡ Running
+  running_sends = ap phase_sent h.held
+
+  -- Its output is held back.
+  pub holds_out : (answer : Bool) → answer ≡ is_held (held_until (Some outcome)) → answer ≡ true → SendsOut c w w
+  holds_out answer says is = record { turn = inl (refl, λ none. absurd (true_false (sym is ∙ says ∙ ap is_held (sym (ap held_until last) ∙ none)))) }
+    where
+      true_false : true ≡ false → ⊥
+      true_false e = cc
+
+  -- It isn't, and there is none, ..
+  pub none_out : unsent_of w c ≡ None → SendsOut c w w
+  none_out none = record { turn = inl (refl, λ e. none) }
+
+  -- .. or there is one.
+  module _ (answer : Bool) (says : answer ≡ is_held (held_until (Some outcome))) (isnt : answer ≡ false) (t : Token) (unsent : unsent_of w c ≡ Some t) where
+    none_held_back : held_until (last_of w.routes w.calls c) ≡ None
+    none_held_back = ap held_until last ∙ by (held_until (Some outcome)) (sym says ∙ isnt)
+      where
+        by : (o : Option ℕ) → is_held o ≡ false → o ≡ None
+        by None e = refl
+        by (Some n) e = cc
+
+    pub out_may : MaySendOut t w
+    out_may = record {
+      alone = h.alone;
+      sends = subst (λ n. Sends 0 n (phase_sent (w.hands 0)) t w (after_send 0 n (phase_sent (w.hands 0)) t w)) (sym running_it)
+          record { owes = h.owes; held = inl (h.held, none_held_back, running_sends); unsent = unsent; effect = refl };
+    }
+
+    pub out_sent : (v : Plain) → Delivered (in_hand 0 w) (phase_sent (w.hands 0)) t w v → SendsOut c w v
+    out_sent v d = record { turn = inr (t, none_held_back, unsent, subst (λ f. Delivered c f t w v) running_sends (subst (λ n. Delivered n (phase_sent (w.hands 0)) t w v) running_it d)) }
+
+  -- It yields as the outcome says.
+  module _ (m : Plain) (sends : SendsOut c w m) where
+    after_hand : IsInHand c Running m
+    after_hand = elim sends.turn [ inl k ↦ subst (IsInHand c Running) (sym k.0) h | inr k ↦ k.3.in_hand ]
+
+    after_last : last_of m.routes m.calls c ≡ Some outcome
+    after_last = elim sends.turn [
+      | inl k ↦ ap (λ (x : Plain). last_of x.routes x.calls c) k.0 ∙ last
+      | inr k ↦ ap (λ (x : Plain). last_of x.routes x.calls c) k.3.same ∙ last
+    ]
+
+    after_unsent : held_until (last_of m.routes m.calls c) ≡ None → unsent_of m c ≡ None
+    after_unsent e = elim sends.turn [
+      | inl k ↦ ap (λ (x : Plain). unsent_of x c) k.0 ∙ k.1 (ap held_until last ∙ sym (ap held_until after_last) ∙ e)
+      | inr k ↦ k.3.all
+    ]
+
+    after_it : in_hand 0 m ≡ c
+    after_it = in_hand_is c Running m after_hand.held
+
+    pub follow_may : (state : State) → state ≡ state_after outcome → MayGiveBack state m
+    follow_may state is = subst (λ n. Yields 0 n state m (after_yield 0 n state m)) (sym after_it) record {
+      owes = after_hand.owes;
+      held = inr (inl (after_hand.held, ap (option_map state_after) after_last ∙ ap (λ s. Some s) (sym is), after_unsent));
+      effect = refl;
+    }
+
+    pub follow_stepped : (before after : ℕ → Option Tuple) → before c ≡ None → after ≡ before → IsStepped 0 m after
+    follow_stepped before after none same = here_stepped c Running m after after_hand.held (ap (λ (f : ℕ → Option Tuple). f c) same ∙ none)
+
+    pub follow_resumes : (state : State) (v : Plain) → GivesBack state m v → (first : Plain) (x : Call) → IsCalledFrom c x first w → Resumes c first v
+    follow_resumes state v g first x k =
+        let yields : Yields 0 c state m g.between = subst (λ n. Yields 0 n state m g.between) after_it g.yields in
+        let releases : Releases 0 c g.between v = subst (λ n. Releases 0 n g.between v) after_it g.releases in
+        elim sends.turn [
+          | inl j ↦ called_quiet c x first w k.before k.sound k.ready k.called j.1 state g.between v (subst (λ (y : Plain). Yields 0 c state y g.between) j.0 yields) releases
+          | inr j ↦ called_sent c x first w k.before k.sound k.ready k.called j.0 m j.1 j.2 j.3 state g.between v yields releases
+        ]
+
+-- What was found is in hand.
+pub found_hand : (order : List ℕ) (c : ℕ) (w m : Plain) → IsAtRest w → Finds order c w m → IsInHand c Known m
+found_hand order c w m rest f = takes_hand c f.between m (passes_rest f.before w f.between rest f.passes) f.takes

@@ -1,0 +1,17 @@
+use Rattle.std.proofs.Common.{refl}
+use Rattle.cy_msg.specs.Placement.{scan_of}
+use Rattle.wake_core.specs.WorldOf.{plain_of}
+use Rattle.wake_core.proofs.Acting.{found_hand}
+use Rattle.wake_core.proofs.Turning.{turns_by}
+use Rattle.wake_core.proofs.serial_run.turn.Goals as goal
+
+pub resume-requires-clause-held : goal.resume-requires-clause-held
+resume-requires-clause-held c = found_hand (scan_of c.args.contexts.now) c.in-Some.component (plain_of c.args.world.now) (plain_of c.first_of_all.new.world) c.requires.rest
+    (c.in-Some.ensures.found c.in-Some.component refl)
+
+pub resume-requires-clause-ready : goal.resume-requires-clause-ready
+resume-requires-clause-ready c = (c.in-Some.ensures.found c.in-Some.component refl).ready
+
+pub returns-in-Some-clause-turns : goal.returns-in-Some-clause-turns
+returns-in-Some-clause-turns c = λ e. turns_by (scan_of c.args.contexts.now) c.in-Some.component (plain_of c.args.world.now) (plain_of c.first_of_all.new.world) (plain_of c.resume.new.world) c.requires.rest
+    (c.in-Some.ensures.found c.in-Some.component refl) c.resume.ensures

@@ -1,0 +1,249 @@
+-- What the serial run does with a world, call by call. Thread 0 does all of it.
+use Rattle.std.specs.Prelude.{ℕ, zero, suc, ◌+◌, ◌-◌, ◌*◌, ◌≡◌, ◌≢◌, ◌<◌, ◌⊎◌, ◌&&◌, Bool, true}
+use Rattle.std.specs.Prelude.{false, not, List, [], ◌∷◌, ◌++◌, length, Option, Some, slice_get}
+use Rattle.std.specs.Prelude.{None, if◌then◌else◌, nat_lt, is_some}
+use Rattle.std.specs.Option.{option_map_or}
+use Rattle.cy_msg.specs.declared.token.Token.{Token}
+use Rattle.cy_comp.specs.declared.call.Call.{Call}
+use Rattle.cy_comp.specs.Calls.{held_until}
+use Rattle.wake_core.specs.Run.{Route, set_at, arrive, readers_of, played_of}
+use Rattle.wake_core.specs.Planned.{planned_count, first_reader, counts_from}
+use Rattle.wake_core.specs.Settle.{Settles}
+use Rattle.wake_core.specs.Serial.{is_runnable, resume, play, next}
+use Rattle.wake_core.specs.Plain.{Plain, hand, State, Ready, DataWait, Sleep, Finished, Phase}
+use Rattle.wake_core.specs.Plain.{Known, Running, lists, last_of, unsent_of}
+use Rattle.wake_core.specs.Events.{OwesNothing, IsDue, Sends, Yields, Releases, next_call}
+use Rattle.wake_core.specs.Events.{after_send, after_yield}
+use Rattle.wake_core.specs.WorldCalls.{in_hand, phase_sent}
+use Rattle.wake_core.specs.Laws.{IsIdle}
+use Rattle.wake_core.specs.Sound.{Sound}
+use Rattle.wake_core.specs.Rest.{IsAtRest, run_shown, StaysFixed}
+
+-- The thread's message arrives at each of the readers that it still has to fill.
+pub record FillsAll (p : ℕ) (w v : Plain) : Type 0 where
+  pub same : v ≡ record w { arrivals = v.arrivals; fills = v.fills; news = v.news }
+  pub arrivals : v.arrivals ≡ arrive (w.fills p) (w.tokens p) w.arrivals
+  pub fills : v.fills ≡ set_at p [] w.fills
+  pub news : v.news ≡ set_at p (v.news p) w.news
+
+-- The thread looks at each of its news, and clears the flag of each that waits.
+pub record LooksAll (p : ℕ) (w v : Plain) : Type 0 where
+  pub same : v ≡ record w { spent = v.spent; news = v.news; clearing = v.clearing }
+  pub news : v.news ≡ set_at p [] w.news
+  pub clearing : v.clearing ≡ set_at p [] w.clearing
+
+-- It looks at the first of its news, and clears its flag where it waits.
+pub record Tells (p c : ℕ) (w v : Plain) : Type 0 where
+  pub later : List ℕ
+  pub first : w.news p ≡ c ∷ later
+  pub same : v ≡ record w { spent = v.spent; news = v.news; clearing = v.clearing }
+  pub news : v.news ≡ set_at p later w.news
+  pub clearing : v.clearing ≡ w.clearing
+
+-- It does both, filling and looking, and owes nothing then. Which flags were cleared isn't said:
+-- that no croutine is lost is said of every world.
+pub record Delivers (p : ℕ) (w v : Plain) : Type 0 where
+  pub same : v ≡ record w {
+    arrivals = v.arrivals;
+    fills = v.fills;
+    news = v.news;
+    clearing = v.clearing;
+    spent = v.spent;
+  }
+  pub arrivals : v.arrivals ≡ arrive (w.fills p) (w.tokens p) w.arrivals
+  pub fills : v.fills ≡ set_at p [] w.fills
+  pub news : v.news ≡ set_at p [] w.news
+  pub clearing : v.clearing ≡ set_at p [] w.clearing
+
+-- All but thread 0 are idle.
+abbrev pub IsAlone : Plain → Type 0
+IsAlone w = (q : ℕ) → q ≢ 0 → IsIdle q w
+
+-- Thread 0 has a croutine in hand, and nobody owes anything.
+pub record IsInHand (c : ℕ) (phase : Phase) (w : Plain) : Type 0 where
+  pub alone : IsAlone w
+  pub held : w.hands 0 ≡ hand c phase
+  pub owes : OwesNothing 0 w
+
+-- The output of the croutine in hand may be sent by thread 0, which alone does anything.
+pub record MaySendOut (t : Token) (w : Plain) : Type 0 where
+  pub alone : IsAlone w
+  pub sends : Sends 0 (in_hand 0 w) (phase_sent (w.hands 0)) t w
+      (after_send 0 (in_hand 0 w) (phase_sent (w.hands 0)) t w)
+
+-- A message is played: the world is at rest again, and shows that.
+pub record Plays (t : Token) (w v : Plain) : Type 0 where
+  pub rest : IsAtRest v
+  pub run : run_shown v ≡ play w.routes t (run_shown w)
+  pub routes : v.routes ≡ w.routes
+  pub counts : v.counts ≡ w.counts
+  pub closing : v.closing ≡ w.closing
+  pub played : played_of v.routes v.tape ≡ played_of w.routes w.tape ++ t ∷ []
+
+-- A croutine is parked: its flag is spent, and it is neither READY nor due.
+pub record IsParked (c : ℕ) (w : Plain) : Type 0 where
+  pub spent : w.spent c ≡ true
+  pub resting : w.states c ≢ Ready
+  pub not_due : IsDue (w.states c) w.clock → ⊥
+
+-- A croutine is acquired and updated: it is READY then, or it is parked with the state that it had.
+pub record Takes (c : ℕ) (w v : Plain) : Type 0 where
+  pub known : c < length w.routes
+  pub same : v ≡ record w { hands = v.hands; states = v.states; spent = v.spent }
+  pub hands : v.hands ≡ set_at 0 (hand c Known) w.hands
+  pub states : v.states ≡ set_at c (v.states c) w.states
+  pub spent : v.spent ≡ set_at c (v.spent c) w.spent
+  pub spends : w.spent c ≡ true → v.spent c ≡ true
+  pub flag : (IsDue (w.states c) w.clock → ⊥) → v.spent c ≡ true
+  pub woken : v.states c ≡ Ready → (IsDue (w.states c) w.clock → ⊥)
+      → (w.states c ≡ Ready) ⊎ (w.spent c ≡ false)
+  pub parked : v.states c ≢ Ready → IsParked c v × (v.states c ≡ w.states c)
+
+-- Croutines are taken in turn and given back, since none is READY: each is parked.
+pub record Passes (order : List ℕ) (w v : Plain) : Type 0 where
+  pub effect : v ≡ record w { spent = v.spent }
+  pub spends : (c : ℕ) → w.spent c ≡ true → v.spent c ≡ true
+  pub parked : (c : ℕ) → lists c order ≡ true → IsParked c v
+
+-- The first of them that is READY is in hand.
+pub record Finds (order : List ℕ) (c : ℕ) (w v : Plain) : Type 0 where
+  pub before : List ℕ
+  pub after : List ℕ
+  pub there : order ≡ before ++ c ∷ after
+  pub between : Plain
+  pub sound : Sound between
+  pub passes : Passes before w between
+  pub takes : Takes c between v
+  pub ready : v.states c ≡ Ready
+
+-- An output of the croutine in hand was sent and delivered: nothing of it is unsent then.
+pub record Delivered (c : ℕ) (next : Phase) (t : Token) (w v : Plain) : Type 0 where
+  pub same : v ≡ record w {
+    tape = w.tape ++ t ∷ [];
+    arrivals = v.arrivals;
+    hands = v.hands;
+    fills = v.fills;
+    news = v.news;
+    clearing = v.clearing;
+    tokens = v.tokens;
+    spent = v.spent;
+  }
+  pub arrivals : v.arrivals ≡ arrive (readers_of w.routes t.channel) t w.arrivals
+  pub in_hand : IsInHand c next v
+  pub all : unsent_of v c ≡ None
+  pub others : (k : ℕ) → k ≢ c → unsent_of v k ≡ unsent_of w k
+  pub played : played_of v.routes v.tape ≡ played_of w.routes w.tape
+
+-- The croutine in hand, which had nothing unsent, was called: it is in phase Running.
+pub record IsCalled (c : ℕ) (call : Call) (w v : Plain) : Type 0 where
+  pub same : v ≡ record w {
+    cursors = v.cursors;
+    calls = set_at c (w.calls c ++ call ∷ []) w.calls;
+    states = v.states;
+    hands = v.hands;
+  }
+  pub in_hand : IsInHand c Running v
+  pub found : next_call w c ≡ Some call
+  pub none_held : unsent_of w c ≡ None
+
+-- It was called from a world in which it was READY.
+pub record IsCalledFrom (c : ℕ) (call : Call) (w v : Plain) : Type 0 where
+  pub before : IsInHand c Known w
+  pub sound : Sound w
+  pub ready : w.states c ≡ Ready
+  pub called : IsCalled c call w v
+
+-- Its output was sent and delivered where there is one that isn't held back.
+pub record SendsOut (c : ℕ) (w v : Plain) : Type 0 where
+  pub turn : ((v ≡ w) × (held_until (last_of w.routes w.calls c) ≡ None → unsent_of w c ≡ None))
+      ⊎ ((t : Token) × (held_until (last_of w.routes w.calls c) ≡ None)
+      × (unsent_of w c ≡ Some t) × Delivered c Running t w v)
+
+-- The croutine in hand may yield in a state; it did, and was given back.
+abbrev pub MayGiveBack : State → Plain → Type 0
+MayGiveBack state w = Yields 0 (in_hand 0 w) state w (after_yield 0 (in_hand 0 w) state w)
+
+pub record GivesBack (state : State) (w v : Plain) : Type 0 where
+  pub between : Plain
+  pub yields : Yields 0 (in_hand 0 w) state w between
+  pub releases : Releases 0 (in_hand 0 w) between v
+
+-- So much of numbers from each below a bound.
+abbrev pub sum_below : ℕ → (ℕ → ℕ) → ℕ
+sum_below zero f = 0
+sum_below (suc n) f = f n + sum_below n f
+
+-- How many more messages can come onto the tape.
+abbrev pub tape_left : Plain → ℕ
+tape_left w = counts_from w.routes w.counts 0 (length w.counts) - length w.tape
+
+-- How many more calls a component can have that had these.
+abbrev pub calls_left : List Route → List ℕ → (c : ℕ) → List Call → ℕ
+calls_left routes counts c calls = option_map_or
+    (λ (x : Route). planned_count routes counts (first_reader x) - length calls)
+    (slice_get routes c) 0
+
+-- How many more messages and calls there is room for.
+abbrev pub left_of : Plain → ℕ
+left_of w = tape_left w
+    + sum_below (length w.routes) (λ c. calls_left w.routes w.counts c (w.calls c))
+
+-- Whether a croutine is READY, and whether it is due.
+abbrev pub is_ready : State → Bool
+is_ready Ready = true
+is_ready DataWait = false
+is_ready (Sleep until) = false
+is_ready Finished = false
+
+abbrev pub is_due : State → (clock : ℕ) → Bool
+is_due Ready clock = false
+is_due DataWait clock = false
+is_due (Sleep until) clock = nat_lt until clock
+is_due Finished clock = false
+
+-- Whether there is a time until which an output is held back.
+abbrev pub is_held : Option ℕ → Bool
+is_held until = is_some until
+
+-- A croutine is loose where it is READY or its flag is clear.
+abbrev pub loose : State → (was_spent : Bool) → ℕ
+loose state was_spent = if not (is_ready state) && was_spent then 0 else 1
+
+abbrev pub loose_of : Plain → ℕ
+loose_of w = sum_below (length w.routes) (λ c. loose (w.states c) (w.spent c))
+
+-- How many more turns there can be: each leaves less room, or makes one croutine less loose.
+abbrev pub turns_left : Plain → ℕ
+turns_left w = left_of w * (length w.routes + 1) + loose_of w
+
+-- What a croutine that was taken came to, once it is given back: a step of the serial run; or it
+-- found nothing, and waits again.
+pub record Steps (c : ℕ) (w v : Plain) : Type 0 where
+  pub can : is_runnable w.routes (run_shown w) c ≡ true
+  pub run : run_shown v ≡ resume w.routes (run_shown w) c
+  pub left : left_of v < left_of w
+
+pub record Waits (c : ℕ) (w v : Plain) : Type 0 where
+  pub same : v ≡ record w { states = set_at c DataWait w.states; hands = v.hands }
+  pub none_held : unsent_of w c ≡ None
+
+pub record Resumes (c : ℕ) (w v : Plain) : Type 0 where
+  pub rest : IsAtRest v
+  pub stays : StaysFixed w v
+  pub turn : Steps c w v ⊎ Waits c w v
+
+-- One turn of a scan: the first croutine that is READY was resumed. Either it is the first that can
+-- be resumed in the serial run, and was; or the world shows what it showed before.
+pub record Turns (scan : List ℕ) (w v : Plain) : Type 0 where
+  pub rest : IsAtRest v
+  pub stays : StaysFixed w v
+  pub shows : (next w.routes scan (run_shown w) ≡ Some (run_shown v))
+      ⊎ (run_shown v ≡ run_shown w)
+  pub fewer : turns_left v < turns_left w
+
+-- Croutines were resumed until none was READY in a whole scan: all are parked.
+pub record IsSettled (scan : List ℕ) (w v : Plain) : Type 0 where
+  pub rest : IsAtRest v
+  pub stays : StaysFixed w v
+  pub settles : Settles (next w.routes scan) (run_shown w) (run_shown v)
+  pub parked : (c : ℕ) → lists c scan ≡ true → IsParked c v

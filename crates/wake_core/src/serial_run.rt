@@ -1,0 +1,344 @@
+// The serial run: what the events come to where one thread does them all.
+ghost use Rattle.std.specs.Prelude.{ℕ, ◌≡◌, ◌≤◌, ◌<◌, ◌&&◌, true, false, [], Some, None, length};
+ghost use Rattle.std.specs.Prelude.{slice_get};
+ghost use Rattle.cy_msg.specs.Placement.{scan_of};
+ghost use Rattle.cy_comp.specs.declared.call.Call.{Call};
+ghost use Rattle.cy_comp.specs.Calls.{held_until};
+ghost use Rattle.wake_core.specs.Plain.{Plain, Ready, Known, Running, lists, last_of, unsent_of};
+ghost use Rattle.wake_core.specs.Events.{Ticks, IsNext, is_waiting, state_after};
+ghost use Rattle.wake_core.specs.Settle.{Settles};
+ghost use Rattle.wake_core.specs.Serial.{SerialRun, last_clock, next};
+ghost use Rattle.wake_core.specs.LawfulRun.{Quiet, LawfulRun};
+ghost use Rattle.wake_core.specs.Rest.{IsAtRest, IsScanOf, MayPlay, MayFinish, StaysMade};
+ghost use Rattle.wake_core.specs.Rest.{StaysFixed, run_shown};
+ghost use Rattle.wake_core.specs.Turns.{FillsAll, LooksAll, Tells, Delivers, Plays, Takes, Passes};
+ghost use Rattle.wake_core.specs.Turns.{Finds, IsInHand, MaySendOut, Delivered, SendsOut};
+ghost use Rattle.wake_core.specs.Turns.{IsCalledFrom, MayGiveBack, GivesBack, Resumes, Turns};
+ghost use Rattle.wake_core.specs.Turns.{IsSettled, is_ready, is_due, is_held};
+ghost use Rattle.wake_core.specs.WorldOf.{plain_of, to_step};
+ghost use Rattle.wake_core.specs.WorldCalls.{in_hand, phase_sent, IsStepped};
+
+use crate::World;
+use cy_comp::{Outcome, State};
+use cy_msg::{ContextPlan, Placement, PlayList, Token};
+
+/// Plays the messages of a list, one after another, in a world that was made for it and in which
+/// nothing has happened. After each message the croutines are resumed in the order of the scan as
+/// long as one is READY; after the last one the clock is set to its greatest value. It takes no
+/// memory.
+pub fn serial(world: &mut World, list: &PlayList, placement: &Placement)
+    requires { MayPlay (plain_of world.old) list.now.tokens (scan_of placement.now.contexts) }
+    ensures run { SerialRun (plain_of world.old).routes (scan_of placement.now.contexts)
+        list.now.tokens (run_shown (plain_of world.new)) }
+    ensures lawful { LawfulRun list.now.tokens (plain_of world.old).routes (plain_of world.new) }
+    ensures stays { StaysMade (plain_of world.old) (plain_of world.new) }
+{
+    let contexts = placement.contexts.as_slice();
+    for token in list.tokens.as_slice() {
+        play(world, token);
+        settle(world, contexts);
+    }
+    end_clock(world);
+    settle(world, contexts);
+}
+
+/// Resumes the croutines of a world in which all was played, in the order of the scan, as long as
+/// one is READY. It takes no memory.
+pub fn finish(world: &mut World, placement: &Placement)
+    requires { MayFinish (plain_of world.old) (scan_of placement.now.contexts) }
+    ensures settles { Settles (next (plain_of world.old).routes (scan_of placement.now.contexts))
+        (run_shown (plain_of world.old)) (run_shown (plain_of world.new)) }
+    ensures quiet { Quiet (plain_of world.new) }
+    ensures stays { StaysFixed (plain_of world.old) (plain_of world.new) }
+{
+    settle(world, placement.contexts.as_slice());
+}
+
+// Sets the clock to its greatest value.
+fn end_clock(world: &mut World)
+    ensures { Ticks last_clock (plain_of world.old) (plain_of world.new) }
+{
+    let _now = world.clock();
+    world.tick(0, u64::MAX);
+}
+
+// Plays the next message.
+fn play(world: &mut World, token: &Token)
+    requires rest { IsAtRest (plain_of world.old) }
+    requires later { (plain_of world.old).clock ≤ token.now.time }
+    requires next { IsNext token.now (plain_of world.old) }
+    ensures { Plays token.now (plain_of world.old) (plain_of world.new) }
+{
+    world.tick(0, token.time);
+    world.tape(0, *token);
+    deliver(world, *token);
+}
+
+// A message that was sent arrives at the readers of its channel, and those that wait are told.
+fn deliver(world: &mut World, token: Token)
+    requires token { (plain_of world.old).tokens 0 ≡ token }
+    requires looked { (plain_of world.old).news 0 ≡ [] }
+    requires cleared { (plain_of world.old).clearing 0 ≡ [] }
+    ensures delivers { Delivers 0 (plain_of world.old) (plain_of world.new) }
+    ensures steps { to_step world.new ≡ to_step world.old }
+{
+    fill_all(world, token);
+    tell_all(world);
+}
+
+// Fills the readers that are still to be filled.
+fn fill_all(world: &mut World, token: Token)
+    requires { (plain_of world.old).tokens 0 ≡ token }
+    ensures fills { FillsAll 0 (plain_of world.old) (plain_of world.new) }
+    ensures steps { to_step world.new ≡ to_step world.old }
+{
+    while let Some((component, role)) = world.first_fill(0) {
+        world.fill(0, component, role, token);
+    }
+}
+
+// Tells all that are in the news.
+fn tell_all(world: &mut World)
+    requires filled { (plain_of world.old).fills 0 ≡ [] }
+    requires cleared { (plain_of world.old).clearing 0 ≡ [] }
+    ensures looks { LooksAll 0 (plain_of world.old) (plain_of world.new) }
+    ensures steps { to_step world.new ≡ to_step world.old }
+{
+    while let Some(component) = world.first_news(0) {
+        tell(world, component);
+    }
+}
+
+// Looks at the first of the news, and clears its flag where it waits.
+fn tell(world: &mut World, component: u32)
+    requires filled { (plain_of world.old).fills 0 ≡ [] }
+    requires cleared { (plain_of world.old).clearing 0 ≡ [] }
+    requires first { slice_get ((plain_of world.old).news 0) 0 ≡ Some component }
+    ensures tells { Tells 0 component (plain_of world.old) (plain_of world.new) }
+    ensures steps { to_step world.new ≡ to_step world.old }
+{
+    if world.look(0, component) {
+        world.clear(0, component);
+    }
+}
+
+// Resumes croutines until none is READY.
+fn settle(world: &mut World, contexts: &[ContextPlan])
+    requires rest { IsAtRest (plain_of world.old) }
+    requires scan { IsScanOf (length (plain_of world.old).routes) (scan_of contexts.now) }
+    ensures { IsSettled (scan_of contexts.now) (plain_of world.old) (plain_of world.new) }
+{
+    while turn(world, contexts) {}
+}
+
+// Resumes the first croutine that is READY. Whether there is one.
+fn turn(world: &mut World, contexts: &[ContextPlan]) -> bool
+    requires rest { IsAtRest (plain_of world.old) }
+    requires known { (c : ℕ) → lists c (scan_of contexts.now) ≡ true
+        → c < length (plain_of world.old).routes }
+    ensures turns { result ≡ true
+        → Turns (scan_of contexts.now) (plain_of world.old) (plain_of world.new) }
+    ensures ends { result ≡ false
+        → Passes (scan_of contexts.now) (plain_of world.old) (plain_of world.new) }
+{
+    match first_of_all(world, contexts) {
+        Some(component) => {
+            resume(world, component);
+            true
+        }
+        None => false,
+    }
+}
+
+// Takes the first croutine of the contexts that is READY.
+fn first_of_all(world: &mut World, contexts: &[ContextPlan]) -> Option<u32>
+    requires rest { IsAtRest (plain_of world.old) }
+    requires known { (c : ℕ) → lists c (scan_of contexts.now) ≡ true
+        → c < length (plain_of world.old).routes }
+    ensures found { (c : ℕ) → result ≡ Some c
+        → Finds (scan_of contexts.now) c (plain_of world.old) (plain_of world.new) }
+    ensures none { result ≡ None
+        → Passes (scan_of contexts.now) (plain_of world.old) (plain_of world.new) }
+{
+    for context in contexts {
+        let found = first_ready(world, context.order.as_slice());
+        if found.is_some() {
+            return found;
+        }
+    }
+    None
+}
+
+// Takes the first croutine of an order that is READY.
+fn first_ready(world: &mut World, order: &[u32]) -> Option<u32>
+    requires rest { IsAtRest (plain_of world.old) }
+    requires known { (c : ℕ) → lists c order.now ≡ true → c < length (plain_of world.old).routes }
+    ensures found { (c : ℕ) → result ≡ Some c
+        → Finds order.now c (plain_of world.old) (plain_of world.new) }
+    ensures none { result ≡ None → Passes order.now (plain_of world.old) (plain_of world.new) }
+{
+    for component in order {
+        if take(world, *component) {
+            return Some(*component);
+        }
+        world.release(0);
+    }
+    None
+}
+
+// Acquires and updates a croutine. Whether it is READY.
+fn take(world: &mut World, component: u32) -> bool
+    requires rest { IsAtRest (plain_of world.old) }
+    requires known { component < length (plain_of world.old).routes }
+    ensures takes { Takes component (plain_of world.old) (plain_of world.new) }
+    ensures ready { result ≡ is_ready ((plain_of world.new).states component) }
+{
+    world.acquire(0, component);
+    let state = world.state(component);
+    if due(state, world.clock()) {
+        world.ready(0);
+        return true;
+    }
+    if woken(state, world.spend(0)) {
+        world.ready(0);
+        return true;
+    }
+    ready(state)
+}
+
+// Whether a croutine is READY.
+fn ready(state: State) -> bool
+    ensures { result ≡ is_ready state }
+{
+    matches!(state, State::Ready)
+}
+
+// Whether a croutine is woken: it waits, and its flag was clear.
+fn woken(state: State, clear: bool) -> bool
+    ensures { result ≡ is_waiting state && clear }
+{
+    matches!(state, State::DataWait) && clear
+}
+
+// Whether a croutine is due.
+fn due(state: State, clock: u64) -> bool
+    ensures { result ≡ is_due state clock }
+{
+    match state {
+        State::Sleep { until } => until < clock,
+        _ => false,
+    }
+}
+
+// Resumes the READY croutine in hand, and gives it back.
+fn resume(world: &mut World, component: u32)
+    requires held { IsInHand component Known (plain_of world.old) }
+    requires ready { (plain_of world.old).states component ≡ Ready }
+    ensures { Resumes component (plain_of world.old) (plain_of world.new) }
+{
+    world.sound();
+    match world.unsent(component) {
+        Some(token) => send_held(world, component, token),
+        None => call(world, component),
+    }
+}
+
+// Sends the output that the READY croutine in hand held back, and gives it back.
+fn send_held(world: &mut World, component: u32, token: Token)
+    requires held { IsInHand component Known (plain_of world.old) }
+    requires ready { (plain_of world.old).states component ≡ Ready }
+    requires unsent { unsent_of (plain_of world.old) component ≡ Some token }
+    ensures { Resumes component (plain_of world.old) (plain_of world.new) }
+{
+    send(world, token);
+    give_back(world, State::Ready);
+}
+
+// Fetches for the READY croutine in hand, calls its component on what is found, and gives it back.
+fn call(world: &mut World, component: u32)
+    requires held { IsInHand component Known (plain_of world.old) }
+    requires ready { (plain_of world.old).states component ≡ Ready }
+    requires none_held { unsent_of (plain_of world.old) component ≡ None }
+    ensures { Resumes component (plain_of world.old) (plain_of world.new) }
+{
+    world.ask(0);
+    match world.fetch(0) {
+        Some(tuple) => {
+            let outcome = world.step(0, &tuple);
+            follow(world, component, &outcome);
+        }
+        None => give_back(world, State::DataWait),
+    }
+}
+
+// Sends the output of the component that was called, where it is not held back, and gives it back
+// as the outcome says.
+fn follow(world: &mut World, component: u32, outcome: &Outcome)
+    requires held { IsInHand component Running (plain_of world.old) }
+    requires stepped { to_step world.old component ≡ None }
+    requires outcome { last_of (plain_of world.old).routes (plain_of world.old).calls component
+        ≡ Some outcome.now }
+    ensures { (w : Plain) (x : Call) → IsCalledFrom component x w (plain_of world.old)
+        → Resumes component w (plain_of world.new) }
+{
+    send_out(world, component, outcome);
+    give_back(world, state_of(outcome));
+}
+
+// Sends the output of the component that was called, where there is one that isn't held back.
+fn send_out(world: &mut World, component: u32, outcome: &Outcome)
+    requires held { IsInHand component Running (plain_of world.old) }
+    requires stepped { to_step world.old component ≡ None }
+    requires outcome { last_of (plain_of world.old).routes (plain_of world.old).calls component
+        ≡ Some outcome.now }
+    ensures sends { SendsOut component (plain_of world.old) (plain_of world.new) }
+    ensures steps { to_step world.new ≡ to_step world.old }
+{
+    if holds(outcome) {
+        return;
+    }
+    if let Some(token) = world.unsent(component) {
+        send(world, token);
+    }
+}
+
+// Sends an output of the croutine in hand, and delivers it.
+fn send(world: &mut World, token: Token)
+    requires may { MaySendOut token (plain_of world.old) }
+    requires stepped { IsStepped 0 (plain_of world.old) (to_step world.old) }
+    ensures sends { Delivered (in_hand 0 (plain_of world.old))
+        (phase_sent ((plain_of world.old).hands 0)) token (plain_of world.old)
+        (plain_of world.new) }
+    ensures steps { to_step world.new ≡ to_step world.old }
+{
+    world.tape(0, token);
+    deliver(world, token);
+}
+
+// Stores what the croutine in hand is to do next, and gives it back.
+fn give_back(world: &mut World, state: State)
+    requires may { MayGiveBack state (plain_of world.old) }
+    requires stepped { IsStepped 0 (plain_of world.old) (to_step world.old) }
+    ensures { GivesBack state (plain_of world.old) (plain_of world.new) }
+{
+    world.yield_as(0, state);
+    world.release(0);
+}
+
+// Whether an outcome holds its output back.
+fn holds(outcome: &Outcome) -> bool
+    ensures { result ≡ is_held (held_until (Some outcome.now)) }
+{
+    matches!(*outcome, Outcome::Hold { .. })
+}
+
+// What an outcome says that the croutine is to do next.
+fn state_of(outcome: &Outcome) -> State
+    ensures { result ≡ state_after outcome.now }
+{
+    match *outcome {
+        Outcome::Emit(_) => State::Ready,
+        Outcome::Hold { until, .. } => State::Sleep { until },
+        Outcome::Last(_) => State::Finished,
+    }
+}
