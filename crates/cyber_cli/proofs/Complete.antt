@@ -8,9 +8,14 @@ use Rattle.cy_store.specs.Store.{StoreView, Rose}
 use Rattle.cyber_cli.specs.declared.status.Status.{Status}
 use Rattle.cyber_cli.specs.declared.status.Status.TheVariants.{Done, Refused, Usage, StoreFault, SinkFault, Limit, Memory}
 use Rattle.cyber_cli.specs.declared.input.Input.{Input}
-use Rattle.cyber_cli.specs.Words.{PassWords}
+use Rattle.cy_store.specs.Reads.{Reads, Accepts, Refuses, Absent}
+use Rattle.cy_replay.specs.declared.error.Refusal.{Refusal}
+use Rattle.cy_replay.specs.Configuration.{Configured}
+use Rattle.cyber_cli.specs.Words.{PassWords, CheckWords}
+use Rattle.cyber_cli.specs.Check.{checked_in}
+use Rattle.cyber_cli.specs.ConfigText.{fault_status}
 use Rattle.cyber_cli.specs.Input.{IsInput}
-use Rattle.cyber_cli.specs.Command.{Command, Pass, Work}
+use Rattle.cyber_cli.specs.Command.{Command, Pass, Check, Work}
 use Rattle.cyber_cli.specs.Pass.{IsPlayed}
 use Rattle.cyber_cli.specs.Outcome.{IsAccepted, IsTaken, IsRefused, IsAbsent}
 use Rattle.cyber_cli.specs.Due.{Sinks, Answers, IsDueFor, IsMisused, IsTold, IsUntold, CallsFor, IsComplete}
@@ -47,6 +52,7 @@ held_is (Some b) bytes h = ap (λ (x : List ℕ). Some x) h
 
 taken : (c : Command) (m : Files) (work : Work) → IsAccepted c (Some m) work → IsTaken c m
 taken (Pass p) m work a = (a.bytes, a.input, held_is (get m p.input) a.bytes a.held, a.played)
+taken (Check w) m work a = (a.read, a.accepted)
 
 -- what is due is called for, where no faults rose
 called : (c : Command) (old new : StoreView) (m : Files) (due : Status) (line : List ℕ) → old.files ≡ Some m → (Rose old.faults new.faults → ⊥)
@@ -104,8 +110,24 @@ one_stands p m a b (inr (inr x)) (inl (y, (bytes, i, e, input))) = absurd (not_a
 one_stands p m a b (inr (inr x)) (inr (inl y)) = absurd (there (get m p.input) (λ b. (i : Input) → IsInput p b i → ⊥) y.1 x.1)
 one_stands p m a b (inr (inr x)) (inr (inr y)) = x.0 ∙ sym y.0
 
+-- what `check` comes to calls for one status
+abbrev status_of : Reads Refusal Configured → Status
+status_of (Accepts c) = Done
+status_of (Refuses r) = fault_status r.fault
+status_of (Absent name) = StoreFault
+
+check_status : (w : CheckWords) (m : Files) (due : Status) → CallsFor (Check w) m due → due ≡ status_of (checked_in w m)
+check_status w m Done h = ap status_of (sym h.1)
+check_status w m Refused h = h.1.status ∙ ap status_of (sym h.1.refused)
+check_status w m Usage h = absurd h
+check_status w m StoreFault h = ap status_of (sym h.1)
+check_status w m SinkFault h = absurd h
+check_status w m Limit h = h.1.status ∙ ap status_of (sym h.1.refused)
+check_status w m Memory h = absurd h
+
 one_call : (c : Command) (m : Files) (a b : Status) → CallsFor c m a → CallsFor c m b → a ≡ b
 one_call (Pass p) m a b x y = one_stands p m a b (pass_stands p m a x) (pass_stands p m b y)
+one_call (Check w) m a b x y = check_status w m a x ∙ sym (check_status w m b y)
 
 pub complete : (words : List (List ℕ)) (old_store new_store : StoreView) (old new : Sinks) (answer : Status) → Answers words old_store new_store old new answer
     → IsComplete words old_store new_store old new answer

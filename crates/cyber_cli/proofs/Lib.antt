@@ -16,6 +16,7 @@ pub mod BothFiles
 pub mod PassExits
 pub mod Playing
 pub mod Making
+pub mod CheckExits
 pub mod Complete
 pub mod Asked
 pub mod PassedMessages

@@ -31,7 +31,7 @@ pub record RefusesFiles (c : Command) (old new : StoreView) (due : Status) (line
 -- is changed.
 pub record FailsToRead (c : Command) (old new : StoreView) (line : List ℕ) : Type 0 where
   pub name : List ℕ
-  pub read : IsReadBy c name
+  pub read : IsReadBy c old.files name
   pub rose : Rose old.faults new.faults ⊎ (Rose old.misses new.misses × IsAbsent c old.files name)
   pub same : new.files ≡ old.files
   pub told : line ≡ store_line name

@@ -17,3 +17,6 @@ pub mod Play
 pub mod InputText
 pub mod Timed
 pub mod Status
+pub mod ConfigText
+pub mod Check
+pub mod CheckEnds

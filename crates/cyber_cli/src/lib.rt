@@ -9,6 +9,7 @@
 
 mod candidate;
 mod commands;
+mod config_text;
 mod due;
 mod failure;
 mod fault_text;

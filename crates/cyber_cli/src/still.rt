@@ -4,7 +4,7 @@ ghost use Rattle.cyber_cli.specs.Line.{bytes_of_line};
 ghost use Rattle.cyber_cli.specs.Due.{IsDue, IsTold, GetsFront, Answers, IsComplete};
 ghost use Rattle.cy_store.specs.Store.{SinkView};
 
-use crate::commands::run_pass;
+use crate::commands::{run_check, run_pass};
 use crate::due::Due;
 use crate::fault_text::{OUTPUT_LINE, USAGE_LINE};
 use crate::line::{Line, write_line};
@@ -21,6 +21,7 @@ fn due_of<'a, S: Store>(alloc: Global, words: &'a [Text], store: &mut S) -> Due<
 {
     match command_of(words) {
         Some(Command::Pass(pass)) => run_pass(alloc, &pass, store),
+        Some(Command::Check(check)) => run_check(alloc, &check, store),
         None => Due {
             status: Status::Usage,
             line: Line::Fixed(USAGE_LINE),

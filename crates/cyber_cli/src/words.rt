@@ -1,8 +1,9 @@
 // The words that the program takes, command by command.
-ghost use Rattle.std.specs.Prelude.{◌≡◌, true, Some, None, IfSome, MatchOption};
-ghost use Rattle.cyber_cli.specs.Words.{is_word, is_pass, pass_of};
+ghost use Rattle.std.specs.Prelude.{◌≡◌, true, Some, None, IfSome, MatchOption, option_map};
+ghost use Rattle.cyber_cli.specs.Words.{is_word, is_pass, pass_of, check_of, is_option};
+ghost use Rattle.cyber_cli.specs.Words.{first_option, pair_at, two_options};
 ghost use Rattle.cyber_cli.specs.Command.{command_of};
-ghost use Rattle.cyber_cli.specs.Views.{words_of, command_asked, IsInForm};
+ghost use Rattle.cyber_cli.specs.Views.{words_of, check_words_of, given_of, command_asked, IsInForm};
 
 use cy_msg::Text;
 
@@ -24,11 +25,30 @@ pub struct Pass<'a> {
     pub to: &'a str,
 }
 
+/// The words of `check`: names of files.
+#[derive(Clone, Copy)]
+pub struct Check<'a> {
+    /// The DAG file.
+    pub dag: &'a str,
+    /// The scheduler file, where one is given.
+    pub sched: Option<&'a str>,
+}
+
 /// What the words ask for.
 #[derive(Clone, Copy)]
 pub enum Command<'a> {
     /// To play a record through one component that passes its messages on.
     Pass(Pass<'a>),
+    /// To print what configuration files say.
+    Check(Check<'a>),
+}
+
+// An option: its name, its value, and the words behind it.
+#[derive(Clone, Copy)]
+struct Given<'a> {
+    name: &'a str,
+    value: &'a str,
+    rest: &'a [Text],
 }
 
 // Whether a text may stand as a name.
@@ -78,6 +98,83 @@ fn pass_words<'a>(words: &'a [Text]) -> Option<Pass<'a>>
     if pass.is_in_form() { Some(pass) } else { None }
 }
 
+// The option whose name is a word, and its value the next one.
+fn pair_at<'a>(name: &'a str, words: &'a [Text]) -> Option<Given<'a>>
+    ensures { option_map given_of result ≡ pair_at name.now words.now }
+{
+    let [value, rest @ ..] = words else {
+        return None;
+    };
+    let value = value.as_str();
+    Some(Given { name, value, rest })
+}
+
+// The first option of some words.
+#[tactic(auto, unfolding(crate::specs::Words::first_option))]
+fn first_option<'a>(words: &'a [Text]) -> Option<Given<'a>>
+    ensures { option_map given_of result ≡ first_option words.now }
+{
+    let [word, rest @ ..] = words else {
+        return None;
+    };
+    let word = word.as_str();
+    match word.split_once('=') {
+        Some((name, value)) => Some(Given { name, value, rest }),
+        None => pair_at(word, rest),
+    }
+}
+
+impl<'a> Given<'a> {
+    // Whether it has a name, and a value that may stand as a name of a file.
+    #[tactic(auto, unfolding(crate::specs::Words::is_option))]
+    fn is(&self, name: &str) -> bool
+        ensures { result ≡ is_option name.now (given_of self.now) }
+    {
+        self.name == name && names_something(self.value)
+    }
+}
+
+// What two options ask `check` for.
+fn two_options<'a>(first: &Given<'a>, second: &Given<'a>) -> Option<Check<'a>>
+    ensures { option_map check_words_of result
+        ≡ two_options (given_of first.now) (given_of second.now) }
+{
+    if first.is("--dag") && second.is("--sched") {
+        return Some(Check {
+            dag: first.value,
+            sched: Some(second.value),
+        });
+    }
+    if first.is("--sched") && second.is("--dag") {
+        return Some(Check {
+            dag: second.value,
+            sched: Some(first.value),
+        });
+    }
+    None
+}
+
+// What the words behind `check` ask for.
+fn check_words<'a>(words: &'a [Text]) -> Option<Check<'a>>
+    ensures { option_map check_words_of result ≡ check_of words.now }
+{
+    let first = first_option(words)?;
+    if first.rest.is_empty() {
+        if !first.is("--dag") {
+            return None;
+        }
+        return Some(Check {
+            dag: first.value,
+            sched: None,
+        });
+    }
+    let second = first_option(first.rest)?;
+    if !second.rest.is_empty() {
+        return None;
+    }
+    two_options(&first, &second)
+}
+
 /// What the words ask for; None where they are of no known form.
 pub fn command_of<'a>(words: &'a [Text]) -> Option<Command<'a>>
     ensures asked { MatchOption result (command_of words.now ≡ None) (λ c. command_of words.now
@@ -89,6 +186,7 @@ pub fn command_of<'a>(words: &'a [Text]) -> Option<Command<'a>>
     };
     match name.as_str() {
         "pass" => Some(Command::Pass(pass_words(words)?)),
+        "check" => Some(Command::Check(check_words(words)?)),
         _ => None,
     }
 }
