@@ -224,6 +224,63 @@ names_what_may_not_be_used() {
   holds files/out.rec old
 }
 
+# Compares what standard output got with a text of several lines.
+prints() { # the text
+  [ "$status" -eq 0 ]
+  count $? "$name: status $status, not 0"
+  printf '%s\n' "$1" | cmp -s - out
+  count $? "$name: standard output got '$(head -c 2000 out)', not '$1'"
+  [ ! -s err ]
+  count $? "$name: standard error got '$(head -c 200 err)'"
+}
+
+# Writes a DAG of one component `p` of a class and a component file for it.
+one_component() { # the class, the fields behind its name, and the component file
+  mkdir -p files
+  printf 'module_config { module_library: "x" components { class_name: "%s" config { name: "p" %s } } }\n' "$1" "$2" \
+    >files/d.dag
+  printf '%s\n' "$3" >files/p.conf
+}
+
+READS_A='config_file_path: "p.conf" readers { channel: "/a" }'
+
+checks_one_component() {
+  begin 'prints a component, its context and its unknown field'
+  one_component PassComponent 'config_file_path: "p.conf" readers { channel: "/a" pending_queue_size: 0 }' \
+    'out: "/o" colour: 3'
+  run check --dag d.dag
+  prints 'component "p" class PassComponent reads "/a" queue 1 writes "/o"
+context "default_grp" processors 2 order "p"
+unknown p.conf colour
+ok'
+  run check --dag=d.dag
+  count $((status)) "$name: an option and its value in one word"
+  [ "$(ls files)" = "$(printf 'd.dag\np.conf')" ]
+  count $? "$name: a file was made"
+}
+
+checks_the_drive() { # the words
+  begin "prints what the files of a drive say, for '$*'"
+  (cd "$top" && exec "$program" check "$@") >out 2>err
+  status=$?
+  prints "$(sed -n '/^    component /,/^    ok$/s/^    //p' "$top/examples/README.md")"
+}
+
+refuses_files() { # what is wrong, the status, the line, and a command that writes the files
+  begin "refuses $1"
+  one_component PassComponent "$READS_A" 'out: "/o"'
+  (cd files && eval "$4")
+  run check --dag d.dag --sched s.sched
+  ends "$2" '' "$3"
+}
+
+refuses_a_dag() { # what is wrong, the line behind the file's name, the class, the fields and the component file
+  begin "refuses $1"
+  one_component "$3" "$4" "$5"
+  run check --dag d.dag
+  ends 1 '' "cyber: $2"
+}
+
 plays_a_record one.rec 2271 8
 plays_a_record two.rec 2300 11
 plays_a_record thousand.rec 38583 3005
@@ -245,6 +302,42 @@ refuses_the_words info --x
 refuses_the_words play --serial
 refuses_the_words pass a b c /x $'\xff'
 refuses_the_words pass $'a\xc3' b c /x /y
+
+refuses_the_words check
+refuses_the_words check d.dag
+refuses_the_words check --dag
+refuses_the_words check --dag=
+refuses_the_words check --dag -x
+refuses_the_words check --sched s
+refuses_the_words check --dag a --dag b
+refuses_the_words check --dag a --sched b c
+refuses_the_words check -dag a
+refuses_the_words check --dag a --plan b
+
+checks_one_component
+checks_the_drive --dag examples/drive/drive.dag --sched examples/drive/drive.sched
+checks_the_drive --sched=examples/drive/drive.sched --dag=examples/drive/drive.dag
+checks_the_drive --sched examples/drive/drive.sched --dag=examples/drive/drive.dag
+
+refuses_a_dag 'a class that is not known' 'd.dag: UnknownClass 0' Foo "$READS_A" 'out: "/o"'
+refuses_a_dag 'a component without a reader' 'd.dag: NoReader 0' PassComponent 'config_file_path: "p.conf"' 'out: "/o"'
+refuses_a_dag 'a component without a file' 'd.dag: Missing 0 "config_file_path"' PassComponent 'readers { channel: "/a" }' ''
+refuses_a_dag 'a parameter that is missing' 'p.conf: Missing 0 "hi"' FilterComponent "$READS_A" 'out: "/o" lo: 1'
+refuses_a_dag 'a parameter that is no number' 'p.conf: NotWhole 0 "lo"' FilterComponent "$READS_A" 'out: "/o" lo: "x" hi: 1'
+refuses_a_dag 'a component without a channel' 'p.conf: Missing 0 "out"' PassComponent "$READS_A" 'colour: 3'
+refuses_a_dag 'a value of another kind' 'p.conf: Shape "out"' PassComponent "$READS_A" 'out: 3'
+refuses_a_dag 'a text with a fault' 'p.conf: line 1 column 6: Quote' PassComponent "$READS_A" 'out: "/o'
+refuses_a_dag 'a component that triggers itself' 'd.dag: TriggerCycle 0' PassComponent "$READS_A" 'out: "/a"'
+
+refuses_files 'a policy that is not known' 1 'cyber: s.sched: UnknownPolicy "fair"' \
+  "echo 'scheduler_conf { policy: \"fair\" }' >s.sched"
+refuses_files 'a scheduler file without groups' 1 'cyber: s.sched: NoGroup' ': >s.sched'
+refuses_files 'too many processors' 5 'cyber: s.sched: limit TooManyProcessors passed: 65' \
+  "echo 'scheduler_conf { classic_conf { groups { name: \"g\" processor_num: 65 } } }' >s.sched"
+refuses_files 'a file that is too long' 5 'cyber: s.sched: limit ConfigTooLarge passed: 16777217' 'truncate -s 16777217 s.sched'
+refuses_files 'a DAG that is not there' 3 'cyber: d.dag: the store failed' 'rm d.dag'
+refuses_files 'a component file that is not there' 3 'cyber: p.conf: the store failed' 'rm p.conf'
+refuses_files 'a scheduler file that is not there' 3 'cyber: s.sched: the store failed' ''
 
 refuses_a_record 'an empty file' ': >in.rec'
 refuses_a_record 'a text' 'echo no record >in.rec'
