@@ -263,7 +263,7 @@ checks_the_drive() { # the words
   begin "prints what the files of a drive say, for '$*'"
   (cd "$top" && exec "$program" check "$@") >out 2>err
   status=$?
-  prints "$(sed -n '/^    component /,/^    ok$/s/^    //p' "$top/examples/README.md")"
+  prints "$(sed -n '/^    component "smooth"/,/^    ok$/s/^    //p' "$top/examples/README.md")"
 }
 
 refuses_files() { # what is wrong, the status, the line, and a command that writes the files

@@ -156,11 +156,16 @@ fn reads_and_refuses_dags(rt: HostRuntime) -> Result<(), Fail> {
 
 #[test]
 fn refuses_the_sixty_fifth_component(rt: HostRuntime) -> Result<(), Fail> {
-    for (count, want) in [(64, "Missing 0 name"), (65, "TooMany 65")] {
+    for (count, more, want) in [
+        (64, "", "Missing 0 name"),
+        (65, "", "TooMany 65"),
+        (65, "timer_components { } ", "Timers 1"),
+    ] {
         let mut text = String::from_str(rt.alloc(), "module_config { ")?;
         for _ in 0..count {
             text.push_str("components { } ")?;
         }
+        text.push_str(more)?;
         text.push_str("}")?;
         let line = told(&rt, text.as_str())?;
         assert_eq!(rt; line.as_str(), want);
