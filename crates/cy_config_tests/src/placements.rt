@@ -21,18 +21,24 @@ fn line_of(rt: &HostRuntime, placement: &Placement) -> Result<String, Fail> {
     Ok(line)
 }
 
+// The names of components.
+fn texts(rt: &HostRuntime, names: &[&str]) -> Result<Vec<Text>, Fail> {
+    let mut texts = Vec::new(rt.alloc());
+    for name in names {
+        texts.push(Text::new(rt.alloc(), name)?)?;
+    }
+    Ok(texts)
+}
+
 // Where a scheduler file places components with these names, in one line.
 fn placed(rt: &HostRuntime, text: &str, names: &[&str]) -> Result<String, Fail> {
     let tree = tree(rt, text.as_bytes())?;
+    let texts = texts(rt, names)?;
+    if texts.len() > 64 {
+        return Err(Fail::from("at most 64 names"));
+    }
     match read_sched(rt.alloc(), &tree) {
         Ok(sched) => {
-            let mut texts = Vec::new(rt.alloc());
-            for name in names {
-                texts.push(Text::new(rt.alloc(), name)?)?;
-            }
-            if texts.len() > 64 {
-                return Err(Fail::from("at most 64 names"));
-            }
             let placement = place(rt.alloc(), &sched, &texts)?;
             line_of(rt, &placement)
         }

@@ -2,12 +2,12 @@
 use cy_msg::{Items, Names, PlayList, Text};
 use cy_reader::{ChannelSet, Filter, Record, load};
 use cy_store::MemStore;
-use cy_writer::RecordWriter;
+use cy_writer::{RecordWriter, WriteError};
 use std::alloc::Global;
 use std::test::Fail;
 
-// A message: its channel's name, its time and its value's content.
-type Sample = (&'static str, u64, &'static [u8]);
+// A message: its time and its value's content.
+type Sample = (u64, &'static [u8]);
 
 // The contents of the whole numbers 1, 2 and 3.
 const ONE: &[u8] = b"\x08\x02";
@@ -16,21 +16,26 @@ const TWO: &[u8] = b"\x08\x04";
 
 const THREE: &[u8] = b"\x08\x06";
 
-// A record of messages on these channels.
-fn record_of(alloc: Global, channels: &[&str], samples: &[Sample]) -> Result<Record, Fail> {
+// Writes the record of two messages on `/a` and then two on `/b`.
+fn write_four(
+    alloc: Global,
+    store: &mut MemStore,
+    samples: &[Sample; 4],
+) -> Result<(), WriteError> {
+    let mut writer = RecordWriter::start(alloc, store, "in.rec")?;
+    writer.channel(alloc, store, "/a", "", b"")?;
+    writer.channel(alloc, store, "/b", "", b"")?;
+    writer.message(alloc, store, 0, samples[0].0, samples[0].1)?;
+    writer.message(alloc, store, 0, samples[1].0, samples[1].1)?;
+    writer.message(alloc, store, 1, samples[2].0, samples[2].1)?;
+    writer.message(alloc, store, 1, samples[3].0, samples[3].1)?;
+    writer.close(alloc, store)
+}
+
+// The record of two messages on `/a` and then two on `/b`, as it is read.
+fn record_of(alloc: Global, samples: &[Sample; 4]) -> Result<Record, Fail> {
     let mut store = MemStore::new(alloc);
-    let mut writer = RecordWriter::start(alloc, &mut store, "in.rec")?;
-    for name in channels {
-        writer.channel(alloc, &mut store, name, "", b"")?;
-    }
-    for (name, time, content) in samples {
-        let channel = channels
-            .iter()
-            .position(|kept| kept == name)
-            .ok_or("the channel is there")?;
-        writer.message(alloc, &mut store, channel as u32, *time, content)?;
-    }
-    writer.close(alloc, &mut store)?;
+    write_four(alloc, &mut store, samples)?;
     Ok(load(alloc, &mut store, "in.rec")?)
 }
 
@@ -64,13 +69,8 @@ fn played(alloc: Global, list: &PlayList) -> Result<Vec<(u32, u32, u32, u64, Opt
 #[test]
 fn plays_by_time_and_then_in_file_order(rt: HostRuntime) -> Result<(), Fail> {
     let alloc = rt.alloc();
-    let samples = [
-        ("/a", 5, ONE),
-        ("/a", 3, TWO),
-        ("/b", 3, THREE),
-        ("/b", 3, b"\xff".as_slice()),
-    ];
-    let record = record_of(alloc, &["/a", "/b"], &samples)?;
+    let samples = [(5, ONE), (3, TWO), (3, THREE), (3, b"\xff".as_slice())];
+    let record = record_of(alloc, &samples)?;
     let names = names_of(alloc, &record)?;
     let filter = Filter {
         only: None,
@@ -96,12 +96,12 @@ fn plays_by_time_and_then_in_file_order(rt: HostRuntime) -> Result<(), Fail> {
 #[test]
 fn leaves_out_what_the_filter_names(rt: HostRuntime) -> Result<(), Fail> {
     let alloc = rt.alloc();
-    let samples = [("/a", 1, ONE), ("/a", 2, TWO), ("/b", 3, THREE)];
-    let record = record_of(alloc, &["/a", "/b"], &samples)?;
+    let samples = [(1, ONE), (2, TWO), (3, THREE), (4, ONE)];
+    let record = record_of(alloc, &samples)?;
     let names = names_of(alloc, &record)?;
     let (a, none) = (["/a"].as_slice(), [].as_slice());
     for (only, drop, begin, end, written, places, shadowed) in [
-        (None, none, 0, u64::MAX, none, [0, 1, 2].as_slice(), 0),
+        (None, none, 0, u64::MAX, none, [0, 1, 2, 3].as_slice(), 0),
         (Some(a), none, 2, u64::MAX, none, [1].as_slice(), 0),
         (Some(none), none, 0, u64::MAX, none, [].as_slice(), 0),
         (
@@ -114,10 +114,10 @@ fn leaves_out_what_the_filter_names(rt: HostRuntime) -> Result<(), Fail> {
             0,
         ),
         (Some(a), a, 0, u64::MAX, none, [].as_slice(), 0),
-        (None, a, 0, u64::MAX, none, [2].as_slice(), 0),
+        (None, a, 0, u64::MAX, none, [2, 3].as_slice(), 0),
         (None, none, 2, 2, none, [1].as_slice(), 0),
         (None, none, 3, 2, none, [].as_slice(), 0),
-        (None, none, 2, u64::MAX, a, [2].as_slice(), 1),
+        (None, none, 2, u64::MAX, a, [2, 3].as_slice(), 1),
         (
             None,
             none,
@@ -125,9 +125,9 @@ fn leaves_out_what_the_filter_names(rt: HostRuntime) -> Result<(), Fail> {
             u64::MAX,
             ["/a", "/b"].as_slice(),
             [].as_slice(),
-            3,
+            4,
         ),
-        (None, a, 0, u64::MAX, a, [2].as_slice(), 0),
+        (None, a, 0, u64::MAX, a, [2, 3].as_slice(), 0),
     ] {
         let filter = Filter {
             only: match only {
@@ -152,8 +152,8 @@ fn leaves_out_what_the_filter_names(rt: HostRuntime) -> Result<(), Fail> {
 #[test]
 fn numbers_channels_by_the_names(rt: HostRuntime) -> Result<(), Fail> {
     let alloc = rt.alloc();
-    let samples = [("/a", 1, ONE), ("/b", 2, TWO)];
-    let record = record_of(alloc, &["/a", "/b"], &samples)?;
+    let samples = [(1, ONE), (2, TWO), (3, THREE), (4, ONE)];
+    let record = record_of(alloc, &samples)?;
     let mut names = Names::new(alloc);
     for name in ["/x", "/b", "/y", "/a"] {
         names.add(alloc, name)?;
@@ -165,7 +165,12 @@ fn numbers_channels_by_the_names(rt: HostRuntime) -> Result<(), Fail> {
         end: u64::MAX,
     };
     let list = record.play_list(alloc, &names, &filter, &ChannelSet::new(Vec::new(alloc)))?;
-    let want = vec![in alloc; (0, 3, 1, 1, Some(1)), (1, 1, 1, 2, Some(2))]?;
+    let want = vec![in alloc;
+        (0, 3, 1, 1, Some(1)),
+        (1, 3, 2, 2, Some(2)),
+        (2, 1, 1, 3, Some(3)),
+        (3, 1, 2, 4, Some(1)),
+    ]?;
     assert!(rt; played(alloc, &list)? == want);
     Ok(())
 }

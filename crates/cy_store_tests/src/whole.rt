@@ -41,13 +41,19 @@ fn reads_up_to_the_longest(rt: HostRuntime) -> Result<(), Fail> {
     Ok(())
 }
 
-#[test]
-fn joins_the_pieces_of_a_long_file(rt: HostRuntime) -> Result<(), Fail> {
-    let alloc = rt.alloc();
+// More bytes than one piece holds.
+fn long_bytes(alloc: Global) -> Result<Vec<u8>, Fail> {
     let mut bytes = vec![in alloc; 7u8; 1_048_577]?;
     bytes[0] = 1;
     bytes[1_048_575] = 2;
     bytes[1_048_576] = 3;
+    Ok(bytes)
+}
+
+#[test]
+fn joins_the_pieces_of_a_long_file(rt: HostRuntime) -> Result<(), Fail> {
+    let alloc = rt.alloc();
+    let bytes = long_bytes(alloc)?;
     let mut store = MemStore::new(alloc);
     store.create("long")?;
     store.put_at("long", 0, &bytes)?;
