@@ -4,5 +4,3 @@
 
 #[cfg(test)]
 mod loading;
-#[cfg(test)]
-mod play;
