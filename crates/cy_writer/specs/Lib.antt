@@ -5,5 +5,6 @@ pub mod Counted
 pub mod Kept
 pub mod Stands
 pub mod Calls
+pub mod Steps
 pub mod Whole
 pub mod Laws

@@ -1,20 +1,18 @@
 // A writer that is not broken.
-ghost use Rattle.std.specs.Prelude.{◌≡◌, ◌≤◌, ◌<◌, ◌+◌, ◌++◌, ◌∷◌, [], None, Some, true};
-ghost use Rattle.std.specs.Prelude.{slice_get, length, map, vec_len, vec_capacity, IfOk, OnOk};
-ghost use Rattle.std.specs.Prelude.{OnErr, IsErrOf, IsOkUnless};
+ghost use Rattle.std.specs.Prelude.{◌≡◌, ◌≤◌, ◌<◌, ◌+◌, ◌++◌, ◌∷◌, []};
+ghost use Rattle.std.specs.Prelude.{length, map, vec_len, vec_capacity, IfOk, OnOk, IsErrOf};
+ghost use Rattle.std.specs.Prelude.{IsOkUnless};
 ghost use Rattle.std.specs.List.{flat_map};
 ghost use Rattle.cy_store.specs.Write.{Put};
 ghost use Rattle.cy_store.specs.Store.{HasWriteCauses};
 ghost use Rattle.cy_section.specs.declared.types.Channel.{Channel};
 ghost use Rattle.cy_section.specs.declared.types.SectionKind.TheVariants as kind;
 ghost use Rattle.cy_section.specs.Section.{section, index_body};
-ghost use Rattle.cy_section.specs.Chunks.{takes};
-ghost use Rattle.cy_section.specs.RecordText.{chunk_header_part, chunk_body_part};
 ghost use Rattle.cy_writer.specs.Writes.{Makes, PutsInto, IsPutOrNot, puts_into};
-ghost use Rattle.cy_writer.specs.Calls.{Begins, PutsChannel, LeavesOut, TakesMessage, Closes};
+ghost use Rattle.cy_writer.specs.Calls.{Begins, PutsChannel, TakesMessage, Closes};
 ghost use Rattle.cy_writer.specs.Whole.{StaysWhole};
-ghost use Rattle.cy_writer.specs.Given.{Given, nothing_given, with_chunk, with_message};
-ghost use Rattle.cy_writer.specs.Given.{message_on, chunk_puts, close_puts};
+ghost use Rattle.cy_writer.specs.Steps.{Prepares, NotesChunk, PutsChunk, Gathers};
+ghost use Rattle.cy_writer.specs.Given.{Given, nothing_given, close_puts};
 ghost use Rattle.cy_writer.specs.Kept.{cache_of as counted_cache, channel_entry, header_entry};
 ghost use Rattle.cy_writer.specs.Kept.{body_entry};
 ghost use Rattle.cy_writer.specs.Stands.{StandsFor, IsHeld};
@@ -141,19 +139,7 @@ impl Writing {
     // Makes all that is needed to put the chunk that is gathered.
     fn prepared(&mut self, alloc: Global) -> Result<Prepared, WriteError>
         requires { 1 ≤ self.old.chunk.header.message_number }
-        ensures same { (g : Given) → StandsFor self.old g → StandsFor self.new g }
-        ensures header { (g : Given) → StandsFor self.old g
-            → IfOk result (λ p. p.header ≡ (chunk_header_part g.gathered).bytes) }
-        ensures body { (g : Given) → StandsFor self.old g
-            → OnOk result (self.new.chunk.section ≡ (chunk_body_part g.gathered).bytes) }
-        ensures body_position { IfOk result (λ p. p.body_position
-            ≡ self.old.place + length p.header) }
-        ensures end { IfOk result (λ p. p.end ≡ p.body_position + length self.new.chunk.section) }
-        ensures room { OnOk result (vec_len self.new.chunks + 1 ≤ vec_capacity self.new.chunks) }
-        ensures name { self.new.name ≡ self.old.name }
-        ensures place { self.new.place ≡ self.old.place }
-        ensures channels { length self.new.channels.items ≡ length self.old.channels.items }
-        ensures only_memory { IsOkUnless result WriteError.Memory }
+        ensures { Prepares self.old self.new result }
     {
         let mut header = Piece::new(alloc);
         put_chunk_header(&mut header, &self.chunk.header).map_err(no_memory_for_section)?;
@@ -196,15 +182,7 @@ impl Writing {
     // Notes the chunk that was put, and begins the next one.
     fn note_chunk(&mut self, prepared: &Prepared)
         requires { vec_len self.old.chunks + 1 ≤ vec_capacity self.old.chunks }
-        ensures given { (g : Given) → StandsFor self.old g → prepared.now.header
-            ≡ (chunk_header_part g.gathered).bytes → self.old.chunk.section
-            ≡ (chunk_body_part g.gathered).bytes
-            → prepared.now.body_position ≡ self.old.place + length prepared.now.header
-            → prepared.now.end ≡ prepared.now.body_position + length self.old.chunk.section
-            → StandsFor self.new (with_chunk g) }
-        ensures name { self.new.name ≡ self.old.name }
-        ensures place { self.new.place ≡ prepared.now.end }
-        ensures channels { length self.new.channels.items ≡ length self.old.channels.items }
+        ensures { NotesChunk self.old self.new prepared.now }
     {
         self.chunks.push_reserved(KeptChunk {
             header_position: self.place,
@@ -219,21 +197,7 @@ impl Writing {
     fn put_chunk<S: Store>(&mut self, alloc: Global, store: &mut S) -> Result<(), WriteError>
         requires held { IsHeld self.old (S.shows store.old).files }
         requires some { 1 ≤ self.old.chunk.header.message_number }
-        ensures given { (g : Given) → StandsFor self.old g
-            → OnOk result (StandsFor self.new (with_chunk g)) }
-        ensures same { (g : Given) → StandsFor self.old g → OnErr result (StandsFor self.new g) }
-        ensures makes { (g : Given) → StandsFor self.old g → Makes (puts_into g.name (chunk_puts g))
-            (S.shows store.old) (S.shows store.new) result }
-        ensures starved { (g : Given) → StandsFor self.old g → IsErrOf result WriteError.Memory
-            → LeavesOut (StandsFor self.new) g g (S.shows store.old) (S.shows store.new) }
-        ensures held { (IsErrOf result WriteError.Failed → ⊥)
-            → IsHeld self.new (S.shows store.new).files }
-        ensures channels { length self.new.channels.items ≡ length self.old.channels.items }
-        ensures told { OnOk result ((S.shows store.new).files ≡ None → (S.shows store.old).files
-            ≡ None) }
-        ensures unbroken { IsErrOf result WriteError.Broken → ⊥ }
-        ensures causes { HasWriteCauses (IsErrOf result WriteError.Failed) (S.shows store.old)
-            (S.shows store.new) }
+        ensures { PutsChunk self.old self.new (S.shows store.old) (S.shows store.new) result }
     {
         let prepared = self.prepared(alloc)?;
         self.put_sections(store, &prepared)?;
@@ -244,15 +208,7 @@ impl Writing {
     // Gathers a message, which the chunk takes.
     fn gather(&mut self, channel: u32, time: u64, content: &[u8]) -> Result<(), WriteError>
         requires { channel < length self.old.channels.items }
-        ensures given { (g : Given) (c : Channel) → StandsFor self.old g
-            → slice_get g.channels channel ≡ Some c
-            → takes g.gathered (message_on c time content.now) ≡ true
-            → OnOk result (StandsFor self.new (with_message g (message_on c time content.now))) }
-        ensures same { (g : Given) → StandsFor self.old g → OnErr result (StandsFor self.new g) }
-        ensures place { self.new.place ≡ self.old.place }
-        ensures name { self.new.name ≡ self.old.name }
-        ensures channels { length self.new.channels.items ≡ length self.old.channels.items }
-        ensures only_memory { IsOkUnless result WriteError.Memory }
+        ensures { Gathers self.old self.new channel time content.now result }
     {
         let all = counted(&self.counted, time, content.len() as u64)?;
         let kept = &mut self.channels[channel as usize];

@@ -5,22 +5,29 @@ use Rattle.cy_writer.specs.declared.kept.KeptChannel.{KeptChannel}
 use Rattle.cy_writer.proofs.Standing.{stands_message, name_at, one_more}
 use Rattle.cy_writer.proofs.writing.Writing.gather.Goals as goal
 
-pub returns-clause-given : goal.returns-clause-given
-returns-clause-given c given channel held here taken =
-    let items = c.args.self.now.channels.items in
-    let kept : KeptChannel = c.index_mut-kept.result.now in
-    let is : kept ≡ get_or items c.args.channel kept = c.index_mut-kept.ensures.value in
-    let number : c.in_ok-number.number ≡ kept.cache.message_number + 1 = search rules in
-    let named : c.as_str.result.now ≡ channel.name =
-    c.as_str.ensures.value
-    ∙ ap (λ (k : KeptChannel). k.cache.name) is
-    ∙ ap (λ (ks : List KeptChannel). (get_or ks c.args.channel kept).cache.name) held.channels
-    ∙ name_at 2064 (messages_of given) given.channels c.args.channel channel kept here in
-    let Taken : List ℕ → Type 0 = λ name. IsChunkOf c.add.new.self (given.gathered ++ record { channel_name = name; time = c.args.time; content = c.args.content.now } ∷ []) in
-    let WithCount : ℕ → List KeptChannel = λ n. slice_set items c.args.channel record { position = kept.position; cache = record kept.cache { message_number = n } } in
-    stands_message c.args.self.now _ given (message_on channel c.args.time c.args.content.now) c.args.channel channel kept held here refl taken
-    refl
-    (ap WithCount number ∙ ap (λ (k : KeptChannel). slice_set items c.args.channel (one_more k)) is)
-    refl refl
-    (subst Taken named (c.in_ok-add.ensures.added given.gathered held.chunk))
-    c.in_ok-all.ensures.counted
+pub returns : goal.returns
+returns c = record {
+  given = λ given channel held here taken.
+      let items = c.args.self.now.channels.items in
+      let kept : KeptChannel = c.index_mut-kept.result.now in
+      let is : kept ≡ get_or items c.args.channel kept = c.index_mut-kept.ensures.value in
+      let number : c.in_ok-number.number ≡ kept.cache.message_number + 1 = search rules in
+      let named : c.as_str.result.now ≡ channel.name =
+      c.as_str.ensures.value
+      ∙ ap (λ (k : KeptChannel). k.cache.name) is
+      ∙ ap (λ (ks : List KeptChannel). (get_or ks c.args.channel kept).cache.name) held.channels
+      ∙ name_at 2064 (messages_of given) given.channels c.args.channel channel kept here in
+      let Taken : List ℕ → Type 0 = λ name. IsChunkOf c.add.new.self (given.gathered ++ record { channel_name = name; time = c.args.time; content = c.args.content.now } ∷ []) in
+      let WithCount : ℕ → List KeptChannel = λ n. slice_set items c.args.channel record { position = kept.position; cache = record kept.cache { message_number = n } } in
+      stands_message c.args.self.now _ given (message_on channel c.args.time c.args.content.now) c.args.channel channel kept held here refl taken
+      refl
+      (ap WithCount number ∙ ap (λ (k : KeptChannel). slice_set items c.args.channel (one_more k)) is)
+      refl refl
+      (subst Taken named (c.in_ok-add.ensures.added given.gathered held.chunk))
+      c.in_ok-all.ensures.counted;
+  same = λ given held. search rules;
+  place = search rules;
+  name = search rules;
+  channels = search rules;
+  only_memory = search rules;
+}
