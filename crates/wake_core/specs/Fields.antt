@@ -1,7 +1,7 @@
 -- What the fields of a world show, and what holds of them.
 use Rattle.std.specs.Prelude.{ℕ, zero, suc, ◌+◌, ◌-◌, ◌*◌, ◌≡◌, ◌≢◌, ◌≤◌, ◌<◌, Bool, true, false}
-use Rattle.std.specs.Prelude.{List, [], length, map, sum, drop, get_or, max, min, Option, Some, None}
-use Rattle.std.specs.Prelude.{option_map, slice_get, vec_capacity}
+use Rattle.std.specs.Prelude.{List, [], length, map, sum, drop, get_or, max, min, Option, Some}
+use Rattle.std.specs.Prelude.{None, option_map, slice_get, vec_capacity}
 use Rattle.cy_msg.specs.declared.token.Token.{Token}
 use Rattle.cy_msg.specs.declared.token.Tuple.{Tuple}
 use Rattle.cy_fuse.specs.Visitor.{VisitorView, prepared}

@@ -1,7 +1,7 @@
 -- What the calls of a world need, and what they answer beside their events. A call may be made
 -- where its event can happen, which is said by the event itself, up to the world that it leaves.
-use Rattle.std.specs.Prelude.{ℕ, ◌+◌, ◌≡◌, ◌≢◌, ◌≤◌, ◌<◌, ◌⊎◌, Bool, true, false, Option, Some, None}
-use Rattle.std.specs.Prelude.{List, [], length, option_map, slice_get}
+use Rattle.std.specs.Prelude.{ℕ, ◌+◌, ◌≡◌, ◌≢◌, ◌≤◌, ◌<◌, ◌⊎◌, Bool, true, false, Option, Some}
+use Rattle.std.specs.Prelude.{None, List, [], length, option_map, slice_get}
 use Rattle.std.specs.Option.{option_map_or}
 use Rattle.cy_msg.specs.declared.token.Token.{Token}
 use Rattle.cy_msg.specs.declared.token.Tuple.{Tuple}

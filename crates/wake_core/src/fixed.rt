@@ -57,7 +57,8 @@ impl Fixed {
     /// The channel that a component writes.
     pub(crate) fn out(&self, component: usize) -> u32
         requires { component < length self.now.routes.items }
-        ensures { (x : Route) → slice_get self.now.routes.items component ≡ Some x → result ≡ x.out }
+        ensures { (x : Route) → slice_get self.now.routes.items component ≡ Some x
+            → result ≡ x.out }
     {
         self.routes[component].out
     }

@@ -3,7 +3,8 @@ ghost use Rattle.std.specs.Prelude.{ℕ, ◌≡◌, length, true, None, vec_capa
 ghost use Rattle.wake_core.specs.Plain.{Hand};
 ghost use Rattle.wake_core.specs.Run.{played_of};
 ghost use Rattle.wake_core.specs.Sound.{Sound};
-ghost use Rattle.wake_core.specs.Fields.{read, no_visitor, no_routine, plain_at, IsSized, IsFlagged};
+ghost use Rattle.wake_core.specs.Fields.{read, no_visitor, no_routine, plain_at};
+ghost use Rattle.wake_core.specs.Fields.{IsSized, IsFlagged};
 ghost use Rattle.wake_core.specs.Fields.{IsStepping, IsWaiting, IsVisited, IsRoomy, AreOwing};
 
 use crate::Hand;
