@@ -1,4 +1,5 @@
 """Uncompressed Cyber RT records, read and written as docs/FORMATS.md says; nothing here is taken from the program."""
+from collections import Counter
 
 HEADER_END = 2064
 LONGEST_BODY = 200_000_000
@@ -39,15 +40,16 @@ def chunks_of(messages):
     return chunks + [chunk] if chunk else chunks
 
 
-def record(messages):
-    """The record of these messages, whose channels have no types."""
-    channels = list(dict.fromkeys(channel for channel, _, _ in messages))
+def record(messages, forms=None):
+    """The record of these messages. `forms` has the type and description of channels; those of others are empty."""
+    counts = Counter(channel for channel, _, _ in messages)
+    channels = list(counts)
     chunks = chunks_of(messages)
     parts = []
     for channel in channels:
-        count = sum(it[0] == channel for it in messages)
-        cache = number(1, count) + block(2, channel) + block(3, b"") + block(4, b"")
-        parts.append((4, block(1, channel) + block(2, b"") + block(3, b""), block(101, cache)))
+        kind, description = (forms or {}).get(channel, (b"", b""))
+        cache = number(1, counts[channel]) + block(2, channel) + block(3, kind) + block(4, description)
+        parts.append((4, block(1, channel) + block(2, kind) + block(3, description), block(101, cache)))
     for chunk in chunks:
         times, raw = [it[1] for it in chunk], sum(len(it[2]) for it in chunk)
         begin, end, count = min(times), max(times), len(chunk)
@@ -69,39 +71,77 @@ def record(messages):
 
 
 def read_varint(data, at):
-    n, shift = 0, 0
-    while data[at] >= 128:
-        n += (data[at] - 128) << shift
-        at, shift = at + 1, shift + 7
-    return n + (data[at] << shift), at + 1
+    n = 0
+    for k in range(10):
+        byte = data[at + k]
+        n += (byte % 128) << (7 * k)
+        if byte < 128:
+            return n % 2**64, at + k + 1
+    raise ValueError("a varint of more than ten bytes")
 
 
 def fields_of(data):
-    """The fields of a message, number and value."""
+    """The fields of a message, number and value: an integer where it is a varint, else bytes."""
     at, found = 0, []
     while at < len(data):
         tag, at = read_varint(data, at)
-        value, at = read_varint(data, at)
-        if tag % 8 == 2:
-            value, at = data[at : at + value], at + value
+        if tag % 8 == 0:
+            value, at = read_varint(data, at)
+        else:
+            size = {1: 8, 5: 4}.get(tag % 8)
+            if size is None:
+                size, at = read_varint(data, at)
+            value, at = data[at : at + size], at + size
+        if tag < 8 or tag >= 2**32 or tag % 8 in (3, 4, 6, 7) or at > len(data):
+            raise ValueError("no sequence of fields")
         found.append((tag // 8, value))
+    return found
+
+
+def sections_of(data):
+    """The sections behind the header, up to an index: their types and bodies."""
+    at, found = HEADER_END, []
+    while at < len(data):
+        kind, size = int.from_bytes(data[at : at + 4], "little"), int.from_bytes(data[at + 8 : at + 16], "little")
+        if kind == 3:
+            break
+        found.append((kind, data[at + 16 : at + 16 + size]))
+        at += 16 + size
     return found
 
 
 def messages_of(data):
     """The messages of a record, each a channel, a time and a content."""
-    at, found = HEADER_END, []
-    while at < len(data):
-        kind, size = int.from_bytes(data[at : at + 4], "little"), int.from_bytes(data[at + 8 : at + 16], "little")
+    found = []
+    for kind, body in sections_of(data):
         if kind == 2:
-            for _, message in fields_of(data[at + 16 : at + 16 + size]):
+            for _, message in fields_of(body):
                 fields = dict(fields_of(message))
-                found.append((fields[1], fields[2], fields[3]))
-        at += 16 + size
+                found.append((fields.get(1, b""), fields.get(2, 0), fields.get(3, b"")))
+    return found
+
+
+def forms_of(data):
+    """The type and description of each channel that has a section, by the first of its sections."""
+    found = {}
+    for kind, body in sections_of(data):
+        if kind == 4:
+            fields = dict(fields_of(body))
+            found.setdefault(fields.get(1, b""), (fields.get(2, b""), fields.get(3, b"")))
     return found
 
 
 def whole_of(content):
-    """The number that a content `{ 1 value: sint64 }` holds."""
-    zigzag = dict(fields_of(content))[1]
-    return zigzag // 2 if zigzag % 2 == 0 else -(zigzag // 2) - 1
+    """The number that a content `{ 1 value: sint64 }` holds, or None."""
+    try:
+        numbers = [value for field, value in fields_of(content) if field == 1 and isinstance(value, int)]
+    except (ValueError, IndexError):
+        return None
+    if not numbers:
+        return None
+    return numbers[-1] // 2 if numbers[-1] % 2 == 0 else -(numbers[-1] // 2) - 1
+
+
+def content_of(value):
+    """The content that holds a number."""
+    return number(1, 2 * value if value >= 0 else -2 * value - 1)

@@ -1,0 +1,125 @@
+#!/usr/bin/env python3
+"""Plays random records through random components, and compares what the program writes with what replay.py makes of the files.
+
+    replays.py PROGRAM COUNT SEED
+
+prints how many of COUNT replays differ, and ends with status 1 where any does; the files of the first one stay in a folder.
+"""
+import os
+import random
+import subprocess
+import sys
+import tempfile
+
+from record import content_of, record
+
+HERE = os.path.dirname(os.path.abspath(__file__))
+KINDS = {"Pass": 1, "Filter": 1, "Sum": 1, "Count": 1, "Max": 1, "Window": 1, "Change": 1, "Select": 3, "Hold": 1, "Take": 1}
+CHANNELS = ["/a", "/b", "/c", "/d"]
+BAD_CONTENTS = [b"", b"\xff", b"\x08", b"\x10\x02", b"\x0a\x01x"]
+
+
+def parameters(kind, chance):
+    if kind == "Filter":
+        low = chance.randint(-20, 10)
+        return f"lo: {low} hi: {low + chance.randint(-1, 20)}"
+    if kind == "Hold":
+        return f"delay: {chance.choice([0, 1, 3, 10, 2**64 - 1])}"
+    if kind in ("Window", "Take"):
+        return f"n: {chance.randint(1, 5)}"
+    return ""
+
+
+def component(number, triggers, outs, chance):
+    """A component of the DAG and its file: its first reader is one of `triggers`, its channel one that no other writes."""
+    kind = chance.choice(list(KINDS))
+    trigger = chance.choice(triggers)
+    others = [it for it in dict.fromkeys(CHANNELS + outs) if it != trigger]
+    readers = [trigger] + chance.sample(others, chance.randint(KINDS[kind] - 1, 3))
+    texts = [f'readers {{ channel: "{it}" pending_queue_size: {chance.choice([0, 1, 1, 2, 4])} }}' for it in readers]
+    config = f'name: "c{number}" config_file_path: "c{number}.conf" {" ".join(texts)}'
+    file = f'out: "{outs[number]}" out_type: "t{number}" {parameters(kind, chance)}'
+    return f'components {{ class_name: "{kind}Component" config {{ {config} }} }}', file
+
+
+def scheduler(count, chance):
+    tasks = " ".join(f'tasks {{ name: "c{k}" prio: {chance.randint(0, 25)} }}' for k in range(count) if chance.random() < 0.7)
+    if chance.random() < 0.5:
+        groups = f'groups {{ name: "g" {tasks} }} groups {{ name: "h" tasks {{ name: "c0" prio: 3 }} }}'
+        return f"scheduler_conf {{ classic_conf {{ {groups} }} }}"
+    pinned = tasks.replace(" prio", f" processor: {chance.randint(-1, 2)} prio")
+    return f'scheduler_conf {{ policy: "choreography" choreography_conf {{ choreography_processor_num: 2 {pinned} }} }}'
+
+
+def messages(chance, outs):
+    found, time = [], 0
+    for _ in range(chance.randint(0, 40)):
+        time += chance.choice([0, 0, 1, 1, 2, 7])
+        channel = chance.choice(CHANNELS + outs[:1] if chance.random() < 0.1 else CHANNELS)
+        value = chance.choice([chance.randint(-20, 20), 2**63 - 1, -(2**63)] if chance.random() < 0.2 else [chance.randint(-20, 20)])
+        content = chance.choice(BAD_CONTENTS) if chance.random() < 0.05 else content_of(value)
+        found.append((channel.encode(), time, content))
+    if chance.random() < 0.3:
+        chance.shuffle(found)
+    return found
+
+
+def options(chance):
+    words = []
+    if chance.random() < 0.3:
+        words += ["--channels", ",".join(chance.sample(CHANNELS, chance.randint(1, 4)))]
+    if chance.random() < 0.2:
+        words += [f"--drop={chance.choice(CHANNELS)}"]
+    if chance.random() < 0.2:
+        words += ["--begin", str(chance.randint(0, 20)), "--end", str(chance.randint(10, 60))]
+    return words
+
+
+def write_files(chance):
+    """Makes the files of a replay, and gives the words that name them."""
+    count = chance.randint(1, 6)
+    outs = [f"/o{k}" for k in range(count)]
+    if chance.random() < 0.2:
+        outs[0] = "/d"
+    parts = [component(k, CHANNELS[:3] + outs[:k], outs, chance) for k in range(count)]
+    files = {"m.dag": "module_config { " + " ".join(text for text, _ in parts) + " }"}
+    files |= {f"c{k}.conf": text for k, (_, text) in enumerate(parts)}
+    words = ["--dag", "m.dag", "--record", "in.rec"] + options(chance)
+    if chance.random() < 0.6:
+        files["m.sched"] = scheduler(count, chance)
+        words += ["--sched", "m.sched"]
+    for name, text in files.items():
+        with open(name, "w", encoding="utf-8") as file:
+            file.write(text)
+    with open("in.rec", "wb") as file:
+        file.write(record(messages(chance, outs), {b"/a": (b"a.Type", b"described")}))
+    return words
+
+
+def is_as_expected(program, words):
+    subprocess.run([sys.executable, f"{HERE}/replay.py", "want.rec", "want.trace", "want.line", *words], check=True)
+    played = subprocess.run([program, "play", "--serial", "--out", "out.rec", "--trace", "out.trace", *words], capture_output=True)
+    with open("out.line", "wb") as file:
+        file.write(played.stdout)
+    pairs = [("out.rec", "want.rec"), ("out.trace", "want.trace"), ("out.line", "want.line")]
+    return played.returncode == 0 and all(open(a, "rb").read() == open(b, "rb").read() for a, b in pairs)
+
+
+def main():
+    program, count, seed = os.path.abspath(sys.argv[1]), int(sys.argv[2]), int(sys.argv[3])
+    differ = 0
+    for number in range(count):
+        folder = tempfile.mkdtemp()
+        os.chdir(folder)
+        words = write_files(random.Random(f"{seed} {number}"))
+        if is_as_expected(program, words):
+            subprocess.run(["rm", "-r", folder], check=True)
+            continue
+        differ += 1
+        print(f"replay {number} differs: {' '.join(words)} in {folder}")
+        break
+    print(f"{count} replays, {'one differs' if differ else 'none differs'}")
+    return min(differ, 1)
+
+
+sys.exit(main())
