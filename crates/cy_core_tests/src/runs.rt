@@ -6,7 +6,7 @@ ghost use Rattle.wake_core.specs.PassWiring.{IsPassWiring};
 
 use cy_comp::{Kind, Plan, Wiring};
 use cy_msg::{ContextPlan, Items, Names, Placement, PlayList, Text, Token, Tuple};
-use cy_trace::trace_text;
+use cy_trace::pass_trace_text as trace_text;
 use std::test::Fail;
 use wake_core::{CoreError, PassWorld as World, pass_serial as serial};
 

@@ -11,6 +11,7 @@ mod laws;
 mod line;
 mod lines;
 mod name;
+mod pass_text;
 mod read;
 mod text;
 mod trace;
@@ -18,6 +19,7 @@ mod word;
 
 pub use error::TraceError;
 pub use laws::{first_bad_is_one, lines_read_back, runs_are_traces, texts_tell_traces};
+pub use pass_text::pass_trace_text;
 pub use read::read_trace;
 pub use text::trace_text;
 pub use trace::{TapeEntry, Trace, TraceCall, TraceComponent, TraceOutput};

@@ -1,29 +1,33 @@
 // The text of a trace.
-ghost use Rattle.std.specs.Prelude.{◌≡◌, ◌<◌, ◌≤◌, ◌++◌, ℕ, length, IfOk, IfErr, OnOk};
+ghost use Rattle.std.specs.Prelude.{◌≡◌, ◌<◌, ◌≤◌, ◌++◌, length, IfOk, IfErr, OnOk};
 ghost use Rattle.wake_core.specs.Run.{routes_of};
-ghost use Rattle.wake_core.specs.WorldOf.{world_of};
+ghost use Rattle.wake_core.specs.WorldOf.{plain_of};
+ghost use Rattle.wake_core.specs.LawfulRun.{Quiet};
+ghost use Rattle.wake_core.specs.Rest.{run_shown};
 ghost use Rattle.cy_trace.specs.TraceText.{components_text, trace_text as text_of};
 
 use crate::TraceError;
 use crate::lines::{push_component, push_head, push_tape_lines};
-use cy_comp::{Plan, Wiring};
+use cy_comp::{Call, Plan, Wiring};
 use cy_msg::Bytes;
 use std::alloc::Global;
 use std::io;
-use wake_core::PassWorld as World;
+use wake_core::World;
 
-/// The trace of a world that was made for a wiring: what was played and how many messages were
-/// shadowed, each component's arrivals, calls and end, and the tape. Its only error is `Memory`.
+/// The trace of a world that was made for this wiring and whose run has come to its end: what was
+/// played and how many messages were shadowed, each component's arrivals, calls and end, and the
+/// tape. Its only error is `Memory`.
 pub fn trace_text(
     alloc: Global,
     world: &World,
     wiring: &Wiring,
     shadowed: u32,
 ) -> Result<Bytes, TraceError>
-    requires routes { (world_of world.now).routes ≡ routes_of wiring.now.plans }
-    requires channels { (world_of world.now).channels ≡ length wiring.now.names }
+    requires quiet { Quiet (plain_of world.now) }
+    requires routes { (plain_of world.now).routes ≡ routes_of wiring.now.plans }
+    requires channels { length (plain_of world.now).counts ≡ length wiring.now.names }
     ensures text { IfOk result (λ t. t ≡ text_of wiring.now.names wiring.now.plans shadowed
-        (world_of world.now).run) }
+        (run_shown (plain_of world.now))) }
     ensures memory { IfErr result (λ e. e ≡ TraceError.Memory) }
 {
     let mut to = Vec::new(alloc);
@@ -37,10 +41,11 @@ pub fn trace_text(
 // The same, added to a text.
 #[tactic(auto, unfolding(crate::specs::TraceText::trace_text))]
 fn push_trace(to: &mut Vec<u8>, world: &World, wiring: &Wiring, shadowed: u32) -> io::Result<()>
-    requires routes { (world_of world.now).routes ≡ routes_of wiring.now.plans }
-    requires channels { (world_of world.now).channels ≡ length wiring.now.names }
+    requires quiet { Quiet (plain_of world.now) }
+    requires routes { (plain_of world.now).routes ≡ routes_of wiring.now.plans }
+    requires channels { length (plain_of world.now).counts ≡ length wiring.now.names }
     ensures { OnOk result (to.new.items ≡ to.old.items
-        ++ text_of wiring.now.names wiring.now.plans shadowed (world_of world.now).run) }
+        ++ text_of wiring.now.names wiring.now.plans shadowed (run_shown (plain_of world.now))) }
 {
     push_head(to, world.played(), shadowed)?;
     push_components(to, world, wiring.plans.as_slice())?;
@@ -49,14 +54,30 @@ fn push_trace(to: &mut Vec<u8>, world: &World, wiring: &Wiring, shadowed: u32) -
 
 // The components, from the first one on.
 fn push_components(to: &mut Vec<u8>, world: &World, plans: &[Plan]) -> io::Result<()>
-    requires routes { (world_of world.now).routes ≡ routes_of plans.now }
+    requires quiet { Quiet (plain_of world.now) }
+    requires routes { (plain_of world.now).routes ≡ routes_of plans.now }
     requires few { length plans.now ≤ 64 }
     ensures { OnOk result (to.new.items ≡ to.old.items ++ components_text
-        (world_of world.now).run 0 plans.now) }
+        (run_shown (plain_of world.now)) 0 plans.now) }
 {
     for (place, plan) in plans.iter().enumerate() {
         let component = place as u32;
-        push_component(to, plan, world.arrivals(component), world.calls(component))?;
+        push_component(
+            to,
+            plan,
+            world.arrivals(component),
+            calls_of(world, component),
+        )?;
     }
     Ok(())
+}
+
+// The calls of a component: where nobody holds a croutine, none is still to be stepped.
+fn calls_of(world: &World, component: u32) -> &[Call]
+    requires quiet { Quiet (plain_of world.now) }
+    requires known { component < length (plain_of world.now).routes }
+    ensures { result.now ≡ (plain_of world.now).calls component }
+{
+    world.sound();
+    world.routine(component).calls()
 }

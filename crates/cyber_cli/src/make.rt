@@ -17,7 +17,7 @@ use crate::wiring::pass_wiring;
 use crate::words::Pass;
 use cy_comp::Wiring;
 use cy_msg::Bytes;
-use cy_trace::{TraceError, trace_text};
+use cy_trace::{TraceError, pass_trace_text as trace_text};
 use std::alloc::Global;
 use wake_core::PassWorld as World;
 
