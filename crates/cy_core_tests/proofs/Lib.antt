@@ -1,0 +1,3 @@
+pub mod ListSteps
+pub mod RowSteps
+pub mod Scenes

@@ -5,4 +5,10 @@
 #[cfg(test)]
 mod messages;
 #[cfg(test)]
+mod played;
+#[cfg(test)]
 mod runs;
+#[cfg(test)]
+mod wired;
+#[cfg(test)]
+mod worlds;
