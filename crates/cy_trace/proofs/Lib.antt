@@ -7,4 +7,5 @@ pub mod Order
 pub mod PartLaws
 pub mod ReadingSteps
 pub mod Readers
+pub mod RunFits
 pub mod RunTexts

@@ -1,12 +1,22 @@
 -- Laws on the texts of traces.
-use Rattle.std.specs.Prelude.{ℕ, ◌≡◌, List, Some}
+use Rattle.std.specs.Prelude.{ℕ, ◌≡◌, ◌≤◌, List, length, slice_get, Some, Result, IfOk}
+use Rattle.std.specs.Str.{IsUtf8}
+use Rattle.cy_comp.specs.declared.call.Call.{Call}
+use Rattle.cy_comp.specs.declared.call.Out.{Out}
 use Rattle.cy_comp.specs.declared.plan.Plan.{Plan}
-use Rattle.wake_core.specs.Run.{Run}
+use Rattle.cy_comp.specs.Wiring.{IsWiring}
+use Rattle.wake_core.specs.declared.entries.TheConstants.{MOST_PLANNED}
+use Rattle.wake_core.specs.Plain.{Plain}
+use Rattle.wake_core.specs.Planned.{planned}
+use Rattle.wake_core.specs.Rest.{run_shown}
+use Rattle.wake_core.specs.Run.{Run, routes_of}
+use Rattle.wake_core.specs.Sound.{Sound}
+use Rattle.cy_trace.specs.declared.error.TraceError.{TraceError}
 use Rattle.cy_trace.specs.declared.line.Line.{Line}
 use Rattle.cy_trace.specs.declared.trace.Trace.{Trace}
 use Rattle.cy_trace.specs.LineReading.{line_of}
-use Rattle.cy_trace.specs.TraceForm.{IsFirstBad, IsLine, IsTrace, IsTraceText, line_text}
-use Rattle.cy_trace.specs.TraceForm.{text_of_trace}
+use Rattle.cy_trace.specs.TraceForm.{IsFirstBad, IsLine, IsLong, IsShort, IsTrace, IsTraceText}
+use Rattle.cy_trace.specs.TraceForm.{IsValue, ReadsTrace, line_text, text_of_trace}
 use Rattle.cy_trace.specs.TraceOfRun.{trace_of_run}
 use Rattle.cy_trace.specs.TraceText.{trace_text}
 
@@ -35,3 +45,33 @@ TextsOfTracesAreGood = (text : List ℕ) (n : ℕ) → IsFirstBad text n → ¬ 
 abbrev pub RunsAreTraces : Type 0
 RunsAreTraces = (names : List (List ℕ)) (plans : List Plan) (shadowed : ℕ) (w : Run)
     → trace_text names plans shadowed w ≡ text_of_trace (trace_of_run names plans shadowed w)
+
+-- A world was made for these components over channels with these names, and for no more planned
+-- entries than a world keeps.
+pub record IsOf (names : List (List ℕ)) (plans : List Plan) (w : Plain) : Type 0 where
+  pub wiring : IsWiring names plans
+  pub routes : w.routes ≡ routes_of plans
+  pub channels : length w.counts ≡ length names
+  pub limited : planned w.routes w.counts ≤ MOST_PLANNED
+
+-- What values of the code's types keep: names are texts, and the time and the value of an output
+-- fit 64 bits.
+pub record AreTyped (names : List (List ℕ)) (plans : List Plan) (w : Plain) : Type 0 where
+  pub channels : (n : ℕ) (name : List ℕ) → slice_get names n ≡ Some name → IsUtf8 name
+  pub components : (c : ℕ) (p : Plan) → slice_get plans c ≡ Some p → IsUtf8 p.name
+  pub outs : (c n : ℕ) (x : Call) (out : Out) → slice_get (w.calls c) n ≡ Some x
+      → x.out ≡ Some out → IsLong out.time × IsValue out.whole
+
+-- The numbers of every sound world fit those of a trace,
+abbrev pub RunsFit : Type 0
+RunsFit = (names : List (List ℕ)) (plans : List Plan) (shadowed : ℕ) (w : Plain)
+    → IsOf names plans w → AreTyped names plans w → IsShort shadowed → Sound w
+    → IsTrace (trace_of_run names plans shadowed (run_shown w))
+
+-- so that what is written of it is read back as its trace.
+abbrev pub RunsReadBack : Type 0
+RunsReadBack = (names : List (List ℕ)) (plans : List Plan) (shadowed : ℕ) (w : Plain)
+    → IsOf names plans w → AreTyped names plans w → IsShort shadowed → Sound w
+    → (result : Result Trace TraceError)
+    → ReadsTrace (trace_text names plans shadowed (run_shown w)) result
+    → IfOk result (λ t. t ≡ trace_of_run names plans shadowed (run_shown w))

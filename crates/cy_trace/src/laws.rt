@@ -1,6 +1,6 @@
 // What holds of the texts of traces.
 ghost use Rattle.cy_trace.specs.Laws.{FirstBadIsOne, LinesAreSpelled, LinesReadBack, RunsAreTraces};
-ghost use Rattle.cy_trace.specs.Laws.{TextsOfTracesAreGood, TextsTellTraces};
+ghost use Rattle.cy_trace.specs.Laws.{RunsFit, RunsReadBack, TextsOfTracesAreGood, TextsTellTraces};
 
 /// A line that is written is read back, and whatever is read is just how a line is written.
 pub fn lines_read_back()
@@ -22,4 +22,11 @@ pub fn first_bad_is_one()
 /// What `trace_text` writes of a run is the text of its trace.
 pub fn runs_are_traces()
     ensures { RunsAreTraces }
+{}
+
+/// The numbers of every sound world of a wiring fit those of a trace, so that what `trace_text`
+/// writes of it is read back.
+pub fn runs_are_read_back()
+    ensures fit { RunsFit }
+    ensures back { RunsReadBack }
 {}

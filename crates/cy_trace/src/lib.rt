@@ -18,7 +18,9 @@ mod trace;
 mod word;
 
 pub use error::TraceError;
-pub use laws::{first_bad_is_one, lines_read_back, runs_are_traces, texts_tell_traces};
+pub use laws::{
+    first_bad_is_one, lines_read_back, runs_are_read_back, runs_are_traces, texts_tell_traces,
+};
 pub use pass_text::pass_trace_text;
 pub use read::read_trace;
 pub use text::trace_text;
