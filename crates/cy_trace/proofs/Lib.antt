@@ -4,8 +4,10 @@ pub mod LineLaws
 pub mod NameLaws
 pub mod NumeralLaws
 pub mod Order
+pub mod OutSuits
 pub mod PartLaws
 pub mod ReadingSteps
 pub mod Readers
 pub mod RunFits
 pub mod RunTexts
+pub mod StepSuits

@@ -32,6 +32,8 @@ use Rattle.cy_trace.specs.TraceOfRun.{output_of_call, trace_call, trace_calls, t
 use Rattle.cy_trace.specs.Laws.{IsOf, AreTyped}
 use Rattle.cy_trace.specs.declared.line.Line.TheVariants as line
 use Rattle.cy_trace.proofs.Order.{are_lines-append}
+use Rattle.cy_trace.proofs.OutSuits.{outs_suit}
+use Rattle.cy_trace.proofs.StepSuits.{SuitsOut}
 
 -- What holds of each place of a list holds of each of its numbers.
 each_of : (P : ℕ → Type 0) (xs : List ℕ) → ((n x : ℕ) → slice_get xs n ≡ Some x → P x) → Each P xs
@@ -151,7 +153,7 @@ module _ (names : List (List ℕ)) (plans : List Plan) (w : Plain) (of : IsOf na
           omega (arith, size, mapped, of.wiring.some_reader c p at),
           omega (arith, size, mapped, of.wiring.few_readers c p at),
         );
-        out = λ o e. typed.outs c n x o is e;
+        out = λ o e. subst SuitsOut e (outs_suit w s typed.played c n (route_of p) x (route_at c p at) is);
       }
 
   role_at : (c n : ℕ) (p : Plan) (a : Arrival) → slice_get plans c ≡ Some p → slice_get (w.arrivals c) n ≡ Some a → a.0 < 10

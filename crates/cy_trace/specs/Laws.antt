@@ -1,15 +1,15 @@
 -- Laws on the texts of traces.
-use Rattle.std.specs.Prelude.{ℕ, ◌≡◌, ◌≤◌, List, length, slice_get, Some, Result, IfOk}
+use Rattle.std.specs.Prelude.{ℕ, ◌≡◌, ◌≤◌, List, length, slice_get, Some, Result}
+use Rattle.std.specs.Prelude.{IfOk}
 use Rattle.std.specs.Str.{IsUtf8}
-use Rattle.cy_comp.specs.declared.call.Call.{Call}
-use Rattle.cy_comp.specs.declared.call.Out.{Out}
+use Rattle.cy_msg.specs.declared.token.Token.{Token}
 use Rattle.cy_comp.specs.declared.plan.Plan.{Plan}
 use Rattle.cy_comp.specs.Wiring.{IsWiring}
 use Rattle.wake_core.specs.declared.entries.TheConstants.{MOST_PLANNED}
 use Rattle.wake_core.specs.Plain.{Plain}
 use Rattle.wake_core.specs.Planned.{planned}
 use Rattle.wake_core.specs.Rest.{run_shown}
-use Rattle.wake_core.specs.Run.{Run, routes_of}
+use Rattle.wake_core.specs.Run.{Run, routes_of, played_of}
 use Rattle.wake_core.specs.Sound.{Sound}
 use Rattle.cy_trace.specs.declared.error.TraceError.{TraceError}
 use Rattle.cy_trace.specs.declared.line.Line.{Line}
@@ -54,13 +54,15 @@ pub record IsOf (names : List (List ℕ)) (plans : List Plan) (w : Plain) : Type
   pub channels : length w.counts ≡ length names
   pub limited : planned w.routes w.counts ≤ MOST_PLANNED
 
--- What values of the code's types keep: names are texts, and the time and the value of an output
--- fit 64 bits.
+-- The time and the value of a message fit 64 bits.
+abbrev pub Suits : Token → Type 0
+Suits m = IsLong m.time × IsValue m.whole
+
+-- What values of the code's types keep: names are texts, and what is played fits 64 bits.
 pub record AreTyped (names : List (List ℕ)) (plans : List Plan) (w : Plain) : Type 0 where
   pub channels : (n : ℕ) (name : List ℕ) → slice_get names n ≡ Some name → IsUtf8 name
   pub components : (c : ℕ) (p : Plan) → slice_get plans c ≡ Some p → IsUtf8 p.name
-  pub outs : (c n : ℕ) (x : Call) (out : Out) → slice_get (w.calls c) n ≡ Some x
-      → x.out ≡ Some out → IsLong out.time × IsValue out.whole
+  pub played : (n : ℕ) (t : Token) → slice_get (played_of w.routes w.tape) n ≡ Some t → Suits t
 
 -- The numbers of every sound world fit those of a trace,
 abbrev pub RunsFit : Type 0
