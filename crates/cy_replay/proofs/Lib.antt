@@ -1,7 +1,15 @@
+pub mod ChannelTable
 pub mod Coming
 pub mod Configs
 pub mod Fitting
+pub mod FrontPuts
 pub mod Joined
 pub mod Judged
+pub mod RecordBytes
+pub mod RecordCalls
+pub mod RecordChannels
+pub mod RecordChunks
+pub mod TapeRecord
+pub mod TapeText
 pub mod Texts
 pub mod Wirings

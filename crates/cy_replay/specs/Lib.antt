@@ -1,5 +1,9 @@
 pub mod Comes
 pub mod Configuration
 pub mod Faults
+pub mod RecordLaws
+pub mod RecordSteps
+pub mod RecordWrites
+pub mod Recording
 pub mod Steps
 pub mod Wiring

@@ -1,17 +1,22 @@
-//! From the files of a replay to what is replayed.
+//! From the files of a replay to what is replayed, and to the record that is written of it.
 //!
 //! `specs/Configuration` says what the configuration files come to, `specs/Wiring` what wiring their
-//! components does, `specs/Comes` what a call answers that reads files.
+//! components does, `specs/Comes` what a call answers that reads files, `specs/Recording` what the
+//! record of a tape is.
 #![tactic(auto)]
 
 mod configuration;
 mod error;
+mod played;
 mod read;
+mod recording;
 mod text;
 mod wiring;
 
 pub use configuration::Configuration;
 pub use error::{Fault, Refusal, SetupError};
+pub use played::Played;
 pub use read::read_configuration;
+pub use recording::{record_writes_leave_the_record, tape_record_is_its_text, write_record};
 pub use text::LONGEST_CONFIG;
 pub use wiring::{place_components, wire_components};

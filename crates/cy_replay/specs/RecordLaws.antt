@@ -1,0 +1,25 @@
+-- What holds of every record that is written of a tape.
+use Rattle.std.specs.Prelude.{ℕ, ◌≡◌, List}
+use Rattle.std.specs.FinMap.{insert}
+use Rattle.cy_msg.specs.Once.{IsOnce}
+use Rattle.cy_msg.specs.declared.token.Token.{Token}
+use Rattle.cy_store.specs.Files.{Files}
+use Rattle.cy_store.specs.Write.{after_writes}
+use Rattle.cy_section.specs.declared.types.Channel.{Channel}
+use Rattle.cy_section.specs.declared.types.BodyMessage.{BodyMessage}
+use Rattle.cy_section.specs.RecordText.{IsRecordText, record_bytes}
+use Rattle.cy_replay.specs.RecordWrites.{file_writes, record_puts}
+use Rattle.cy_replay.specs.Recording.{Source, IsWritable, channels_of_tape, messages_of_tape}
+use Rattle.cy_replay.specs.Recording.{chunks_of_tape}
+
+-- The record of a tape is the record text of its messages, where no two channels have one name.
+abbrev pub WritesText : Type 0
+WritesText = (name : List ℕ) (s : Source) (tape : List Token) → IsOnce s.names → IsWritable s tape
+    → IsRecordText (channels_of_tape s tape) (messages_of_tape s tape)
+    (record_bytes (channels_of_tape s tape) (chunks_of_tape name s tape))
+
+-- The writes of a record leave its bytes under its name, and every other name as it was.
+abbrev pub LeavesRecord : Type 0
+LeavesRecord = (name : List ℕ) (channels : List Channel) (chunks : List (List BodyMessage))
+    (files : Files) → after_writes (file_writes name (record_puts channels chunks)) files
+    ≡ insert files name (record_bytes channels chunks)
