@@ -1,5 +1,5 @@
 -- What holds of every record that is written of a tape.
-use Rattle.std.specs.Prelude.{ℕ, ◌≡◌, List}
+use Rattle.std.specs.Prelude.{ℕ, ◌≡◌, ◌<◌, List, length, slice_get, Some}
 use Rattle.std.specs.FinMap.{insert}
 use Rattle.cy_msg.specs.Once.{IsOnce}
 use Rattle.cy_msg.specs.declared.token.Token.{Token}
@@ -8,6 +8,9 @@ use Rattle.cy_store.specs.Write.{after_writes}
 use Rattle.cy_section.specs.declared.types.Channel.{Channel}
 use Rattle.cy_section.specs.declared.types.BodyMessage.{BodyMessage}
 use Rattle.cy_section.specs.RecordText.{IsRecordText, record_bytes}
+use Rattle.cy_msg.specs.declared.play_list.PlayList.{PlayList}
+use Rattle.cy_reader.specs.Record.{Contents}
+use Rattle.cy_reader.specs.Play.{Choice, IsPlayList}
 use Rattle.cy_replay.specs.RecordWrites.{file_writes, record_puts}
 use Rattle.cy_replay.specs.Recording.{Source, IsWritable, channels_of_tape, messages_of_tape}
 use Rattle.cy_replay.specs.Recording.{chunks_of_tape}
@@ -23,3 +26,9 @@ abbrev pub LeavesRecord : Type 0
 LeavesRecord = (name : List ℕ) (channels : List Channel) (chunks : List (List BodyMessage))
     (files : Files) → after_writes (file_writes name (record_puts channels chunks)) files
     ≡ insert files name (record_bytes channels chunks)
+
+-- The places of a play list are places of the record that it is of.
+abbrev pub PlacesAreThere : Type 0
+PlacesAreThere = (whole : Contents) (choice : Choice) (list : PlayList)
+    → IsPlayList whole choice list → (n place : ℕ) → slice_get list.places n ≡ Some place
+    → place < length whole.messages

@@ -17,6 +17,8 @@ pub use configuration::Configuration;
 pub use error::{Fault, Refusal, SetupError};
 pub use played::Played;
 pub use read::read_configuration;
-pub use recording::{record_writes_leave_the_record, tape_record_is_its_text, write_record};
+pub use recording::{
+    played_places_are_there, record_writes_leave_the_record, tape_record_is_its_text, write_record,
+};
 pub use text::LONGEST_CONFIG;
 pub use wiring::{place_components, wire_components};

@@ -1,5 +1,5 @@
 // What holds of every record that is written of a tape: proved here, and nothing to run.
-ghost use Rattle.cy_replay.specs.RecordLaws.{WritesText, LeavesRecord};
+ghost use Rattle.cy_replay.specs.RecordLaws.{WritesText, LeavesRecord, PlacesAreThere};
 
 /// What is put of a tape is the record text of its messages, on the channels that have one.
 pub fn tape_record_is_its_text()
@@ -9,4 +9,12 @@ pub fn tape_record_is_its_text()
 /// After the writes of a record its bytes stand under its name, and every other file is as it was.
 pub fn record_writes_leave_the_record()
     ensures { LeavesRecord }
+{}
+
+/// Each place of a play list is that of a message of the record that it is of, as [`write_record`]
+/// needs it.
+///
+/// [`write_record`]: crate::write_record
+pub fn played_places_are_there()
+    ensures { PlacesAreThere }
 {}
