@@ -3,8 +3,8 @@ use Rattle.std.specs.Prelude.{ℕ, ◌≡◌, ◌<◌, ◌==◌, true, List, Opt
 use Rattle.std.specs.Prelude.{slice_get, eqb}
 use Rattle.std.specs.List.{list_any, position, IsDistinct}
 
--- A table has for each channel its place in an order, if it stands there. No channel stands twice in
--- the order, and each is one that the table has.
+-- A table has for each channel its place in an order, if it stands there. No channel stands twice
+-- in the order, and each is one that the table has.
 pub record AreNumbered (order : List ℕ) (numbers : List (Option ℕ)) : Type 0 where
   pub places : (c : ℕ) → c < length numbers
       → slice_get numbers c ≡ Some (position (λ other. c == other) order)

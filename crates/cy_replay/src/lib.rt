@@ -1,8 +1,8 @@
 //! From the files of a replay to what is replayed, and to the record that is written of it.
 //!
-//! `specs/Configuration` says what the configuration files come to, `specs/Wiring` what wiring their
-//! components does, `specs/Comes` what a call answers that reads files, `specs/Recording` what the
-//! record of a tape is.
+//! `specs/Configuration` says what the configuration files come to, `specs/Wiring` what wiring
+//! their components does, `specs/Comes` what a call answers that reads files, `specs/Recording` what
+//! the record of a tape is.
 #![tactic(auto)]
 
 mod configuration;
