@@ -5,3 +5,5 @@ pub mod Meeting
 pub mod Sound
 pub mod Refusals
 pub mod Playing
+pub mod Keeping
+pub mod Telling

@@ -8,40 +8,40 @@ use Rattle.cy_reader.specs.declared.known.Known.{Known}
 use Rattle.cy_reader.specs.declared.error.LoadError.{LoadError}
 use Rattle.cy_reader.specs.declared.error.LoadError.TheVariants.{Memory}
 use Rattle.cy_reader.specs.Sections.{WholeSection, Sections, section_at, sections_in, and_those_behind}
-use Rattle.cy_reader.specs.Record.{◌>>=◌, fault_of, Contents, channel_given, channel_met, message_met, messages_met, section_met, sections_met}
+use Rattle.cy_reader.specs.Record.{◌>>=◌, fault_of, Met, channel_given, channel_met, message_met, messages_met, section_met, sections_met}
 use Rattle.cy_reader.specs.Loading.{Leads, Kept}
 
 bind_again : {A B C : Type 0} (r : Result A LoadError) (f : A → Result B LoadError) (g : B → Result C LoadError) → (r >>= f) >>= g ≡ r >>= λ x. f x >>= g
 bind_again (Ok x) f g = refl
 bind_again (Err e) f g = refl
 
-messages_met-append : (xs ys : List PlacedMessage) (c : Contents) → messages_met (xs ++ ys) c ≡ messages_met xs c >>= messages_met ys
+messages_met-append : (xs ys : List PlacedMessage) (c : Met) → messages_met (xs ++ ys) c ≡ messages_met xs c >>= messages_met ys
 messages_met-append [] ys c = refl
 messages_met-append (m ∷ xs) ys c = over (message_met m c) (messages_met-append xs ys)
   where
-    over : (r : Result Contents LoadError) → ((d : Contents) → messages_met (xs ++ ys) d ≡ messages_met xs d >>= messages_met ys)
+    over : (r : Result Met LoadError) → ((d : Met) → messages_met (xs ++ ys) d ≡ messages_met xs d >>= messages_met ys)
         → r >>= messages_met (xs ++ ys) ≡ (r >>= messages_met xs) >>= messages_met ys
     over (Ok d) f = f d
     over (Err e) f = refl
 
 -- what the messages so far came to: their contents, or a limit whatever follows
-abbrev pub IsMet : Result (Unit {0}) LoadError → List PlacedMessage → Contents → Contents → Type 0
+abbrev pub IsMet : Result (Unit {0}) LoadError → List PlacedMessage → Met → Met → Type 0
 IsMet (Ok x) front start now = messages_met front start ≡ Ok now
 IsMet (Err e) front start now = (e ≡ Memory) ⊎ ((rest : List PlacedMessage) → messages_met (front ++ rest) start ≡ Err e)
 
-one_met : (front : List PlacedMessage) (m : PlacedMessage) (rest : List PlacedMessage) (start old : Contents) → messages_met front start ≡ Ok old
+one_met : (front : List PlacedMessage) (m : PlacedMessage) (rest : List PlacedMessage) (start old : Met) → messages_met front start ≡ Ok old
     → messages_met ((front ++ m ∷ []) ++ rest) start ≡ message_met m old >>= messages_met rest
 one_met front m rest start old e =
     ap (λ (ms : List PlacedMessage). messages_met ms start) (append_assoc front (m ∷ []) rest) ∙ messages_met-append front (m ∷ rest) start
-    ∙ ap (λ (r : Result Contents LoadError). r >>= messages_met (m ∷ rest)) e
+    ∙ ap (λ (r : Result Met LoadError). r >>= messages_met (m ∷ rest)) e
 
-pub met_more : (so_far result : Result (Unit {0}) LoadError) (front : List PlacedMessage) (m : PlacedMessage) (start old now : Contents)
+pub met_more : (so_far result : Result (Unit {0}) LoadError) (front : List PlacedMessage) (m : PlacedMessage) (start old now : Met)
     → IsMet so_far front start old → Kept so_far result now (message_met m old) → IsMet result (front ++ m ∷ []) start now
 met_more (Ok x) (Ok y) front m start old now met kept =
-    ap (λ (ms : List PlacedMessage). messages_met ms start) (sym (append-nil (front ++ m ∷ []))) ∙ one_met front m [] start old met ∙ ap (λ (r : Result Contents LoadError). r >>= messages_met []) kept
+    ap (λ (ms : List PlacedMessage). messages_met ms start) (sym (append-nil (front ++ m ∷ []))) ∙ one_met front m [] start old met ∙ ap (λ (r : Result Met LoadError). r >>= messages_met []) kept
 met_more (Ok x) (Err e) front m start old now met (inl memory) = inl memory
 met_more (Ok x) (Err e) front m start old now met (inr passed) =
-    inr (λ rest. one_met front m rest start old met ∙ ap (λ (r : Result Contents LoadError). r >>= messages_met rest) passed)
+    inr (λ rest. one_met front m rest start old met ∙ ap (λ (r : Result Met LoadError). r >>= messages_met rest) passed)
 met_more (Err d) (Ok y) front m start old now met kept = absurd cc
 met_more (Err d) (Err e) front m start old now (inl memory) kept =
     let same : e ≡ d = cc in inl (same ∙ memory)
@@ -49,38 +49,38 @@ met_more (Err d) (Err e) front m start old now (inr passed) kept =
     let same : d ≡ e = cc in
     inr (λ rest. ap (λ (ms : List PlacedMessage). messages_met ms start) (append_assoc front (m ∷ []) rest) ∙ passed (m ∷ rest) ∙ ap (λ (x : LoadError). Err x) same)
 
-pub met_all : (result : Result (Unit {0}) LoadError) (front : List PlacedMessage) (start now : Contents) → IsMet result front start now → Leads result now (messages_met front start)
+pub met_all : (result : Result (Unit {0}) LoadError) (front : List PlacedMessage) (start now : Met) → IsMet result front start now → Leads result now (messages_met front start)
 met_all (Ok x) front start now met = met
 met_all (Err e) front start now (inl memory) = inl memory
 met_all (Err e) front start now (inr passed) = inr (ap (λ (ms : List PlacedMessage). messages_met ms start) (sym (append-nil front)) ∙ passed [])
 
 -- what the sections that are left come to
-abbrev pub finish : Contents → Sections → Result Contents LoadError
+abbrev pub finish : Met → Sections → Result Met LoadError
 finish now left = sections_met left.sections left.fault now
 
-pub section_read : (file : List ℕ) (more at : ℕ) (s : WholeSection) (now next : Contents) (whole : Result Contents LoadError) → section_at file at ≡ Ok (Some s)
+pub section_read : (file : List ℕ) (more at : ℕ) (s : WholeSection) (now next : Met) (whole : Result Met LoadError) → section_at file at ≡ Ok (Some s)
     → section_met s now ≡ Ok next → finish now (sections_in (suc more) file at) ≡ whole → finish next (sections_in more file (s.body_at + length s.body)) ≡ whole
 unfolding sections_in
 section_read file more at s now next whole e read so_far =
     let rest = sections_in more file (s.body_at + length s.body) in
-    sym (ap (λ (r : Result Contents LoadError). r >>= sections_met rest.sections rest.fault) read)
+    sym (ap (λ (r : Result Met LoadError). r >>= sections_met rest.sections rest.fault) read)
     ∙ sym (ap (λ (r : Result (Option WholeSection) SectionError). finish now (and_those_behind r (λ next. sections_in more file next))) e) ∙ so_far
 
-pub section_wrong : (file : List ℕ) (more at : ℕ) (s : WholeSection) (now : Contents) (e : LoadError) (whole : Result Contents LoadError) → section_at file at ≡ Ok (Some s)
+pub section_wrong : (file : List ℕ) (more at : ℕ) (s : WholeSection) (now : Met) (e : LoadError) (whole : Result Met LoadError) → section_at file at ≡ Ok (Some s)
     → section_met s now ≡ Err e → finish now (sections_in (suc more) file at) ≡ whole → whole ≡ Err e
 unfolding sections_in
 section_wrong file more at s now e whole found read so_far =
     let rest = sections_in more file (s.body_at + length s.body) in
     sym so_far ∙ ap (λ (r : Result (Option WholeSection) SectionError). finish now (and_those_behind r (λ next. sections_in more file next))) found
-    ∙ ap (λ (r : Result Contents LoadError). r >>= sections_met rest.sections rest.fault) read
+    ∙ ap (λ (r : Result Met LoadError). r >>= sections_met rest.sections rest.fault) read
 
-pub sections_end : (file : List ℕ) (more at : ℕ) (now : Contents) (whole : Result Contents LoadError) → section_at file at ≡ Ok None
+pub sections_end : (file : List ℕ) (more at : ℕ) (now : Met) (whole : Result Met LoadError) → section_at file at ≡ Ok None
     → finish now (sections_in (suc more) file at) ≡ whole → whole ≡ Ok now
 unfolding sections_in
 sections_end file more at now whole found so_far =
     sym so_far ∙ ap (λ (r : Result (Option WholeSection) SectionError). finish now (and_those_behind r (λ next. sections_in more file next))) found
 
-pub sections_fault : (file : List ℕ) (more at : ℕ) (now : Contents) (fault : SectionError) (whole : Result Contents LoadError) → section_at file at ≡ Err fault
+pub sections_fault : (file : List ℕ) (more at : ℕ) (now : Met) (fault : SectionError) (whole : Result Met LoadError) → section_at file at ≡ Err fault
     → finish now (sections_in (suc more) file at) ≡ whole → whole ≡ Err (fault_of fault)
 unfolding sections_in
 sections_fault file more at now fault whole found so_far =
@@ -91,12 +91,12 @@ one_less zero some = absurd (omega arith)
 one_less (suc m) some = (m, refl)
 
 -- the section of a channel
-pub channel_section : (s : WholeSection) (c : Channel) (contents : Contents) → s.kind ≡ kind.Channel → channel_at s.body_at s.body ≡ Ok c → section_met s contents ≡ channel_met c contents
+pub channel_section : (s : WholeSection) (c : Channel) (contents : Met) → s.kind ≡ kind.Channel → channel_at s.body_at s.body ≡ Ok c → section_met s contents ≡ channel_met c contents
 unfolding section_met
 channel_section s c contents is read = rw (is, read) refl
 
-pub channel_leads : (r : Result (Unit {0}) LoadError) (c : Channel) (contents : Contents) (channels : List Known) → Leads r channels (channel_given c contents.channels)
-    → Leads r (let now : Contents = record { channels = channels; messages = contents.messages } in now) (channel_met c contents)
+pub channel_leads : (r : Result (Unit {0}) LoadError) (c : Channel) (contents : Met) (channels : List Known) → Leads r channels (channel_given c contents.channels)
+    → Leads r (let now : Met = record { channels = channels; messages = contents.messages } in now) (channel_met c contents)
 unfolding channel_met
 channel_leads (Ok x) c contents channels given = rw given refl
 channel_leads (Err e) c contents channels (inl memory) = inl memory

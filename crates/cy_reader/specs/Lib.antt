@@ -1,4 +1,5 @@
 pub mod Sections
+pub mod Heads
 pub mod Record
 pub mod Found
 pub mod Loading
@@ -6,3 +7,6 @@ pub mod Stands
 pub mod Load
 pub mod Play
 pub mod Uses
+pub mod Kept
+pub mod Info
+pub mod Facts

@@ -10,13 +10,13 @@ use Rattle.cy_reader.specs.Record.{Contents, record_of}
 -- file's first fault or passed limit.
 abbrev pub IsRefusal : StoreView → List ℕ → LoadError → Type 0
 IsRefusal old name e = (e ≡ Memory)
-    ⊎ ((e ≡ Store) ⊎ Holds old.files name (λ file. record_of file ≡ Err e))
+    ⊎ ((e ≡ Store) ⊎ Holds old.files name (λ file. record_of name file ≡ Err e))
 
 -- What `load` answers: the contents of the file, or the first fault or passed limit. It changes no
 -- file, and answers `Store` only where the store's count rose.
 pub record LoadAnswer (old new : StoreView) (name : List ℕ) (result : Result Contents LoadError) :
     Type 0 where
-  pub contents : IfOk result (λ r. Holds old.files name (λ file. record_of file ≡ Ok r))
+  pub contents : IfOk result (λ r. Holds old.files name (λ file. record_of name file ≡ Ok r))
   pub refused : IfErr result (IsRefusal old name)
   pub same : new.files ≡ old.files
   pub causes : HasCauses (IsErrOf result Store) old new name

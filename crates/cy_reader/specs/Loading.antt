@@ -9,7 +9,7 @@ use Rattle.cy_reader.specs.declared.channels.Channels.{Channels}
 use Rattle.cy_reader.specs.declared.loading.Message.{Message}
 use Rattle.cy_reader.specs.declared.loading.Loading.{Loading}
 use Rattle.cy_reader.specs.Record as meaning
-use Rattle.cy_reader.specs.Record.{Contents, size_of, number_of, most_channels}
+use Rattle.cy_reader.specs.Record.{Met, size_of, number_of, most_channels}
 use Rattle.cy_reader.specs.Record.{largest_channels}
 
 -- Channels within their limits.
@@ -39,8 +39,8 @@ message_of file m = record {
       (drop m.start file);
 }
 
-abbrev pub contents_of : List ℕ → Loading → Contents
-contents_of file l = record {
+abbrev pub met_of : List ℕ → Loading → Met
+met_of file l = record {
   channels = l.channels.list.items;
   messages = map
       (message_of file) l.messages.items;

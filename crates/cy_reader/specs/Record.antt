@@ -23,7 +23,9 @@ use Rattle.cy_reader.specs.declared.error.LoadError.TheVariants.{FileTooLarge, C
 use Rattle.cy_reader.specs.declared.error.LoadError.TheVariants.{NameTooLong, ChannelsTooLarge}
 use Rattle.cy_reader.specs.declared.error.LoadError.TheVariants.{TooManyChannels, Store, Memory}
 use Rattle.cy_reader.specs.declared.known.Known.{Known}
+use Rattle.cy_reader.specs.declared.heads.PlacedHead.{PlacedHead}
 use Rattle.cy_reader.specs.Sections.{WholeSection, sections_from}
+use Rattle.cy_reader.specs.Heads.{PlacedIndex, heads_of, index_of}
 
 -- The limits: of the file, of a message's content, of a channel's name, of all names, types and
 -- descriptions together, in bytes; and of the number of channels.
@@ -75,7 +77,7 @@ pub record Message : Type 0 where
   pub content : List ℕ
 
 -- What was met so far: the channels in the order of their first mention, and the messages.
-pub record Contents : Type 0 where
+pub record Met : Type 0 where
   pub channels : List Known
   pub messages : List Message
 
@@ -130,7 +132,7 @@ channel_given channel channels = name_fits channel.name
 unfoldable pub name_mentioned : List ℕ → List Known → Result (List Known) LoadError
 name_mentioned name channels = name_fits name (mentioned name channels (number_of name channels))
 
-unfoldable pub channel_met : Channel → Contents → Result Contents LoadError
+unfoldable pub channel_met : Channel → Met → Result Met LoadError
 channel_met channel contents = do
   channels ← channel_given channel contents.channels
   Ok (record { channels = channels; messages = contents.messages })
@@ -147,7 +149,7 @@ numbered m channels = record {
   content = m.message.content;
 }
 
-unfoldable pub message_met : PlacedMessage → Contents → Result Contents LoadError
+unfoldable pub message_met : PlacedMessage → Met → Result Met LoadError
 message_met m contents = do
   channels ← name_mentioned m.message.channel_name contents.channels
   content_fits m.message.content
@@ -157,18 +159,18 @@ message_met m contents = do
             ∷ [];
       }))
 
-abbrev pub messages_met : List PlacedMessage → Contents → Result Contents LoadError
+abbrev pub messages_met : List PlacedMessage → Met → Result Met LoadError
 messages_met [] contents = Ok contents
 messages_met (m ∷ rest) contents = message_met m contents >>= messages_met rest
 
 -- The messages of a body, unless a fault ends them: it comes before any limit of the section.
-abbrev pub body_met : Option SectionError → List PlacedMessage → Contents
-    → Result Contents LoadError
+abbrev pub body_met : Option SectionError → List PlacedMessage → Met
+    → Result Met LoadError
 body_met None messages contents = messages_met messages contents
 body_met (Some fault) messages contents = Err (fault_of fault)
 
 -- A section: its own faults come first. Chunk headers are read and not needed.
-abbrev pub section_of : SectionKind → ℕ → List ℕ → Contents → Result Contents LoadError
+abbrev pub section_of : SectionKind → ℕ → List ℕ → Met → Result Met LoadError
 section_of kind.ChunkHeader at body contents = of_section (chunk_header_at at body) >>=
     λ _. Ok contents
 section_of kind.ChunkBody at body contents = let all = messages_of
@@ -178,11 +180,11 @@ section_of kind.Channel at body contents = of_section (channel_at at body) >>=
 section_of kind.Header at body contents = Ok contents
 section_of kind.Index at body contents = Ok contents
 
-unfoldable pub section_met : WholeSection → Contents → Result Contents LoadError
+unfoldable pub section_met : WholeSection → Met → Result Met LoadError
 section_met s contents = section_of s.kind s.body_at s.body contents
 
-abbrev pub sections_met : List WholeSection → Option SectionError → Contents
-    → Result Contents LoadError
+abbrev pub sections_met : List WholeSection → Option SectionError → Met
+    → Result Met LoadError
 sections_met [] None contents = Ok contents
 sections_met [] (Some fault) contents = Err (fault_of fault)
 sections_met (s ∷ rest) fault contents = section_met s contents >>= sections_met rest fault
@@ -210,12 +212,46 @@ file_header file =
     else (if nat_lt (length file) 16 || not (little_number 4 file == 0) then Err NotRecord
     else sized_header file (little_number 8 (drop 8 file)))
 
-abbrev pub nothing : Contents
+abbrev pub nothing : Met
 nothing = record { channels = []; messages = [] }
 
--- What the file holds.
-unfoldable pub record_of : List ℕ → Result Contents LoadError
-record_of file = do
+-- The header of a file, and what was met behind it.
+unfoldable pub parts_of : List ℕ → Result (Header × Met) LoadError
+parts_of file = do
   header ← file_header file
   let all = sections_from file header_end
-  sections_met all.sections all.fault nothing
+  met ← sections_met all.sections all.fault nothing
+  Ok (header, met)
+
+-- The file of a record: its name, its length in bytes, its header, the head of each section that was
+-- read, and its index, if it has one.
+pub record Source : Type 0 where
+  pub name : List ℕ
+  pub size : ℕ
+  pub header : Header
+  pub heads : List PlacedHead
+  pub index : Option PlacedIndex
+
+unfoldable pub source_of : List ℕ → List ℕ → Header → Source
+source_of name file header = record {
+  name = name;
+  size = length file;
+  header = header;
+  heads = heads_of file header_end;
+  index = index_of file header_end;
+}
+
+-- What a record shows: its channels and messages, and of its file what is told beside them.
+pub record Contents : Type 0 where
+  pub channels : List Known
+  pub messages : List Message
+  pub source : Source
+
+abbrev pub shown : Source → Met → Contents
+shown source met = record { channels = met.channels; messages = met.messages; source = source }
+
+-- What the file of a name holds.
+unfoldable pub record_of : List ℕ → List ℕ → Result Contents LoadError
+record_of name file = do
+  parts ← parts_of file
+  Ok (shown (source_of name file parts.0) parts.1)

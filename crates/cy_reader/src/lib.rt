@@ -2,13 +2,17 @@
 //! with its place.
 //!
 //! `specs/Sections` splits a file into whole sections, and `specs/Record` says what they hold
-//! together.
+//! together. `specs/Play` says which messages are played, and in which order, and `specs/Info` has
+//! the text that tells what a record is.
 #![tactic(auto)]
 
 mod channels;
 mod error;
+mod facts;
 mod filter;
 mod header;
+mod heads;
+mod info;
 mod known;
 mod loading;
 mod play;
@@ -16,6 +20,8 @@ mod record;
 mod sections;
 
 pub use error::LoadError;
+pub use facts::{Counted, IndexFound};
 pub use filter::{ChannelSet, Filter};
+pub use heads::PlacedHead;
 pub use known::Known;
 pub use record::{Record, load};

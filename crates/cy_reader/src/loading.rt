@@ -3,8 +3,9 @@ ghost use Rattle.std.specs.Prelude.{◌≢◌, ◌≤◌, ◌<◌, ◌^◌, leng
 ghost use Rattle.cy_msg.specs.Answer.{AnswersOr};
 ghost use Rattle.cy_section.specs.Messages.{seen};
 ghost use Rattle.cy_reader.specs.Record.{message_met, body_met};
-ghost use Rattle.cy_reader.specs.Record.{section_met, sections_met, record_of, header_end, nothing};
-ghost use Rattle.cy_reader.specs.Loading.{IsSound, Leads, Kept, contents_of};
+ghost use Rattle.cy_reader.specs.Record.{section_met, sections_met, parts_of, header_end, nothing};
+ghost use Rattle.cy_reader.specs.Record.{longest_file};
+ghost use Rattle.cy_reader.specs.Loading.{IsSound, Leads, Kept, met_of};
 ghost use Rattle.cy_reader.specs.Stands.{Stands};
 ghost use Rattle.cy_reader.specs.Sections.{sections_from};
 ghost use Rattle.cy_reader.specs.Found.{seen_section};
@@ -51,8 +52,8 @@ fn message_met(
     requires sound { IsSound loading.old }
     requires stands { Stands file.now message.now.content_at message.now.content.now }
     requires short { length file.now < 2 ^ 32 }
-    ensures met { Leads result (contents_of file.now loading.new) (message_met (seen message.now)
-        (contents_of file.now loading.old)) }
+    ensures met { Leads result (met_of file.now loading.new) (message_met (seen message.now)
+        (met_of file.now loading.old)) }
     ensures still_sound { OnOk result (IsSound loading.new) }
     ensures not_store { IfErr result (λ e. e ≢ LoadError.Store) }
 {
@@ -86,8 +87,8 @@ fn keep(
     requires not_store { ForErr so_far (λ e. e ≢ LoadError.Store) }
     requires stands { Stands file.now message.now.content_at message.now.content.now }
     requires short { length file.now < 2 ^ 32 }
-    ensures met { Kept so_far result (contents_of file.now loading.new)
-        (message_met (seen message.now) (contents_of file.now loading.old)) }
+    ensures met { Kept so_far result (met_of file.now loading.new)
+        (message_met (seen message.now) (met_of file.now loading.old)) }
     ensures still_sound { OnOk result (IsSound loading.new) }
     ensures not_store { IfErr result (λ e. e ≢ LoadError.Store) }
 {
@@ -106,8 +107,8 @@ fn body_met(
     requires stands { Stands file.now section.now.body_at section.now.body.now }
     requires short { length file.now < 2 ^ 32 }
     ensures met { let all = messages_of (fields_of section.now.body_at section.now.body.now) in
-        Leads result (contents_of file.now loading.new) (body_met all.fault all.messages
-        (contents_of file.now loading.old)) }
+        Leads result (met_of file.now loading.new) (body_met all.fault all.messages
+        (met_of file.now loading.old)) }
     ensures still_sound { OnOk result (IsSound loading.new) }
     ensures not_store { IfErr result (λ e. e ≢ LoadError.Store) }
 {
@@ -130,8 +131,8 @@ fn section_met(
     requires sound { IsSound loading.old }
     requires stands { Stands file.now section.now.body_at section.now.body.now }
     requires short { length file.now < 2 ^ 32 }
-    ensures met { Leads result (contents_of file.now loading.new)
-        (section_met (seen_section section.now) (contents_of file.now loading.old)) }
+    ensures met { Leads result (met_of file.now loading.new)
+        (section_met (seen_section section.now) (met_of file.now loading.old)) }
     ensures still_sound { OnOk result (IsSound loading.new) }
     ensures not_store { IfErr result (λ e. e ≢ LoadError.Store) }
 {
@@ -155,7 +156,7 @@ fn sections_met(alloc: Global, file: &[u8]) -> Result<Loading, LoadError>
     requires long { header_end ≤ length file.now }
     requires short { length file.now < 2 ^ 32 }
     ensures met { let all = sections_from file.now header_end in
-        AnswersOr LoadError.Memory (contents_of file.now) result
+        AnswersOr LoadError.Memory (met_of file.now) result
         (sections_met all.sections all.fault nothing) }
     ensures sound { IfOk result IsSound }
     ensures not_store { IfErr result (λ e. e ≢ LoadError.Store) }
@@ -172,12 +173,14 @@ fn sections_met(alloc: Global, file: &[u8]) -> Result<Loading, LoadError>
     Ok(loading)
 }
 
-// What a file holds.
-#[tactic(auto, unfolding(crate::specs::Record::record_of))]
+// The header of a file, and what is met behind it.
+#[tactic(auto, unfolding(crate::specs::Record::parts_of))]
 pub(crate) fn read_record(alloc: Global, file: &[u8]) -> Result<(Header, Loading), LoadError>
-    ensures met { AnswersOr LoadError.Memory (λ x. contents_of file.now x.1) result
-        (record_of file.now) }
+    ensures parts { AnswersOr LoadError.Memory (λ x. (x.0, met_of file.now x.1)) result
+        (parts_of file.now) }
     ensures sound { IfOk result (λ x. IsSound x.1) }
+    ensures long { IfOk result (λ _. header_end ≤ length file.now) }
+    ensures short { IfOk result (λ _. length file.now ≤ longest_file) }
     ensures not_store { IfErr result (λ e. e ≢ LoadError.Store) }
 {
     let header = file_header(file)?;

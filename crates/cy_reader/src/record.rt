@@ -1,36 +1,47 @@
 // A record that was read.
-ghost use Rattle.std.specs.Prelude.{◌≡◌, ◌<◌, ◌+◌, length, take, drop, slice_get, IfSome, Some};
-ghost use Rattle.std.specs.Prelude.{IfOk};
+ghost use Rattle.std.specs.Prelude.{◌≡◌, ◌<◌, ◌+◌, ◌++◌, length, take, drop, slice_get, IfSome, Some, OnOk};
+ghost use Rattle.std.specs.Prelude.{◌≢◌, IfOk, IfErr, IsOkUnless};
+ghost use Rattle.cy_msg.specs.Answer.{AnswersOr};
+ghost use Rattle.cy_reader.specs.Record.{record_of};
+ghost use Rattle.cy_reader.specs.Info.{info_text};
+ghost use Rattle.cy_reader.specs.Facts.{AreFacts};
 ghost use Rattle.cy_reader.specs.Load.{FileAnswer, LoadAnswer};
 ghost use Rattle.cy_reader.specs.Play.{message_at, time_at};
 
-use crate::LoadError;
+use crate::facts::{Facts, channel_counts, count_parts, head_places, index_found};
 use crate::header::LONGEST_FILE;
+use crate::heads::{Walk, heads_of, index_at};
 use crate::loading::{Loading, read_record};
-use cy_msg::Bytes;
+use crate::{LoadError, info};
+use cy_msg::{Bytes, Text};
 use cy_section::{Channel, Header};
 use cy_store::{ReadFile, Store, read_file};
 use std::alloc::Global;
+use std::io;
 use std::marker::Model;
 
-/// The channels and messages of a file: contracts see both lists. The channels are numbered in the
-/// order of their first mention, by their section or by a message.
+/// The channels and messages of a file: contracts see both lists, and the file's name, length,
+/// header, heads and index. The channels are numbered in the order of their first mention, by their
+/// section or by a message.
 #[derive(Drop)]
 pub struct Record {
+    name: Text,
     file: Bytes,
     header: Header,
+    walk: Walk,
     loading: Loading,
 }
 
 impl Model for Record {
-    ghost use Rattle.cy_reader.specs.Record.{Contents};
-    ghost use Rattle.cy_reader.specs.Loading.{IsSound, contents_of};
+    ghost use Rattle.cy_reader.specs.Record.{Contents, shown};
+    ghost use Rattle.cy_reader.specs.Loading.{met_of};
+    ghost use Rattle.cy_reader.specs.Kept.{IsKept, kept_source};
 
     ghost Value = { Contents };
 
-    ghost view = { λ r. contents_of r.file r.loading };
+    ghost view = { λ r. shown (kept_source r.name r.file r.header r.walk) (met_of r.file r.loading) };
 
-    ghost invariant = { λ r. IsSound r.loading };
+    ghost invariant = { λ r. IsKept r.file r.walk r.loading };
 }
 
 // The bytes of a file, which are not more than are read.
@@ -43,18 +54,30 @@ fn file_bytes<S: Store>(alloc: Global, store: &mut S, name: &str) -> Result<Byte
     }
 }
 
+// The record of a file's bytes.
+fn record_in(alloc: Global, name: &str, file: Bytes) -> Result<Record, LoadError>
+    ensures record_of { AnswersOr LoadError.Memory (λ r. r) result (record_of name.now file) }
+    ensures not_store { IfErr result (λ e. e ≢ LoadError.Store) }
+{
+    let (header, loading) = read_record(alloc, file.as_slice())?;
+    let walk = heads_of(alloc, file.as_slice())?;
+    let name = Text::from_string(String::from_str(alloc, name)?);
+    Ok(Record {
+        name,
+        file,
+        header,
+        walk,
+        loading,
+    })
+}
+
 /// Reads the record of a name. It reads the file whole, in pieces of at most 1,048,576 bytes, and
-/// keeps it beside 24 bytes a message.
+/// keeps it beside 24 bytes a message and 24 bytes a section.
 pub fn load<S: Store>(alloc: Global, store: &mut S, name: &str) -> Result<Record, LoadError>
     ensures { LoadAnswer (S.shows store.old) (S.shows store.new) name.now result }
 {
     let file = file_bytes(alloc, store, name)?;
-    let (header, loading) = read_record(alloc, file.as_slice())?;
-    Ok(Record {
-        file,
-        header,
-        loading,
-    })
+    record_in(alloc, name, file)
 }
 
 impl Record {
@@ -121,5 +144,58 @@ impl Record {
         let start = file.len().min(message.start as usize);
         let end = start + (file.len() - start).min(message.length as usize);
         &file[start..end]
+    }
+
+    // What `info` tells beside the channels and the header.
+    fn facts(&self, alloc: Global) -> Result<Facts, LoadError>
+        ensures facts { IfOk result (AreFacts self.now) }
+        ensures only_memory { IsOkUnless result LoadError.Memory }
+    {
+        let messages = self.loading.messages.as_slice();
+        let channels = self.loading.channels.list.len();
+        let heads = self.walk.heads.as_slice();
+        let index = index_at(self.file.as_slice(), self.walk.end);
+        let size = self.file.as_slice().len() as u64;
+        Ok(Facts {
+            counted: count_parts(channels, messages, heads, index, size),
+            counts: channel_counts(alloc, messages, channels)?,
+            index: index_found(alloc, index)?,
+            places: head_places(alloc, heads)?,
+        })
+    }
+
+    // The text of it, at the end of others.
+    fn push_info(&self, to: &mut Vec<u8>, facts: &Facts) -> io::Result<()>
+        requires { AreFacts self.now facts.now }
+        ensures { OnOk result (to.new.items ≡ to.old.items ++ info_text self.now) }
+    {
+        let size = self.file.as_slice().len() as u64;
+        info::push_file(to, self.name.as_str(), size)?;
+        info::push_front(to, &self.header, &facts.counted)?;
+        info::push_index(to, &facts.index)?;
+        info::push_channels(
+            to,
+            self.loading.channels.list.as_slice(),
+            facts.counts.as_slice(),
+        )?;
+        info::push_header_differences(to, &self.header, &facts.counted)?;
+        info::push_index_differences(to, &facts.index, &facts.places)
+    }
+
+    /// What the record is, in lines: its file, its header, the counted channels, chunks and messages,
+    /// the least and greatest time, its index, each channel with its number of messages, and then
+    /// each field of a complete header and each entry of a readable index that differs from what was
+    /// counted. The name of the file stands as it was given. Its only error is `Memory`.
+    pub fn info(&self, alloc: Global) -> Result<Bytes, LoadError>
+        ensures text { IfOk result (λ text. text ≡ info_text self.now) }
+        ensures only_memory { IsOkUnless result LoadError.Memory }
+    {
+        let facts = self.facts(alloc)?;
+        let mut to = Vec::new(alloc);
+        match self.push_info(&mut to, &facts) {
+            Ok(()) => Ok(Bytes::from_vec(to)),
+            // A write to a `Vec` fails for want of memory alone.
+            Err(_) => Err(LoadError::Memory),
+        }
     }
 }

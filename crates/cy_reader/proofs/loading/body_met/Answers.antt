@@ -3,7 +3,7 @@ use Rattle.cy_wire.specs.Field.{fields_of}
 use Rattle.cy_section.specs.Reading.{Messages, messages_of}
 use Rattle.cy_section.specs.Messages.{seen}
 use Rattle.cy_section.proofs.Bodies.{message_read}
-use Rattle.cy_reader.specs.Loading.{contents_of}
+use Rattle.cy_reader.specs.Loading.{met_of}
 use Rattle.cy_reader.proofs.Slices.{MessagesStand, messages_stand}
 use Rattle.cy_reader.proofs.Meeting.{met_more}
 use Rattle.cy_reader.proofs.loading.body_met.Goals as goal
@@ -29,7 +29,7 @@ loop-message-preserved c =
       front ++ message ∷ [],
       message_read front c.loop-message.reader c.next_message.new.self (messages_of (fields_of c.args.section.now.body_at c.args.section.now.body.now)) message c.loop-message.invariant.1 left,
       sym (ap (λ (l : Messages). l.fault) left) ∙ c.loop-message.invariant.2,
-      met_more c.loop-message.so_far c.keep-so_far.result front message (contents_of file c.args.loading.now) (contents_of file c.loop-message.loading) (contents_of file c.keep-so_far.new.loading) c.loop-message.invariant.3 c.keep-so_far.ensures.met,
+      met_more c.loop-message.so_far c.keep-so_far.result front message (met_of file c.args.loading.now) (met_of file c.loop-message.loading) (met_of file c.keep-so_far.new.loading) c.loop-message.invariant.3 c.keep-so_far.ensures.met,
       c.keep-so_far.ensures.still_sound,
       (subst (λ (m : Messages). MessagesStand file m.messages) left c.loop-message.invariant.5).1,
       c.keep-so_far.ensures.not_store,

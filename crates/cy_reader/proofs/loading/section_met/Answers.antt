@@ -1,6 +1,6 @@
 use Rattle.std.proofs.Common.{arith}
 use Rattle.cy_reader.specs.Found.{seen_section}
-use Rattle.cy_reader.specs.Loading.{contents_of}
+use Rattle.cy_reader.specs.Loading.{met_of}
 use Rattle.cy_reader.proofs.Slices.{channel_short}
 use Rattle.cy_reader.proofs.Meeting.{channel_section, channel_leads}
 use Rattle.cy_reader.proofs.loading.section_met.Goals as goal
@@ -13,6 +13,6 @@ give-requires-clause-size c =
 
 pub returns-in_ok-channel-in-Channel-clause-met : goal.returns-in_ok-channel-in-Channel-clause-met
 returns-in_ok-channel-in-Channel-clause-met c =
-    let contents = contents_of c.args.file.now c.args.loading.now in
+    let contents = met_of c.args.file.now c.args.loading.now in
     rw (channel_section (seen_section c.args.section.now) c.in_ok-channel-in-Channel.channel contents c.in-Channel.is c.in_ok-channel-in-Channel.ensures)
     (channel_leads c.give.result c.in_ok-channel-in-Channel.channel contents c.give.new.channels.list.items c.give.ensures.list)

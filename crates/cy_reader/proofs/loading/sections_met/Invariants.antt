@@ -1,14 +1,14 @@
 use Rattle.std.proofs.Common.{◌≡◌, ◌-◌, ◌<◌, ◌≤◌, ℕ, length}
 use Rattle.cy_reader.specs.Sections.{sections_in, sections_from}
 use Rattle.cy_reader.specs.Record.{header_end, nothing}
-use Rattle.cy_reader.specs.Loading.{IsSound, contents_of}
+use Rattle.cy_reader.specs.Loading.{IsSound, met_of}
 use Rattle.cy_reader.proofs.Meeting.{finish}
 use Rattle.cy_reader.proofs.loading.sections_met.Given as goal
 
 abbrev pub invariant-loop-loading : goal.invariant-loop-loading
 invariant-loop-loading l =
     (more : ℕ) × (length l.file - l.at < more) × (l.at ≤ length l.file) × IsSound l.loading
-    × (finish (contents_of l.file l.loading) (sections_in more l.file l.at) ≡ finish nothing (sections_from l.file header_end))
+    × (finish (met_of l.file l.loading) (sections_in more l.file l.at) ≡ finish nothing (sections_from l.file header_end))
 
 abbrev pub decreases-loop-loading : goal.decreases-loop-loading
 decreases-loop-loading l = length l.file - l.at

@@ -1,0 +1,28 @@
+-- What the program keeps of a record's file.
+use Rattle.std.specs.Prelude.{ℕ, ◌≤◌, List, length}
+use Rattle.cy_section.specs.declared.types.Header.{Header}
+use Rattle.cy_reader.specs.declared.heads.IndexView.{IndexView}
+use Rattle.cy_reader.specs.declared.heads.Walk.{Walk}
+use Rattle.cy_reader.specs.declared.loading.Loading.{Loading}
+use Rattle.cy_reader.specs.Heads.{PlacedIndex, index_at}
+use Rattle.cy_reader.specs.Record.{Source, longest_file}
+use Rattle.cy_reader.specs.Loading.{IsSound}
+
+-- An index, without where its bytes lie in memory.
+abbrev pub seen_index : IndexView → PlacedIndex
+seen_index i = record { at = i.at; size = i.size; body = i.body.now }
+
+abbrev pub kept_source : List ℕ → List ℕ → Header → Walk → Source
+kept_source name file header walk = record {
+  name = name;
+  size = length file;
+  header = header;
+  heads = walk.heads.items;
+  index = index_at file walk.end;
+}
+
+-- What is kept is sound, and its sections end in the file, which is not too long.
+pub record IsKept (file : List ℕ) (walk : Walk) (l : Loading) : Type 0 where
+  pub sound : IsSound l
+  pub inside : walk.end ≤ length file
+  pub short : length file ≤ longest_file

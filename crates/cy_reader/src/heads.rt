@@ -1,0 +1,140 @@
+// Finds the heads of a file's sections, and its index.
+ghost use Rattle.std.specs.Prelude.{◌≡◌, ◌≤◌, ◌+◌, length, drop, IfOk, IfSome, IsOkUnless};
+ghost use Rattle.std.specs.Option.{option_map};
+ghost use Rattle.byteorder.specs.Endian.{little_number};
+ghost use Rattle.cy_reader.specs.Found.{seen_section};
+ghost use Rattle.cy_reader.specs.Heads.{whole_at, end_of, index_at, header_head, whole_heads};
+ghost use Rattle.cy_reader.specs.Heads.{heads_of};
+ghost use Rattle.cy_reader.specs.Kept.{seen_index};
+ghost use Rattle.cy_reader.specs.Record.{header_end};
+ghost use Rattle.cy_reader.specs.Sections.{sections_from};
+ghost use Rattle.cy_reader.specs.Stands.{Stands};
+
+use crate::LoadError;
+use crate::sections::{SectionView, section_at};
+use byteorder::{ByteOrder, LittleEndian};
+use cy_section::{HEAD_SIZE, HEADER_SIZE, SectionKind};
+use std::alloc::Global;
+
+/// The head of a section: its place in the file, its kind, and the size of its body in bytes.
+#[derive(Clone, Copy, Debug, PartialEq, Eq)]
+pub struct PlacedHead {
+    pub at: u64,
+    pub kind: SectionKind,
+    pub size: u64,
+}
+
+// The heads of a file's sections, and where the sections end.
+#[derive(Drop)]
+pub(crate) struct Walk {
+    pub heads: Vec<PlacedHead>,
+    pub end: usize,
+}
+
+// The index, where its head stands: the size that its head has, and what the file has of its body.
+#[derive(Clone, Copy)]
+pub(crate) struct IndexView<'a> {
+    pub at: u64,
+    pub size: u64,
+    pub body: &'a [u8],
+}
+
+// The section that stands whole at a place, none where there is none.
+#[tactic(auto, unfolding(crate::specs::Heads::whole_at))]
+fn whole_at(file: &[u8], at: usize) -> Option<SectionView<'_>>
+    requires { at ≤ length file.now }
+    ensures section { option_map seen_section result ≡ whole_at file.now at }
+    ensures stands { IfSome result (λ s. (s.body_at ≡ at + 16)
+        × Stands file.now s.body_at s.body.now) }
+{
+    match section_at(file, at) {
+        Ok(found) => found,
+        Err(_) => None,
+    }
+}
+
+// The size in the head that stands at a place.
+fn size_at(file: &[u8], at: usize) -> u64
+    requires { at + 16 ≤ length file.now }
+    ensures { result ≡ little_number 8 (drop (at + 8) file.now) }
+{
+    LittleEndian::read_u64(&file[at + 8..])
+}
+
+// The index whose head stands at a place, none where the file ends before its head does.
+#[tactic(auto, unfolding(crate::specs::Heads::index_at))]
+pub(crate) fn index_at(file: &[u8], at: usize) -> Option<IndexView<'_>>
+    requires { at ≤ length file.now }
+    ensures index { option_map seen_index result ≡ index_at file.now at }
+    ensures inside { IfSome result (λ i. (i.at ≡ at) × (at + 16 + length i.body.now
+        ≤ length file.now)) }
+{
+    if file.len() - at < HEAD_SIZE {
+        return None;
+    }
+    let size = size_at(file, at);
+    let start = at + HEAD_SIZE;
+    let held = ((file.len() - start) as u64).min(size) as usize;
+    Some(IndexView {
+        at: at as u64,
+        size,
+        body: &file[start..start + held],
+    })
+}
+
+// The head of a file's header.
+#[tactic(auto, unfolding(crate::specs::Heads::header_head))]
+fn header_head(file: &[u8]) -> PlacedHead
+    requires { 16 ≤ length file.now }
+    ensures { result ≡ header_head file.now }
+{
+    PlacedHead {
+        at: 0,
+        kind: SectionKind::Header,
+        size: LittleEndian::read_u64(&file[8..]),
+    }
+}
+
+// The heads of the header and of the sections behind it.
+fn whole_heads(alloc: Global, file: &[u8]) -> Result<Walk, LoadError>
+    requires { header_end ≤ length file.now }
+    ensures heads { IfOk result (λ w. w.heads.items ≡ whole_heads file.now header_end) }
+    ensures end { IfOk result (λ w. w.end ≡ end_of header_end
+        (sections_from file.now header_end).sections) }
+    ensures inside { IfOk result (λ w. w.end ≤ length file.now) }
+    ensures only_memory { IsOkUnless result LoadError.Memory }
+{
+    let mut heads = Vec::new(alloc);
+    heads.push(header_head(file))?;
+    let mut at = HEADER_SIZE;
+    while let Some(section) = whole_at(file, at) {
+        heads.push(PlacedHead {
+            at: at as u64,
+            kind: section.kind,
+            size: section.body.len() as u64,
+        })?;
+        at = section.body_at + section.body.len();
+    }
+    Ok(Walk { heads, end: at })
+}
+
+// The heads of all sections of a file, that of its index included.
+#[tactic(auto, unfolding(crate::specs::Heads::heads_of, crate::specs::Heads::index_of))]
+pub(crate) fn heads_of(alloc: Global, file: &[u8]) -> Result<Walk, LoadError>
+    requires { header_end ≤ length file.now }
+    ensures heads { IfOk result (λ w. w.heads.items ≡ heads_of file.now header_end) }
+    ensures end { IfOk result (λ w. w.end ≡ end_of header_end
+        (sections_from file.now header_end).sections) }
+    ensures inside { IfOk result (λ w. w.end ≤ length file.now) }
+    ensures only_memory { IsOkUnless result LoadError.Memory }
+{
+    let mut walk = whole_heads(alloc, file)?;
+    if let Some(index) = index_at(file, walk.end) {
+        walk.heads.push(PlacedHead {
+            at: index.at,
+            kind: SectionKind::Index,
+            size: index.size,
+        })?;
+    }
+    Ok(walk)
+}
