@@ -67,14 +67,14 @@ all_read w says wiring old new came wired =
     (comes_ok configured (wire_next w (configured says)) (Asked w old) new new says record { same = refl; counts = record { faults = refl; misses = refl } } (always new.files (λ m. ap (λ q. q >>= λ wired. Accepts (configured says)) wired.accepted)))
 
 -- the store is as it was
-view_same : (old new : StoreView) → new.files ≡ old.files → SameCounts old new → new ≡ old
+pub view_same : (old new : StoreView) → new.files ≡ old.files → SameCounts old new → new ≡ old
 view_same old new same counts = ap (λ (f : Option Files). record { files = f; faults = new.faults; misses = new.misses }) same
     ∙ ap (λ (n : ℕ). record { files = old.files; faults = n; misses = new.misses }) counts.faults ∙ ap (λ (n : ℕ). record { files = old.files; faults = old.faults; misses = n }) counts.misses
 
 starved : (w : CheckWords) (old new : StoreView) (due : Status) (line : List ℕ) → new.files ≡ old.files → IsStarved due line → IsDueFor (Check w) old new due line
 starved w old new due line same s = subst (λ (x : Status). IsDueFor (Check w) old new x line) (sym s.status) (inl same, s.told)
 
-refuses : (c : Command) (old new : StoreView) (limit : Bool) (line : List ℕ) → RefusesFiles c old new (if limit then Limit else Refused) line → IsDueFor c old new (if limit then Limit else Refused) line
+pub refuses : (c : Command) (old new : StoreView) (limit : Bool) (line : List ℕ) → RefusesFiles c old new (if limit then Limit else Refused) line → IsDueFor c old new (if limit then Limit else Refused) line
 refuses c old new true line r = r
 refuses c old new false line r = r
 
@@ -95,7 +95,7 @@ unset w old new (setup.Store file) due line came (inr told) =
     subst (λ (x : Status). IsDueFor (Check w) old new x line) (sym told.0) (inl record { name = file; read = was.0; rose = was.1.rose; same = came.same; told = told.1 })
 unset w old new setup.Memory due line came s = starved w old new due line came.same s
 
-no_writes : (files : Option Files) → files ≡ option_map (after_writes []) files
+pub no_writes : (files : Option Files) → files ≡ option_map (after_writes []) files
 no_writes None = refl
 no_writes (Some m) = refl
 

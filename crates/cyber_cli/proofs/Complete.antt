@@ -11,11 +11,15 @@ use Rattle.cyber_cli.specs.declared.input.Input.{Input}
 use Rattle.cy_store.specs.Reads.{Reads, Accepts, Refuses, Absent}
 use Rattle.cy_replay.specs.declared.error.Refusal.{Refusal}
 use Rattle.cy_replay.specs.Configuration.{Configured}
-use Rattle.cyber_cli.specs.Words.{PassWords, CheckWords}
+use Rattle.cy_reader.specs.declared.error.LoadError.{LoadError}
+use Rattle.cy_reader.specs.Record.{Contents}
+use Rattle.cyber_cli.specs.Words.{PassWords, CheckWords, InfoWords}
+use Rattle.cyber_cli.specs.Info.{told_of}
+use Rattle.cyber_cli.specs.LoadText.{load_status}
 use Rattle.cyber_cli.specs.Check.{checked_in}
 use Rattle.cyber_cli.specs.ConfigText.{fault_status}
 use Rattle.cyber_cli.specs.Input.{IsInput}
-use Rattle.cyber_cli.specs.Command.{Command, Pass, Check, Work}
+use Rattle.cyber_cli.specs.Command.{Command, Pass, Check, Info, Work}
 use Rattle.cyber_cli.specs.Pass.{IsPlayed}
 use Rattle.cyber_cli.specs.Outcome.{IsAccepted, IsTaken, IsRefused, IsAbsent}
 use Rattle.cyber_cli.specs.Due.{Sinks, Answers, IsDueFor, IsMisused, IsTold, IsUntold, CallsFor, IsComplete}
@@ -53,6 +57,7 @@ held_is (Some b) bytes h = ap (λ (x : List ℕ). Some x) h
 taken : (c : Command) (m : Files) (work : Work) → IsAccepted c (Some m) work → IsTaken c m
 taken (Pass p) m work a = (a.bytes, a.input, held_is (get m p.input) a.bytes a.held, a.played)
 taken (Check w) m work a = (a.read, a.accepted)
+taken (Info w) m work a = (a.read, a.accepted)
 
 -- what is due is called for, where no faults rose
 called : (c : Command) (old new : StoreView) (m : Files) (due : Status) (line : List ℕ) → old.files ≡ Some m → (Rose old.faults new.faults → ⊥)
@@ -125,9 +130,25 @@ check_status w m SinkFault h = absurd h
 check_status w m Limit h = h.1.status ∙ ap status_of (sym h.1.refused)
 check_status w m Memory h = absurd h
 
+-- so does what `info` comes to
+abbrev status_told : Reads LoadError Contents → Status
+status_told (Accepts c) = Done
+status_told (Refuses e) = load_status e
+status_told (Absent name) = StoreFault
+
+info_status : (w : InfoWords) (m : Files) (due : Status) → CallsFor (Info w) m due → due ≡ status_told (told_of w m)
+info_status w m Done h = ap status_told (sym h.1)
+info_status w m Refused h = h.1.status ∙ ap status_told (sym h.1.refused)
+info_status w m Usage h = absurd h
+info_status w m StoreFault h = ap status_told (sym h.1)
+info_status w m SinkFault h = absurd h
+info_status w m Limit h = h.1.status ∙ ap status_told (sym h.1.refused)
+info_status w m Memory h = absurd h
+
 one_call : (c : Command) (m : Files) (a b : Status) → CallsFor c m a → CallsFor c m b → a ≡ b
 one_call (Pass p) m a b x y = one_stands p m a b (pass_stands p m a x) (pass_stands p m b y)
 one_call (Check w) m a b x y = check_status w m a x ∙ sym (check_status w m b y)
+one_call (Info w) m a b x y = info_status w m a x ∙ sym (info_status w m b y)
 
 pub complete : (words : List (List ℕ)) (old_store new_store : StoreView) (old new : Sinks) (answer : Status) → Answers words old_store new_store old new answer
     → IsComplete words old_store new_store old new answer

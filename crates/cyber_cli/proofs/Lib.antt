@@ -17,6 +17,7 @@ pub mod PassExits
 pub mod Playing
 pub mod Making
 pub mod CheckExits
+pub mod InfoExits
 pub mod Complete
 pub mod Asked
 pub mod PassedMessages

@@ -20,3 +20,6 @@ pub mod Status
 pub mod ConfigText
 pub mod Check
 pub mod CheckEnds
+pub mod LoadText
+pub mod Info
+pub mod InfoEnds

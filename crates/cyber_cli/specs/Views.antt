@@ -3,6 +3,7 @@ use Rattle.std.specs.Prelude.{ℕ, ◌≡◌, ⊤, true, List, option_map, Resul
 use Rattle.cy_store.specs.Store.{StoreView}
 use Rattle.cyber_cli.specs.declared.words.Pass.{Pass}
 use Rattle.cyber_cli.specs.declared.words.Check.{Check}
+use Rattle.cyber_cli.specs.declared.words.Info.{Info}
 use Rattle.cyber_cli.specs.declared.words.Given as given
 use Rattle.cyber_cli.specs.declared.words.Command as code
 use Rattle.cyber_cli.specs.declared.words.Command.TheVariants as asked
@@ -12,7 +13,7 @@ use Rattle.cyber_cli.specs.declared.failure.Failure.{Failure}
 use Rattle.cyber_cli.specs.declared.failure.Failure.TheVariants as failure
 use Rattle.cyber_cli.specs.declared.status.Status.{Status}
 use Rattle.cyber_cli.specs.declared.status.Status.TheVariants.{Done, Refused, StoreFault, Memory}
-use Rattle.cyber_cli.specs.Words.{PassWords, CheckWords, Given, is_pass}
+use Rattle.cyber_cli.specs.Words.{PassWords, CheckWords, InfoWords, Given, is_pass}
 use Rattle.cyber_cli.specs.Command as command
 use Rattle.cyber_cli.specs.Lines.{store_line, not_built_line, memory_line}
 use Rattle.cyber_cli.specs.Due.{IsDueFor}
@@ -33,14 +34,19 @@ given_of g = record { name = g.name.now; value = g.value.now; rest = g.rest.now 
 abbrev pub check_words_of : Check → CheckWords
 check_words_of w = record { dag = w.dag.now; sched = option_map (λ name. name.now) w.sched }
 
+abbrev pub info_words_of : Info → InfoWords
+info_words_of w = record { file = w.file.now }
+
 -- The command that is asked for, and that its words are of its form.
 abbrev pub command_asked : code.Command → command.Command
 command_asked (asked.Pass p) = command.Pass (words_of p)
 command_asked (asked.Check w) = command.Check (check_words_of w)
+command_asked (asked.Info w) = command.Info (info_words_of w)
 
 abbrev pub IsInForm : code.Command → Type 0
 IsInForm (asked.Pass p) = is_pass (words_of p) ≡ true
 IsInForm (asked.Check w) = ⊤
+IsInForm (asked.Info w) = ⊤
 
 abbrev pub name_of_file : PassWords → File → List ℕ
 name_of_file p file.Input = p.input

@@ -96,3 +96,12 @@ check_options (Some a) = if length a.rest == 0 then one_option a else last_optio
 -- What the words behind `check` ask for, where they are of its form.
 abbrev pub check_of : List (List ℕ) → Option CheckWords
 check_of words = check_options (first_option words)
+
+-- The words of `info`: the record that is told of.
+pub record InfoWords : Type 0 where
+  pub file : List ℕ
+
+-- What the words behind `info` ask for, where they are of its form.
+abbrev pub info_of : List (List ℕ) → Option InfoWords
+info_of (file ∷ []) = if is_word file then Some record { file = file } else None
+info_of words = None

@@ -16,8 +16,8 @@ use std::alloc::{AllocError, Global};
 use std::io;
 use std::io::Write;
 
-// A limit that was passed, at the end of others.
-fn push_limit(to: &mut Vec<u8>, what: &str, count: u64) -> io::Result<()>
+/// A limit that was passed, at the end of others.
+pub fn push_limit(to: &mut Vec<u8>, what: &str, count: u64) -> io::Result<()>
     ensures { OnOk result (to.new.items ≡ to.old.items ++ limit_text what.now count) }
 {
     write!(to, "limit {what} passed: {count}")

@@ -16,6 +16,7 @@ mod fault_text;
 mod input;
 mod line;
 mod list;
+mod load_text;
 mod make;
 mod one;
 mod play;

@@ -4,7 +4,7 @@ ghost use Rattle.cyber_cli.specs.Line.{bytes_of_line};
 ghost use Rattle.cyber_cli.specs.Due.{IsDue, IsTold, GetsFront, Answers, IsComplete};
 ghost use Rattle.cy_store.specs.Store.{SinkView};
 
-use crate::commands::{run_check, run_pass};
+use crate::commands::{run_check, run_info, run_pass};
 use crate::due::Due;
 use crate::fault_text::{OUTPUT_LINE, USAGE_LINE};
 use crate::line::{Line, write_line};
@@ -22,6 +22,7 @@ fn due_of<'a, S: Store>(alloc: Global, words: &'a [Text], store: &mut S) -> Due<
     match command_of(words) {
         Some(Command::Pass(pass)) => run_pass(alloc, &pass, store),
         Some(Command::Check(check)) => run_check(alloc, &check, store),
+        Some(Command::Info(info)) => run_info(alloc, &info, store),
         None => Due {
             status: Status::Usage,
             line: Line::Fixed(USAGE_LINE),
@@ -87,7 +88,8 @@ fn tell<O: Sink, E: Sink>(due: &Due, out: &mut O, err: &mut E) -> Status
 ///
 /// `pass RECORD OUT TRACE FROM TO` plays a record through one component that passes each message of
 /// the channel FROM on to the channel TO, and writes a record of all messages and a trace of all
-/// calls.
+/// calls. `check --dag F [--sched F]` prints what configuration files say, and `info FILE` what a
+/// record is.
 ///
 /// The text or the line that tells what was done goes to `out`, and one that tells of a refusal or a
 /// fault goes to `err`. The answer is one of the seven statuses; its contract says which is due,

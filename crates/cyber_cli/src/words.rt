@@ -1,9 +1,10 @@
 // The words that the program takes, command by command.
 ghost use Rattle.std.specs.Prelude.{◌≡◌, true, Some, None, IfSome, MatchOption, option_map};
 ghost use Rattle.cyber_cli.specs.Words.{is_word, is_pass, pass_of, check_of, is_option};
-ghost use Rattle.cyber_cli.specs.Words.{first_option, pair_at, two_options};
+ghost use Rattle.cyber_cli.specs.Words.{first_option, pair_at, two_options, info_of};
 ghost use Rattle.cyber_cli.specs.Command.{command_of};
 ghost use Rattle.cyber_cli.specs.Views.{words_of, check_words_of, given_of, command_asked, IsInForm};
+ghost use Rattle.cyber_cli.specs.Views.{info_words_of};
 
 use cy_msg::Text;
 
@@ -34,6 +35,13 @@ pub struct Check<'a> {
     pub sched: Option<&'a str>,
 }
 
+/// The words of `info`.
+#[derive(Clone, Copy)]
+pub struct Info<'a> {
+    /// The record.
+    pub file: &'a str,
+}
+
 /// What the words ask for.
 #[derive(Clone, Copy)]
 pub enum Command<'a> {
@@ -41,6 +49,8 @@ pub enum Command<'a> {
     Pass(Pass<'a>),
     /// To print what configuration files say.
     Check(Check<'a>),
+    /// To print what a record is.
+    Info(Info<'a>),
 }
 
 // An option: its name, its value, and the words behind it.
@@ -175,6 +185,21 @@ fn check_words<'a>(words: &'a [Text]) -> Option<Check<'a>>
     two_options(&first, &second)
 }
 
+// What the words behind `info` ask for.
+fn info_words<'a>(words: &'a [Text]) -> Option<Info<'a>>
+    ensures { option_map info_words_of result ≡ info_of words.now }
+{
+    let [file] = words else {
+        return None;
+    };
+    let file = file.as_str();
+    if names_something(file) {
+        Some(Info { file })
+    } else {
+        None
+    }
+}
+
 /// What the words ask for; None where they are of no known form.
 pub fn command_of<'a>(words: &'a [Text]) -> Option<Command<'a>>
     ensures asked { MatchOption result (command_of words.now ≡ None) (λ c. command_of words.now
@@ -187,6 +212,7 @@ pub fn command_of<'a>(words: &'a [Text]) -> Option<Command<'a>>
     match name.as_str() {
         "pass" => Some(Command::Pass(pass_words(words)?)),
         "check" => Some(Command::Check(check_words(words)?)),
+        "info" => Some(Command::Info(info_words(words)?)),
         _ => None,
     }
 }

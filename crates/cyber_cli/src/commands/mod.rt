@@ -1,7 +1,9 @@
 // The commands, one a file: each reads files, makes something of them, writes it, and says what is
 // due.
 mod check;
+mod info;
 mod pass;
 
 pub use check::run_check;
+pub use info::run_info;
 pub use pass::run_pass;
