@@ -281,6 +281,35 @@ refuses_a_dag() { # what is wrong, the line behind the file's name, the class, t
   ends 1 '' "cyber: $2"
 }
 
+tells_of_the_drive() {
+  begin 'tells what the record of a drive is'
+  (cd "$top" && exec "$program" info examples/drive/drive.rec) >out 2>err
+  status=$?
+  prints "$(sed -n '/^    file examples.drive.drive.rec/,/^    channel "\/camera/s/^    //p' "$top/examples/README.md")"
+}
+
+tells_what_was_written() {
+  begin 'tells what a written record is'
+  given one.rec
+  run pass in.rec out.rec trace /in /out
+  run info out.rec
+  prints 'file out.rec bytes 2271
+version 1.0 complete yes compress 0
+channels 2 chunks 1 messages 2
+time 100 to 100
+index present entries 4
+channel "/in" messages 1 type ""
+channel "/out" messages 1 type ""'
+}
+
+tells_no_record() { # what is wrong, the status, the line behind the record's name, and a command that does it
+  begin "tells nothing of $1"
+  given two.rec
+  (cd files && eval "$4")
+  run info in.rec
+  ends "$2" '' "cyber: in.rec: $3"
+}
+
 plays_a_record one.rec 2271 8
 plays_a_record two.rec 2300 11
 plays_a_record thousand.rec 38583 3005
@@ -298,7 +327,10 @@ refuses_the_words pass a b c /x /x
 refuses_the_words pass a b c '' /y
 refuses_the_words pass a b c -x /y
 refuses_the_words Pass a b c /x /y
+refuses_the_words info
+refuses_the_words info a b
 refuses_the_words info --x
+refuses_the_words info ''
 refuses_the_words play --serial
 refuses_the_words pass a b c /x $'\xff'
 refuses_the_words pass $'a\xc3' b c /x /y
@@ -338,6 +370,17 @@ refuses_files 'a file that is too long' 5 'cyber: s.sched: limit ConfigTooLarge 
 refuses_files 'a DAG that is not there' 3 'cyber: d.dag: the store failed' 'rm d.dag'
 refuses_files 'a component file that is not there' 3 'cyber: p.conf: the store failed' 'rm p.conf'
 refuses_files 'a scheduler file that is not there' 3 'cyber: s.sched: the store failed' ''
+
+tells_of_the_drive
+tells_what_was_written
+tells_no_record 'an empty file' 1 'not a record' ': >in.rec'
+tells_no_record 'a text' 1 'not a record' 'echo no record >in.rec'
+tells_no_record 'a record that is cut off' 1 'at 2113: Cut' 'truncate -s 2150 in.rec'
+tells_no_record 'a section that is too long' 5 'at 2064: TooLong 536870913' \
+  "truncate -s 2064 in.rec && printf '\\2\\0\\0\\0\\0\\0\\0\\0\\1\\0\\0\\40\\0\\0\\0\\0' >>in.rec"
+tells_no_record 'a file that is too long' 5 'limit FileTooLarge passed: 2147483649' 'truncate -s 2147483649 in.rec'
+tells_no_record 'a record that is not there' 3 'the store failed' 'rm in.rec'
+tells_no_record 'a folder' 3 'the store failed' 'rm in.rec && mkdir in.rec'
 
 refuses_a_record 'an empty file' ': >in.rec'
 refuses_a_record 'a text' 'echo no record >in.rec'

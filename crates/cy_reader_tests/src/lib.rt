@@ -3,4 +3,6 @@
 #![tactic(auto)]
 
 #[cfg(test)]
+mod info;
+#[cfg(test)]
 mod loading;

@@ -14,8 +14,7 @@ use Rattle.cy_replay.specs.Configuration.{Configured}
 use Rattle.cy_reader.specs.declared.error.LoadError.{LoadError}
 use Rattle.cy_reader.specs.Record.{Contents}
 use Rattle.cyber_cli.specs.Words.{PassWords, CheckWords, InfoWords}
-use Rattle.cyber_cli.specs.Info.{told_of}
-use Rattle.cyber_cli.specs.LoadText.{load_status}
+use Rattle.cyber_cli.specs.Info.{told_of, load_status}
 use Rattle.cyber_cli.specs.Check.{checked_in}
 use Rattle.cyber_cli.specs.ConfigText.{fault_status}
 use Rattle.cyber_cli.specs.Input.{IsInput}

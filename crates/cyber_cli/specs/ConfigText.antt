@@ -14,12 +14,9 @@ use Rattle.cy_sched.specs.declared.error.SchedError.{SchedError}
 use Rattle.cy_sched.specs.declared.error.SchedError.TheVariants as sched
 use Rattle.cy_replay.specs.declared.error.Fault.{Fault}
 use Rattle.cy_replay.specs.declared.error.Fault.TheVariants as fault
+use Rattle.cyber_cli.specs.LoadText.{limit_text}
 use Rattle.cyber_cli.specs.declared.status.Status.{Status}
 use Rattle.cyber_cli.specs.declared.status.Status.TheVariants as status
-
--- A limit that was passed, by the name of its refusal and the number that passed it.
-abbrev pub limit_text : List ℕ → ℕ → List ℕ
-limit_text what count = codes "limit " ++ what ++ codes " passed: " ++ decimal count
 
 -- A name, and numbers behind it.
 abbrev pub numbers_text : List ℕ → List ℕ → List ℕ

@@ -1,15 +1,16 @@
 -- What `info` tells of a record, and which it refuses.
-use Rattle.std.specs.Prelude.{ℕ, ◌≡◌, List, [], Option, IfSome}
+use Rattle.std.specs.Prelude.{ℕ, ◌≡◌, if◌then◌else◌, List, [], Option, IfSome}
 use Rattle.cy_store.specs.Files.{Files}
 use Rattle.cy_store.specs.Reads.{Reads, Accepts, Refuses, file_in}
 use Rattle.cy_reader.specs.declared.error.LoadError.{LoadError}
 use Rattle.cy_reader.specs.Record.{Contents, record_of}
 use Rattle.cy_reader.specs.Info.{info_text}
 use Rattle.cyber_cli.specs.declared.status.Status.{Status}
+use Rattle.cyber_cli.specs.declared.status.Status.TheVariants.{Refused, Limit}
 use Rattle.cyber_cli.specs.Words.{InfoWords}
 use Rattle.cyber_cli.specs.Command.{Work}
 use Rattle.cyber_cli.specs.Lines.{file_line}
-use Rattle.cyber_cli.specs.LoadText.{load_text, load_status}
+use Rattle.cyber_cli.specs.LoadText.{load_text, is_load_limit}
 
 -- The record is read.
 abbrev pub told_of : InfoWords → Files → Reads LoadError Contents
@@ -21,6 +22,10 @@ pub record IsInfoWork (w : InfoWords) (files : Option Files) (work : Work) : Typ
   pub accepted : IfSome files (λ m. told_of w m ≡ Accepts read)
   pub silent : work.writes ≡ []
   pub text : work.text ≡ info_text read
+
+-- The status of a record that isn't read.
+abbrev pub load_status : LoadError → Status
+load_status e = if is_load_limit e then Limit else Refused
 
 -- The record is refused, with the status and the line of its first fault or passed limit.
 pub record IsInfoRefusal (w : InfoWords) (files : Option Files) (due : Status) (line : List ℕ) :

@@ -5,7 +5,8 @@ use Rattle.cy_reader.specs.declared.error.LoadError.TheVariants as load
 use Rattle.cyber_cli.specs.declared.status.Status.{Status}
 use Rattle.cyber_cli.specs.declared.status.Status.TheVariants.{StoreFault}
 use Rattle.cyber_cli.specs.Lines.{file_line, store_line}
-use Rattle.cyber_cli.specs.LoadText.{load_text, load_status}
+use Rattle.cyber_cli.specs.LoadText.{load_text}
+use Rattle.cyber_cli.specs.Info.{load_status}
 use Rattle.cyber_cli.specs.CheckEnds.{IsStarved}
 
 -- The store failed at the file, or its first fault or passed limit is told.

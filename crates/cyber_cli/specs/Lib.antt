@@ -1,6 +1,7 @@
 pub mod Words
 pub mod Command
 pub mod Lines
+pub mod LoadText
 pub mod Input
 pub mod Tape
 pub mod Writes
@@ -20,6 +21,5 @@ pub mod Status
 pub mod ConfigText
 pub mod Check
 pub mod CheckEnds
-pub mod LoadText
 pub mod Info
 pub mod InfoEnds

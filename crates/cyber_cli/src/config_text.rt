@@ -2,7 +2,8 @@
 ghost use Rattle.std.specs.Prelude.{◌≡◌, ◌++◌, IfOk, OnOk, codes};
 ghost use Rattle.cy_msg.specs.Quoted.{quoted};
 ghost use Rattle.cyber_cli.specs.Lines.{file_line, store_line as line_of_store};
-ghost use Rattle.cyber_cli.specs.ConfigText.{limit_text, numbers_text, named_text, kind_text};
+ghost use Rattle.cyber_cli.specs.ConfigText.{numbers_text, named_text, kind_text};
+ghost use Rattle.cyber_cli.specs.LoadText.{limit_text};
 ghost use Rattle.cyber_cli.specs.ConfigText.{text_text};
 ghost use Rattle.cyber_cli.specs.ConfigText.{dag_text, sched_text, fault_text, fault_status, is_limit};
 

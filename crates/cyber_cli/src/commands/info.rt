@@ -1,19 +1,59 @@
 // The command `info`.
-ghost use Rattle.std.specs.Prelude.{◌≡◌};
+ghost use Rattle.std.specs.Prelude.{◌≡◌, ◌++◌, IfOk, OnOk};
 ghost use Rattle.cyber_cli.specs.Command as command;
 ghost use Rattle.cyber_cli.specs.Due.{IsDueFor};
 ghost use Rattle.cyber_cli.specs.Line.{bytes_of_line};
+ghost use Rattle.cyber_cli.specs.Lines.{file_line};
+ghost use Rattle.cyber_cli.specs.LoadText.{load_text};
+ghost use Rattle.cyber_cli.specs.Info.{load_status};
 ghost use Rattle.cyber_cli.specs.InfoEnds.{IsDueUnread};
 ghost use Rattle.cyber_cli.specs.Views.{info_words_of};
 
 use crate::due::{Due, out_of_memory, store_failed};
 use crate::line::Line;
-use crate::load_text::{load_line, load_status};
+use crate::load_text::{is_load_limit, push_load};
 use crate::status::Status;
 use crate::words::Info;
+use cy_msg::Bytes;
 use cy_reader::{LoadError, load};
 use cy_store::Store;
-use std::alloc::Global;
+use std::alloc::{AllocError, Global};
+use std::io;
+use std::io::Write;
+
+// The line that tells why a record is not read, at the end of others.
+fn push_line(to: &mut Vec<u8>, file: &str, error: &LoadError) -> io::Result<()>
+    ensures { OnOk result (to.new.items
+        ≡ to.old.items ++ file_line file.now (load_text error.now)) }
+{
+    write!(to, "cyber: {file}: ")?;
+    push_load(to, error)?;
+    to.write_all(b"\n")?;
+    Ok(())
+}
+
+// The same line alone.
+fn load_line(alloc: Global, file: &str, error: &LoadError) -> Result<Bytes, AllocError>
+    ensures { IfOk result (λ line. line ≡ file_line file.now (load_text error.now)) }
+{
+    let mut line = Vec::new(alloc);
+    match push_line(&mut line, file, error) {
+        Ok(()) => Ok(Bytes::from_vec(line)),
+        // A write to a `Vec` fails for want of memory alone.
+        Err(_) => Err(AllocError),
+    }
+}
+
+// The status of a record that is not read.
+fn load_status(error: &LoadError) -> Status
+    ensures { result ≡ load_status error.now }
+{
+    if is_load_limit(error) {
+        Status::Limit
+    } else {
+        Status::Refused
+    }
+}
 
 // What is due where the record is not read.
 fn due_unread(alloc: Global, file: &str, error: LoadError) -> Due<'_>
