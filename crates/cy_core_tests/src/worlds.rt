@@ -56,19 +56,29 @@ fn traced(
     Ok(str::from_utf8(text.as_slice())?.to_string(rt.alloc())?)
 }
 
+// A run: channels, components, and messages; and the text of its trace.
+#[derive(Drop)]
+struct Run<'a> {
+    channels: &'a [&'a str],
+    rows: &'a [(Kind, &'a [u32])],
+    messages: &'a [Message],
+    trace: &'a str,
+}
+
 #[test]
-fn joins_the_latest_message_of_each_other_channel(rt: HostRuntime) -> Result<(), Fail> {
-    let messages = [
-        (1, 1, Some(10)),
-        (0, 2, Some(1)),
-        (1, 3, Some(20)),
-        (0, 4, Some(2)),
-    ];
-    let rows = [(Kind::Sum, &[0u32, 1] as &[u32])];
-    let text = traced(&rt, &["/a", "/b", "/o"], &rows, &messages, false)?;
-    assert_eq!(rt;
-        text.as_str(),
-        r#"cyber-trace 1
+fn plays_worked_examples(rt: HostRuntime) -> Result<(), Fail> {
+    for run in [
+        // Joins the latest message of each other channel.
+        Run {
+            channels: &["/a", "/b", "/o"],
+            rows: &[(Kind::Sum, &[0, 1])],
+            messages: &[
+                (1, 1, Some(10)),
+                (0, 2, Some(1)),
+                (1, 3, Some(20)),
+                (0, 4, Some(2)),
+            ],
+            trace: r#"cyber-trace 1
 played 4 shadowed 0
 component "a"
 roles 1010
@@ -81,38 +91,28 @@ tape "/o" 1
 tape "/b" 2
 tape "/a" 2
 tape "/o" 2
-"#
-    );
-    Ok(())
-}
-
-#[test]
-fn waits_for_a_message_of_each_channel(rt: HostRuntime) -> Result<(), Fail> {
-    let rows = [(Kind::Sum, &[0u32, 1] as &[u32])];
-    let messages = [(0, 1, Some(1)), (0, 2, Some(2))];
-    let text = traced(&rt, &["/a", "/b", "/o"], &rows, &messages, false)?;
-    assert_eq!(rt;
-        text.as_str(),
-        r#"cyber-trace 1
+"#,
+        },
+        // Waits for a message of each channel.
+        Run {
+            channels: &["/a", "/b", "/o"],
+            rows: &[(Kind::Sum, &[0, 1])],
+            messages: &[(0, 1, Some(1)), (0, 2, Some(2))],
+            trace: r#"cyber-trace 1
 played 2 shadowed 0
 component "a"
 roles 00
 end DATA_WAIT next 0
 tape "/a" 1
 tape "/a" 2
-"#
-    );
-    Ok(())
-}
-
-#[test]
-fn sums_what_fits_and_calls_without_a_value(rt: HostRuntime) -> Result<(), Fail> {
-    let rows = [(Kind::Sum, &[0u32, 1] as &[u32])];
-    let messages = [(1, 1, Some(1)), (0, 2, Some(i64::MAX)), (0, 3, None)];
-    let text = traced(&rt, &["/a", "/b", "/o"], &rows, &messages, false)?;
-    assert_eq!(rt;
-        text.as_str(),
-        r#"cyber-trace 1
+"#,
+        },
+        // Sums what fits, and puts nothing out where a value is missing.
+        Run {
+            channels: &["/a", "/b", "/o"],
+            rows: &[(Kind::Sum, &[0, 1])],
+            messages: &[(1, 1, Some(1)), (0, 2, Some(i64::MAX)), (0, 3, None)],
+            trace: r#"cyber-trace 1
 played 3 shadowed 0
 component "a"
 roles 100
@@ -123,26 +123,21 @@ tape "/b" 1
 tape "/a" 1
 tape "/o" 1
 tape "/a" 2
-"#
-    );
-    Ok(())
-}
-
-#[test]
-fn skips_a_burst_while_an_output_is_held(rt: HostRuntime) -> Result<(), Fail> {
-    let rows = [(Kind::Hold { delay: 100 }, &[0u32] as &[u32])];
-    let messages = [
-        (0, 10, Some(0)),
-        (0, 11, Some(1)),
-        (0, 12, Some(2)),
-        (0, 13, Some(3)),
-        (0, 14, Some(4)),
-        (0, 15, Some(5)),
-    ];
-    let text = traced(&rt, &["/a", "/o"], &rows, &messages, false)?;
-    assert_eq!(rt;
-        text.as_str(),
-        r#"cyber-trace 1
+"#,
+        },
+        // Skips a burst while an output is held back.
+        Run {
+            channels: &["/a", "/o"],
+            rows: &[(Kind::Hold { delay: 100 }, &[0])],
+            messages: &[
+                (0, 10, Some(0)),
+                (0, 11, Some(1)),
+                (0, 12, Some(2)),
+                (0, 13, Some(3)),
+                (0, 14, Some(4)),
+                (0, 15, Some(5)),
+            ],
+            trace: r#"cyber-trace 1
 played 6 shadowed 0
 component "a"
 roles 000000
@@ -157,25 +152,20 @@ tape "/a" 5
 tape "/a" 6
 tape "/o" 1
 tape "/o" 2
-"#
-    );
-    Ok(())
-}
-
-#[test]
-fn finishes_after_two_of_five(rt: HostRuntime) -> Result<(), Fail> {
-    let rows = [(Kind::Take { n: 2 }, &[0u32] as &[u32])];
-    let messages = [
-        (0, 1, Some(9)),
-        (0, 2, Some(9)),
-        (0, 3, Some(9)),
-        (0, 4, Some(9)),
-        (0, 5, Some(9)),
-    ];
-    let text = traced(&rt, &["/a", "/o"], &rows, &messages, false)?;
-    assert_eq!(rt;
-        text.as_str(),
-        r#"cyber-trace 1
+"#,
+        },
+        // Finishes after two of five.
+        Run {
+            channels: &["/a", "/o"],
+            rows: &[(Kind::Take { n: 2 }, &[0])],
+            messages: &[
+                (0, 1, Some(9)),
+                (0, 2, Some(9)),
+                (0, 3, Some(9)),
+                (0, 4, Some(9)),
+                (0, 5, Some(9)),
+            ],
+            trace: r#"cyber-trace 1
 played 5 shadowed 0
 component "a"
 roles 00000
@@ -189,19 +179,14 @@ tape "/o" 2
 tape "/a" 3
 tape "/a" 4
 tape "/a" 5
-"#
-    );
-    Ok(())
-}
-
-#[test]
-fn calls_a_component_on_what_another_one_puts_out(rt: HostRuntime) -> Result<(), Fail> {
-    let rows = [(Kind::Pass, &[0u32] as &[u32]), (Kind::Pass, &[1])];
-    let messages = [(0, 1, Some(4))];
-    let text = traced(&rt, &["/a", "/o", "/z"], &rows, &messages, false)?;
-    assert_eq!(rt;
-        text.as_str(),
-        r#"cyber-trace 1
+"#,
+        },
+        // Calls a component on what another one puts out.
+        Run {
+            channels: &["/a", "/o", "/z"],
+            rows: &[(Kind::Pass, &[0]), (Kind::Pass, &[1])],
+            messages: &[(0, 1, Some(4))],
+            trace: r#"cyber-trace 1
 played 1 shadowed 0
 component "a"
 roles 0
@@ -214,24 +199,19 @@ end DATA_WAIT next 2
 tape "/a" 1
 tape "/o" 1
 tape "/z" 1
-"#
-    );
-    Ok(())
-}
-
-#[test]
-fn selects_by_the_value_that_triggers(rt: HostRuntime) -> Result<(), Fail> {
-    let rows = [(Kind::Select, &[0u32, 1, 2] as &[u32])];
-    let messages = [
-        (1, 1, Some(8)),
-        (2, 2, Some(9)),
-        (0, 3, Some(0)),
-        (0, 4, Some(5)),
-    ];
-    let text = traced(&rt, &["/s", "/p", "/q", "/o"], &rows, &messages, false)?;
-    assert_eq!(rt;
-        text.as_str(),
-        r#"cyber-trace 1
+"#,
+        },
+        // Selects by the value that triggers.
+        Run {
+            channels: &["/s", "/p", "/q", "/o"],
+            rows: &[(Kind::Select, &[0, 1, 2])],
+            messages: &[
+                (1, 1, Some(8)),
+                (2, 2, Some(9)),
+                (0, 3, Some(0)),
+                (0, 4, Some(5)),
+            ],
+            trace: r#"cyber-trace 1
 played 4 shadowed 0
 component "a"
 roles 1200
@@ -244,8 +224,12 @@ tape "/s" 1
 tape "/o" 1
 tape "/s" 2
 tape "/o" 2
-"#
-    );
+"#,
+        },
+    ] {
+        let text = traced(&rt, run.channels, run.rows, run.messages, false)?;
+        assert_eq!(rt; text.as_str(), run.trace);
+    }
     Ok(())
 }
 
