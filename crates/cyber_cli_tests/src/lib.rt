@@ -7,6 +7,8 @@ mod checks;
 #[cfg(test)]
 mod faults;
 #[cfg(test)]
+mod info;
+#[cfg(test)]
 mod pass;
 #[cfg(test)]
 mod ran;
