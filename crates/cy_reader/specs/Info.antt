@@ -1,6 +1,7 @@
 -- The text that tells what a record is.
 use Rattle.std.specs.Prelude.{ℕ, ◌+◌, ◌==◌, ◌&&◌, nat_lt, min, max, Bool, if◌then◌else◌, List, []}
-use Rattle.std.specs.Prelude.{◌∷◌, ◌++◌, length, map, filter, codes, true, Option, Some, None, Result, Ok}
+use Rattle.std.specs.Prelude.{◌∷◌, ◌++◌, length, map, filter, codes, true}
+use Rattle.std.specs.Prelude.{Option, Some, None, Result, Ok}
 use Rattle.std.specs.Prelude.{Err}
 use Rattle.std.specs.List.{list_any}
 use Rattle.std.specs.Fmt.{decimal}

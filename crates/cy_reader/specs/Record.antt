@@ -223,8 +223,8 @@ parts_of file = do
   met ← sections_met all.sections all.fault nothing
   Ok (header, met)
 
--- The file of a record: its name, its length in bytes, its header, the head of each section that was
--- read, and its index, if it has one.
+-- The file of a record: its name, its length in bytes, its header, the head of each section that
+-- was read, and its index, if it has one.
 pub record Source : Type 0 where
   pub name : List ℕ
   pub size : ℕ

@@ -1,5 +1,6 @@
 // A record that was read.
-ghost use Rattle.std.specs.Prelude.{◌≡◌, ◌<◌, ◌+◌, ◌++◌, length, take, drop, slice_get, IfSome, Some, OnOk};
+ghost use Rattle.std.specs.Prelude.{◌≡◌, ◌<◌, ◌+◌, ◌++◌, length, take, drop, slice_get};
+ghost use Rattle.std.specs.Prelude.{IfSome, Some, OnOk};
 ghost use Rattle.std.specs.Prelude.{◌≢◌, IfOk, IfErr, IsOkUnless};
 ghost use Rattle.cy_msg.specs.Answer.{AnswersOr};
 ghost use Rattle.cy_reader.specs.Record.{record_of};
@@ -39,7 +40,8 @@ impl Model for Record {
 
     ghost Value = { Contents };
 
-    ghost view = { λ r. shown (kept_source r.name r.file r.header r.walk) (met_of r.file r.loading) };
+    ghost view = { λ r. shown (kept_source r.name r.file r.header r.walk)
+        (met_of r.file r.loading) };
 
     ghost invariant = { λ r. IsKept r.file r.walk r.loading };
 }
@@ -182,10 +184,10 @@ impl Record {
         info::push_index_differences(to, &facts.index, &facts.places)
     }
 
-    /// What the record is, in lines: its file, its header, the counted channels, chunks and messages,
-    /// the least and greatest time, its index, each channel with its number of messages, and then
-    /// each field of a complete header and each entry of a readable index that differs from what was
-    /// counted. The name of the file stands as it was given. Its only error is `Memory`.
+    /// What the record is, in lines: its file, its header, the counted channels, chunks and
+    /// messages, the least and greatest time, its index, each channel with its number of messages,
+    /// and then each field of a complete header and each entry of a readable index that differs from
+    /// what was counted. The file's name stands as it was given. Its only error is `Memory`.
     pub fn info(&self, alloc: Global) -> Result<Bytes, LoadError>
         ensures text { IfOk result (λ text. text ≡ info_text self.now) }
         ensures only_memory { IsOkUnless result LoadError.Memory }

@@ -74,8 +74,8 @@ fn due_unread(alloc: Global, file: &str, error: LoadError) -> Due<'_>
     }
 }
 
-/// What is due for `info` of a record: the text that tells what it is, or why it is not read. Nothing
-/// is written to the store.
+/// What is due for `info` of a record: the text that tells what it is, or why it is not read.
+/// Nothing is written to the store.
 pub fn run_info<'a, S: Store>(alloc: Global, info: &Info<'a>, store: &mut S) -> Due<'a>
     ensures { IsDueFor (command.Info (info_words_of info.now)) (S.shows store.old)
         (S.shows store.new) result.status (bytes_of_line result.line) }
