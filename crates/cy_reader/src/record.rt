@@ -186,8 +186,8 @@ impl Record {
 
     /// What the record is, in lines: its file, its header, the counted channels, chunks and
     /// messages, the least and greatest time, its index, each channel with its number of messages,
-    /// and then each field of a complete header and each entry of a readable index that differs from
-    /// what was counted. The file's name stands as it was given. Its only error is `Memory`.
+    /// and then each field of a complete header and each entry of a readable index that differs
+    /// from what was counted. The file's name stands as it was given. Its only error is `Memory`.
     pub fn info(&self, alloc: Global) -> Result<Bytes, LoadError>
         ensures text { IfOk result (λ text. text ≡ info_text self.now) }
         ensures only_memory { IsOkUnless result LoadError.Memory }

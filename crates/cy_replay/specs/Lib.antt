@@ -1,9 +1,11 @@
 pub mod Comes
 pub mod Configuration
 pub mod Faults
+pub mod Listing
 pub mod RecordLaws
 pub mod RecordSteps
 pub mod RecordWrites
 pub mod Recording
+pub mod Setup
 pub mod Steps
 pub mod Wiring

@@ -5,6 +5,8 @@ use Rattle.cy_text.specs.Fields.{Fields}
 use Rattle.cy_dag.specs.declared.dag.Dag.{Dag}
 use Rattle.cy_dag.specs.declared.error.DagError.{DagError}
 use Rattle.cy_dag.specs.declared.error.DagError.TheVariants as dag_error
+use Rattle.cy_reader.specs.declared.error.LoadError.{LoadError}
+use Rattle.cy_reader.specs.declared.error.LoadError.TheVariants as load_error
 use Rattle.cy_sched.specs.declared.error.SchedError.{SchedError}
 use Rattle.cy_sched.specs.declared.error.SchedError.TheVariants as sched_error
 use Rattle.cy_replay.specs.declared.error.Fault.{Fault}
@@ -43,3 +45,10 @@ dag_fault e = Some (fault.Dag e)
 abbrev pub sched_fault : SchedError → Option Fault
 sched_fault sched_error.Memory = None
 sched_fault e = Some (fault.Sched e)
+
+-- A fault of a record is answered, or want of memory: the store's failure at it, or its refusal.
+abbrev pub IsRecordFault : List ℕ → LoadError → SetupError → Type 0
+IsRecordFault file load_error.Memory e = e ≡ Memory
+IsRecordFault file load_error.Store e = (e ≡ Memory) ⊎ (e ≡ Store file)
+IsRecordFault file other e =
+    (e ≡ Memory) ⊎ (e ≡ Refused record { file = file; fault = fault.Record other })

@@ -1,14 +1,14 @@
 -- What wiring the components of a configuration comes to.
-use Rattle.std.specs.Prelude.{ℕ, ◌≡◌, List, Result, IfOk, IsErrOf}
+use Rattle.std.specs.Prelude.{ℕ, List, Result}
 use Rattle.std.specs.List.{zip}
-use Rattle.cy_store.specs.Reads.{Reads, Accepts, Refuses}
+use Rattle.cy_store.specs.Reads.{Reads}
 use Rattle.cy_comp.specs.declared.plan.Plan.{Plan}
 use Rattle.cy_comp.specs.declared.wiring.Wiring.{Wiring}
 use Rattle.cy_dag.specs.Wiring.{wire_refusal, names_of, plans_of}
 use Rattle.cy_replay.specs.declared.error.Fault.TheVariants as fault
 use Rattle.cy_replay.specs.declared.error.Refusal.{Refusal}
 use Rattle.cy_replay.specs.declared.error.SetupError.{SetupError}
-use Rattle.cy_replay.specs.declared.error.SetupError.TheVariants.{Refused, Store}
+use Rattle.cy_replay.specs.Comes.{IsJudged}
 use Rattle.cy_replay.specs.Configuration.{Configured}
 use Rattle.cy_replay.specs.Faults.{unless, in_file}
 
@@ -28,8 +28,10 @@ abbrev pub wiring_in : (dag : List ℕ) (channels : List (List ℕ)) → Configu
 wiring_in dag channels c = in_file dag fault.Dag
     (unless (wire_refusal channels c.dag.components c.configs) (wired_of channels c))
 
+-- A wiring, as these functions of files give it.
+abbrev pub wired_by : Wiring → Wired
+wired_by w = record { names = w.names; plans = w.plans }
+
 -- What this comes to is answered, and the store is not used.
-pub record IsWiredBy (reads : Reads Refusal Wired) (result : Result Wiring SetupError) : Type 0 where
-  pub accepted : IfOk result (λ w. reads ≡ Accepts record { names = w.names; plans = w.plans })
-  pub refused : (refusal : Refusal) → IsErrOf result (Refused refusal) → reads ≡ Refuses refusal
-  pub unread : (file : List ℕ) → IsErrOf result (Store file) → ⊥
+abbrev pub IsWiredBy : Reads Refusal Wired → Result Wiring SetupError → Type 0
+IsWiredBy reads result = IsJudged wired_by reads result

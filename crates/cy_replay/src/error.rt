@@ -1,10 +1,11 @@
 // Why a replay can't be set up.
 ghost use Rattle.std.specs.Prelude.{◌≡◌, ◌⊎◌};
-ghost use Rattle.cy_replay.specs.Steps.{IsFault, dag_fault, sched_fault};
+ghost use Rattle.cy_replay.specs.Steps.{IsFault, IsRecordFault, dag_fault, sched_fault};
 ghost use Rattle.cy_replay.specs.declared.error.SetupError.TheVariants as setup_error;
 
 use cy_dag::DagError;
 use cy_msg::{NamesError, Text};
+use cy_reader::LoadError;
 use cy_sched::SchedError;
 use cy_text::TextError;
 use std::alloc::{AllocError, AllocFailed, Global};
@@ -23,6 +24,13 @@ pub enum Fault {
     Dag(DagError),
     /// A scheduler file is refused.
     Sched(SchedError),
+    /// A record is refused, or more of its messages would be played than can be.
+    Record(LoadError),
+    /// Playing a record would come to more entries than a run keeps.
+    TooMany {
+        /// Their number.
+        count: u64,
+    },
 }
 
 /// A file that is refused.
@@ -110,5 +118,16 @@ pub(crate) fn sched_fault(alloc: Global, file: &str, fault: SchedError) -> Setup
     match fault {
         SchedError::Memory => SetupError::Memory,
         fault => refused(alloc, file, Fault::Sched(fault)),
+    }
+}
+
+/// A fault of a record.
+pub(crate) fn record_fault(alloc: Global, file: &str, fault: LoadError) -> SetupError
+    ensures { IsRecordFault file.now fault result }
+{
+    match fault {
+        LoadError::Memory => SetupError::Memory,
+        LoadError::Store => failed(alloc, file),
+        fault => refused(alloc, file, Fault::Record(fault)),
     }
 }

@@ -99,8 +99,8 @@ fn read_scheduler<S: Store>(
     name: Option<&str>,
 ) -> Result<Sched, SetupError>
     ensures comes { ComesTo (λ sched. sched) (sched_in (option_map (λ n. n.now) name.entry))
-        (λ file. option_map (λ n. n.now) name.entry ≡ Some file) (S.shows store.old) (S.shows store.new)
-        result }
+        (λ file. option_map (λ n. n.now) name.entry ≡ Some file) (S.shows store.old)
+        (S.shows store.new) result }
     ensures placeable { IfOk result IsPlaceable }
 {
     match name {
@@ -117,9 +117,10 @@ pub fn read_configuration<S: Store>(
     dag: &str,
     sched: Option<&str>,
 ) -> Result<Configuration, SetupError>
-    ensures comes { ComesTo configured (configuration_in dag.now (option_map (λ n. n.now) sched.entry))
-        (IsAsked dag.now (option_map (λ n. n.now) sched.entry) (S.shows store.old).files) (S.shows store.old)
-        (S.shows store.new) result }
+    ensures comes { ComesTo configured
+        (configuration_in dag.now (option_map (λ n. n.now) sched.entry))
+        (IsAsked dag.now (option_map (λ n. n.now) sched.entry) (S.shows store.old).files)
+        (S.shows store.old) (S.shows store.new) result }
     ensures placeable { IfOk result (λ c. IsPlaceable c.sched) }
 {
     let dag = read_dag_file(alloc, store, dag)?;

@@ -29,7 +29,10 @@ use cy_section::Channel;
 use cy_store::Store;
 use cy_wire::{WireError, Writer, put_whole};
 use cy_writer::{RecordWriter, WriteError};
-pub use laws::{played_places_are_there, record_writes_leave_the_record, tape_record_is_its_text};
+pub use laws::{
+    played_places_are_there, record_writes_leave_the_record, serial_origins_are_there,
+    tape_record_is_its_text,
+};
 use std::alloc::Global;
 
 // The component that writes a channel.

@@ -1,6 +1,8 @@
 // Wires and places the components of a configuration.
-ghost use Rattle.std.specs.Prelude.{◌≡◌, map, IfOk, IsOkUnless};
-ghost use Rattle.cy_sched.specs.Placing.{IsPlaced};
+ghost use Rattle.std.specs.Prelude.{◌≡◌, map, length, IfOk, IsOkUnless};
+ghost use Rattle.std.specs.List.Sorted.{IsPermutation};
+ghost use Rattle.cy_msg.specs.Placement.{scan_of};
+ghost use Rattle.cy_sched.specs.Placing.{IsPlaced, numbers_below};
 ghost use Rattle.cy_sched.specs.SchedFile.{IsPlaceable};
 ghost use Rattle.cy_replay.specs.Steps.{configured};
 ghost use Rattle.cy_replay.specs.Wiring.{IsWiredBy, wiring_in};
@@ -39,6 +41,8 @@ pub fn place_components(
     requires { IsPlaceable configuration.now.sched }
     ensures placed { IfOk result (λ p. IsPlaced configuration.now.sched
         (map (λ c. c.name) configuration.now.dag.components) p.contexts) }
+    ensures scan { IfOk result (λ p. IsPermutation
+        (numbers_below (length configuration.now.dag.components)) (scan_of p.contexts)) }
     ensures only_memory { IsOkUnless result SetupError.Memory }
 {
     let names = names_of(alloc, configuration.dag.components.as_slice())?;

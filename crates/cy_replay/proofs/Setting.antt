@@ -1,0 +1,175 @@
+-- A replay is set up: its files are read, and what they say is judged.
+use Rattle.std.proofs.Common.{ℕ, ◌+◌, ◌≡◌, ◌≤◌, ◌<◌, ◌++◌, List, [], ◌∷◌, length, map, take, get_or, slice_get, Option, Some, None, IfSome, Result, Ok, Err, refl, sym, ap, subst, ◌∙◌, inl, inr, arith}
+use Rattle.std.specs.List.{zip}
+use Rattle.std.specs.List.Sorted.{IsPermutation}
+use Rattle.std.proofs.lemmas.Bool.{le-ltb}
+use Rattle.std.proofs.lemmas.List.{length-map, take_more, map-append}
+use Rattle.std.proofs.lemmas.List.Sorted.{length_permutation}
+use Rattle.std.proofs.lemmas.Option.{slice_get-get_or}
+use Rattle.cy_store.specs.Files.{Files}
+use Rattle.cy_store.specs.Reads.{Reads, Accepts, ◌>>=◌}
+use Rattle.cy_store.specs.Store.{StoreView}
+use Rattle.cy_msg.specs.Once.{IsOnce}
+use Rattle.cy_msg.specs.Placement.{scan_of}
+use Rattle.cy_msg.specs.declared.play_list.PlayList.{PlayList}
+use Rattle.cy_comp.specs.declared.wiring.Wiring.{Wiring}
+use Rattle.cy_sched.specs.Placing.{IsPlaced, numbers_below}
+use Rattle.cy_section.specs.declared.types.Channel.{Channel}
+use Rattle.cy_dag.specs.Wiring.{names_of, plans_of, wire_refusal, channels_of as mentioned}
+use Rattle.std.specs.List.{flat_map}
+use Rattle.cy_dag.specs.declared.config.Config.{Config}
+use Rattle.cy_dag.specs.declared.dag.DagComponent.{DagComponent}
+use Rattle.cy_dag.specs.declared.error.DagError.{DagError}
+use Rattle.cy_reader.specs.declared.filter.Filter.{Filter}
+use Rattle.cy_reader.specs.declared.known.Known.{Known}
+use Rattle.cy_reader.specs.Record.{Contents, named_only}
+use Rattle.cy_reader.specs.Play.{Choice, PlayAnswer, IsPlayList, AreNamed, chosen, most_played}
+use Rattle.wake_core.specs.Run.{routes_of}
+use Rattle.wake_core.specs.Planned.{planned}
+use Rattle.wake_core.specs.declared.entries.TheConstants.{MOST_PLANNED}
+use Rattle.cy_replay.specs.declared.configuration.Configuration.{Configuration}
+use Rattle.cy_replay.specs.declared.error.Fault.TheVariants as fault
+use Rattle.cy_replay.specs.declared.error.Refusal.{Refusal}
+use Rattle.cy_replay.specs.declared.error.SetupError.{SetupError}
+use Rattle.cy_replay.specs.declared.setup.Replay.{Replay}
+use Rattle.cy_replay.specs.Comes.{ComesTo, IsJudged}
+use Rattle.cy_replay.specs.Configuration as files
+use Rattle.cy_replay.specs.Configuration.{Configured, configuration_in}
+use Rattle.cy_replay.specs.Faults.{in_file, unless}
+use Rattle.cy_replay.specs.Listing.{AreCounts, record_in, channels_of, choice_of, counts_of, played_in, planned_in}
+use Rattle.cy_replay.specs.Setup.{Request, Replayed, IsAsked, IsSetUp, judged_in, replay_in, replayed}
+use Rattle.cy_replay.specs.Steps.{configured}
+use Rattle.cy_replay.specs.Wiring.{Wired, wired_by, wired_of, wiring_in}
+use Rattle.cy_replay.proofs.Coming.{then, comes_err, comes_then}
+use Rattle.cy_replay.proofs.Judging.{judges_err, judges_then, judges_ok, judged_comes}
+use Rattle.cy_replay.proofs.Playable.{all_named, some_name, some_plan, all_below, counts_are, may_play}
+
+-- the names of a record's channels, one more
+pub name_more : (whole : Contents) (n : ℕ) (c : Channel) (name : List ℕ) (names : List (List ℕ)) → n < length whole.channels → IfSome (slice_get whole.channels n) (λ known. c ≡ known.channel) → name ≡ c.name
+    → names ≡ map (λ known. known.channel.name) (take n whole.channels) → names ++ name ∷ [] ≡ map (λ known. known.channel.name) (take (n + 1) whole.channels)
+name_more whole n c name names less is called so_far =
+    let known = get_or whole.channels n (named_only []) in
+    let same : c ≡ known.channel = rw (slice_get-get_or whole.channels n (named_only []) less) at is in
+    ap (λ (ns : List (List ℕ)). ns ++ name ∷ []) so_far ∙ ap (λ (x : List ℕ). map (λ (k : Known). k.channel.name) (take n whole.channels) ++ x ∷ []) (called ∙ ap (λ (d : Channel). d.name) same)
+    ∙ sym (ap (map (λ (k : Known). k.channel.name)) (take_more whole.channels n (named_only []) less) ∙ map-append (λ (k : Known). k.channel.name) (take n whole.channels) (known ∷ []))
+
+judged_at : (file : List ℕ) (whole : Contents) (choice : Choice) (list : PlayList) → (let answer = Ok list in PlayAnswer whole choice answer) → (let r : Result PlayList SetupError = Ok list in IsJudged (λ l. length l.places) (played_in file whole choice) r)
+judged_at file whole choice list a =
+    judges_ok (λ (l : PlayList). length l.places) (played_in file whole choice) list
+    (rw (le-ltb most_played (length (chosen whole choice)) a.few) (ap Accepts (sym (length_permutation (chosen whole choice) list.places a.list.order.same))))
+
+-- not too many are played
+pub listed_judged : (file : List ℕ) (whole : Contents) (names : List (List ℕ)) (filter : Filter) (written outs : List ℕ) (list : PlayList) → written ≡ outs
+    → (let choice : Choice = record { names = names; filter = filter; written = written } in let answer = Ok list in PlayAnswer whole choice answer)
+    → (let choice : Choice = record { names = names; filter = filter; written = outs } in let r : Result PlayList SetupError = Ok list in IsJudged (λ l. length l.places) (played_in file whole choice) r)
+listed_judged file whole names filter written outs list is a =
+    let P : List ℕ → Type 0 = λ ws. let choice : Choice = record { names = names; filter = filter; written = ws } in let r : Result PlayList SetupError = Ok list in IsJudged (λ (l : PlayList). length l.places) (played_in file whole choice) r in
+    subst P is (judged_at file whole record { names = names; filter = filter; written = written } list a)
+
+-- a wiring is that of its functions of files
+wired_is : (dag : List ℕ) (refusal : Option DagError) (x y : Wired) → in_file dag fault.Dag (unless refusal x) ≡ Accepts y → x ≡ y
+wired_is dag None x y e = cc
+wired_is dag (Some f) x y e = absurd cc
+
+module _ (r : Request) (conf : Configuration) (recorded : Contents) (channels : List (List ℕ)) (w : Wiring) (read : channels ≡ channels_of recorded) (judged : let q : Result Wiring SetupError = Ok w in IsJudged wired_by (wiring_in r.dag channels (configured conf)) q) where
+  wired : wiring_in r.dag (channels_of recorded) (configured conf) ≡ Accepts (wired_by w)
+  wired = subst (λ cs. wiring_in r.dag cs (configured conf) ≡ Accepts (wired_by w)) read judged.accepted
+
+  abbrev components : List (DagComponent × Config)
+  components = zip conf.dag.components conf.configs
+
+  is_wired : wired_of (channels_of recorded) (configured conf) ≡ wired_by w
+  is_wired = wired_is r.dag (wire_refusal (channels_of recorded) conf.dag.components conf.configs) (wired_of (channels_of recorded) (configured conf)) (wired_by w) wired
+
+  pub channels_named : AreNamed recorded w.names
+  channels_named = all_named recorded w.names (flat_map mentioned components) (sym (ap (λ (x : Wired). x.names) is_wired))
+
+  plans_are : w.plans ≡ plans_of (names_of (channels_of recorded) components) components
+  plans_are = sym (ap (λ (x : Wired). x.plans) is_wired)
+
+  pub some_names : 0 < length w.names
+  some_names = some_name w.names w.plans w.lawful (some_plan (names_of (channels_of recorded) components) conf.dag.components conf.configs w.plans conf.dag.some conf.fit.each plans_are)
+
+  pub as_many : length w.plans ≡ length conf.dag.components
+  as_many = ap length plans_are ∙ length-map components _ ∙ zipped conf.dag.components conf.configs conf.fit.each
+    where
+      zipped : (xs : List DagComponent) (ys : List Config) → length ys ≡ length xs → length (zip xs ys) ≡ length xs
+      zipped [] ys e = refl
+      zipped (x ∷ xs) [] e = absurd (omega (arith, e))
+      zipped (x ∷ xs) (y ∷ ys) e = let rest : length ys ≡ length xs = omega (arith, e) in let so = zipped xs ys rest in omega (arith, so)
+
+  -- what follows the wiring, and what follows the play list
+  abbrev with_played : Wired → ℕ → Reads Refusal Replayed
+  with_played x played = planned_in r.input x (counts_of recorded (choice_of r.filter x)) >>= λ planned. Accepts record { configured = configured conf; contents = recorded; wired = x }
+
+  abbrev with_wired : Wired → Reads Refusal Replayed
+  with_wired x = played_in r.input recorded (choice_of r.filter x) >>= with_played x
+
+  module _ (list : PlayList) (counts : List ℕ) (listed : let q : Result PlayList SetupError = Ok list in IsJudged (λ (l : PlayList). length l.places) (played_in r.input recorded (choice_of r.filter (wired_by w))) q)
+      (is : IsPlayList recorded (choice_of r.filter (wired_by w)) list) (are : AreCounts (length w.names) list.tokens counts) where
+    after : (q : Result Replay SetupError) → IsJudged replayed (with_played (wired_by w) (length list.places)) q → IsJudged replayed (judged_in r (configured conf) recorded) q
+    after q j =
+        judges_then replayed (wiring_in r.dag (channels_of recorded) (configured conf)) with_wired (wired_by w) q wired
+        (judges_then replayed (played_in r.input recorded (choice_of r.filter (wired_by w))) (with_played (wired_by w)) (length list.places) q listed.accepted j)
+
+    pub counted : counts ≡ counts_of recorded (choice_of r.filter (wired_by w))
+    counted = counts_are recorded (choice_of r.filter (wired_by w)) list counts is are
+
+    pub planned_stops : (e : SetupError) → (let q : Result ℕ SetupError = Err e in IsJudged (λ n. n) (planned_in r.input (wired_by w) counts) q) → (let q : Result Replay SetupError = Err e in IsJudged replayed (judged_in r (configured conf) recorded) q)
+    planned_stops e stops =
+        after (Err e) (judges_err (λ n. n) replayed (planned_in r.input (wired_by w) (counts_of recorded (choice_of r.filter (wired_by w)))) (λ planned. Accepts record { configured = configured conf; contents = recorded; wired = wired_by w }) e
+        (subst (λ cs. let q : Result ℕ SetupError = Err e in IsJudged (λ n. n) (planned_in r.input (wired_by w) cs) q) counted stops))
+
+    pub all_judged : (n : ℕ) (x : Replay) → (let q : Result ℕ SetupError = Ok n in IsJudged (λ n. n) (planned_in r.input (wired_by w) counts) q) → (let y : Replayed = record { configured = configured conf; contents = recorded; wired = wired_by w } in y ≡ replayed x)
+        → (let q : Result Replay SetupError = Ok x in IsJudged replayed (judged_in r (configured conf) recorded) q)
+    all_judged n x fits same =
+        after (Ok x) (judges_then replayed (planned_in r.input (wired_by w) (counts_of recorded (choice_of r.filter (wired_by w)))) (λ planned. Accepts record { configured = configured conf; contents = recorded; wired = wired_by w }) n (Ok x)
+        (subst (λ cs. planned_in r.input (wired_by w) cs ≡ Accepts n) counted fits.accepted) (judges_ok replayed (Accepts record { configured = configured conf; contents = recorded; wired = wired_by w }) x (ap Accepts same)))
+
+-- what is set up
+pub is_set_up : (r : Request) (x : Replay) → IsPlayList x.recorded (choice_of r.filter (wired_by x.wiring)) x.list → IsPlaced x.configuration.sched (map (λ c. c.name) x.configuration.dag.components) x.placement.contexts
+    → AreCounts (length x.wiring.names) x.list.tokens x.counts → x.counts ≡ counts_of x.recorded (choice_of r.filter (wired_by x.wiring)) → planned (routes_of x.wiring.plans) x.counts ≤ MOST_PLANNED → 0 < length x.wiring.names
+    → IsPermutation (numbers_below (length x.configuration.dag.components)) (scan_of x.placement.contexts) → length x.wiring.plans ≡ length x.configuration.dag.components → IsOnce x.wiring.names → IsSetUp r x
+is_set_up r x listed placed are counted few some moved many once = record {
+  listed = listed;
+  placed = placed;
+  counted = counted;
+  many = are.many;
+  once = once;
+  limited = few;
+  named = all_below x.recorded (choice_of r.filter (wired_by x.wiring)) x.list listed some;
+  playable = may_play x.recorded (choice_of r.filter (wired_by x.wiring)) x.list x.wiring.plans x.counts (scan_of x.placement.contexts) listed refl are (subst (λ n. IsPermutation (numbers_below n) (scan_of x.placement.contexts)) (sym many) moved);
+}
+
+-- the record behind the configuration files
+abbrev pub with_record : Request → Configured → Contents → Files → Reads Refusal Replayed
+with_record r c contents m = judged_in r c contents
+
+abbrev pub with_configuration : Request → Configured → Files → Reads Refusal Replayed
+with_configuration r c = then (record_in r.input) (with_record r c)
+
+abbrev pub ReadsConfiguration : Request → StoreView → StoreView → Result Configuration SetupError → Type 0
+ReadsConfiguration r old new q = ComesTo configured (configuration_in r.dag r.sched) (files.IsAsked r.dag r.sched old.files) old new q
+
+abbrev pub ReadsRecord : Request → StoreView → StoreView → Result Contents SetupError → Type 0
+ReadsRecord r old new q = ComesTo (λ c. c) (record_in r.input) (λ file. file ≡ r.input) old new q
+
+abbrev pub SetsUp : Request → StoreView → StoreView → Result Replay SetupError → Type 0
+SetsUp r old new q = ComesTo replayed (replay_in r) (IsAsked r old.files) old new q
+
+pub configuration_stops : (r : Request) (old new : StoreView) (e : SetupError) → ReadsConfiguration r old new (Err e) → SetsUp r old new (Err e)
+configuration_stops r old new e came = comes_err replayed (configuration_in r.dag r.sched) (with_configuration r) (IsAsked r old.files) old new e (λ file asked. inr asked) came
+
+configuration_read : (r : Request) (conf : Configuration) (q : Result Replay SetupError) (old mid new : StoreView) → ReadsConfiguration r old mid (Ok conf) → ComesTo replayed (with_configuration r (configured conf)) (λ file. file ≡ r.input) mid new q → SetsUp r old new q
+configuration_read r conf q old mid new came rest =
+    comes_then replayed (configuration_in r.dag r.sched) (with_configuration r) (λ file. file ≡ r.input) (IsAsked r old.files) old mid new (configured conf) q record { same = came.same; counts = came.accepted.0 } came.accepted.1 (λ file is. inl is) rest
+
+pub record_stops : (r : Request) (conf : Configuration) (old mid new : StoreView) (e : SetupError) → ReadsConfiguration r old mid (Ok conf) → ReadsRecord r mid new (Err e) → SetsUp r old new (Err e)
+record_stops r conf old mid new e came stops =
+    configuration_read r conf (Err e) old mid new came (comes_err replayed (record_in r.input) (with_record r (configured conf)) (λ file. file ≡ r.input) mid new e (λ file asked. asked) stops)
+
+pub all_read : (r : Request) (conf : Configuration) (recorded : Contents) (q : Result Replay SetupError) (old mid new : StoreView) → ReadsConfiguration r old mid (Ok conf) → ReadsRecord r mid new (Ok recorded) → IsJudged replayed (judged_in r (configured conf) recorded) q → SetsUp r old new q
+all_read r conf recorded q old mid new came came_too judged =
+    configuration_read r conf q old mid new came
+    (comes_then replayed (record_in r.input) (with_record r (configured conf)) (λ file. file ≡ r.input) (λ file. file ≡ r.input) mid new new recorded q record { same = came_too.same; counts = came_too.accepted.0 } came_too.accepted.1 (λ file asked. asked)
+    (judged_comes replayed (judged_in r (configured conf) recorded) (λ file. file ≡ r.input) new q judged))

@@ -1,0 +1,89 @@
+-- What the files of a replay come to, and what it is set up with.
+use Rattle.std.specs.Prelude.{ℕ, ◌≡◌, ◌≤◌, ◌<◌, ◌⊎◌, All, List, length, map, Option, option_map}
+use Rattle.cy_store.specs.Files.{Files}
+use Rattle.cy_store.specs.Reads.{Reads, Accepts, ◌>>=◌}
+use Rattle.cy_msg.specs.Once.{IsOnce}
+use Rattle.cy_msg.specs.Placement.{scan_of}
+use Rattle.cy_sched.specs.Placing.{IsPlaced}
+use Rattle.cy_reader.specs.declared.filter.Filter.{Filter}
+use Rattle.cy_reader.specs.Record.{Contents}
+use Rattle.cy_reader.specs.Play.{IsPlayList}
+use Rattle.wake_core.specs.Plain.{opening_world}
+use Rattle.wake_core.specs.Planned.{planned}
+use Rattle.wake_core.specs.Rest.{MayPlay}
+use Rattle.wake_core.specs.Run.{routes_of}
+use Rattle.wake_core.specs.declared.entries.TheConstants.{MOST_PLANNED}
+use Rattle.cy_replay.specs.declared.error.Refusal.{Refusal}
+use Rattle.cy_replay.specs.declared.setup.Request as code
+use Rattle.cy_replay.specs.declared.setup.Replay.{Replay}
+use Rattle.cy_replay.specs.Configuration as files
+use Rattle.cy_replay.specs.Configuration.{Configured, configuration_in}
+use Rattle.cy_replay.specs.Listing.{record_in, channels_of, choice_of, counts_of, played_in}
+use Rattle.cy_replay.specs.Listing.{planned_in}
+use Rattle.cy_replay.specs.Steps.{configured}
+use Rattle.cy_replay.specs.Wiring.{Wired, wired_by, wiring_in}
+
+-- What a replay is set up from: the names of a DAG file, of a scheduler file, where one is given,
+-- and of a record; and which messages are let through.
+pub record Request : Type 0 where
+  pub dag : List ℕ
+  pub sched : Option (List ℕ)
+  pub input : List ℕ
+  pub filter : Filter
+
+-- What these files come to: what they say, the record's channels and messages, and the wiring of
+-- the components over the channels.
+pub record Replayed : Type 0 where
+  pub configured : Configured
+  pub contents : Contents
+  pub wired : Wired
+
+-- What is judged once all files were read, in the order of refusals: the wiring over the record's
+-- channels, the number of messages that are played, and the number of entries that are planned.
+abbrev pub judged_in : Request → Configured → Contents → Reads Refusal Replayed
+judged_in r configured contents = do
+  wired ← wiring_in r.dag (channels_of contents) configured
+  played ← played_in r.input contents (choice_of r.filter wired)
+  planned ← planned_in r.input wired (counts_of contents (choice_of r.filter wired))
+  Accepts record { configured = configured; contents = contents; wired = wired }
+
+-- All of it: the configuration files and then the record are read, and what they say is judged.
+abbrev pub replay_in : Request → Files → Reads Refusal Replayed
+replay_in r files = do
+  configured ← configuration_in r.dag r.sched files
+  contents ← record_in r.input files
+  judged_in r configured contents
+
+-- The files that are asked for.
+abbrev pub IsAsked : Request → Option Files → List ℕ → Type 0
+IsAsked r told file = (file ≡ r.input) ⊎ files.IsAsked r.dag r.sched told file
+
+-- What the code's types stand for.
+abbrev pub request_of : code.Request → Request
+request_of r = record {
+  dag = r.dag.now;
+  sched = option_map (λ name. name.now) r.sched;
+  input = r.input.now;
+  filter = r.filter.now;
+}
+
+abbrev pub replayed : Replay → Replayed
+replayed x = record {
+  configured = configured x.configuration;
+  contents = x.recorded;
+  wired = wired_by x.wiring;
+}
+
+-- A replay is set up: its play list, its placement and its counts are those of its record and its
+-- configuration, and it may be played in the opening world of its wiring.
+pub record IsSetUp (r : Request) (x : Replay) : Type 0 where
+  pub listed : IsPlayList x.recorded (choice_of r.filter (wired_by x.wiring)) x.list
+  pub placed : IsPlaced x.configuration.sched (map (λ c. c.name) x.configuration.dag.components)
+      x.placement.contexts
+  pub counted : x.counts ≡ counts_of x.recorded (choice_of r.filter (wired_by x.wiring))
+  pub many : length x.counts ≡ length x.wiring.names
+  pub once : IsOnce x.wiring.names
+  pub limited : planned (routes_of x.wiring.plans) x.counts ≤ MOST_PLANNED
+  pub named : All (λ t. t.channel < length x.wiring.names) x.list.tokens
+  pub playable : MayPlay (opening_world (routes_of x.wiring.plans) x.counts) x.list.tokens
+      (scan_of x.placement.contexts)

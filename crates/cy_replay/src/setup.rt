@@ -1,0 +1,94 @@
+// Sets up a replay.
+ghost use Rattle.std.specs.Prelude.{◌≡◌, IfOk};
+ghost use Rattle.cy_sched.specs.SchedFile.{IsPlaceable};
+ghost use Rattle.cy_replay.specs.Comes.{ComesTo, IsJudged};
+ghost use Rattle.cy_replay.specs.Setup.{IsAsked, IsSetUp, judged_in, replay_in, replayed};
+ghost use Rattle.cy_replay.specs.Setup.{request_of};
+ghost use Rattle.cy_replay.specs.Steps.{configured};
+
+use crate::counts::{counts_of, test_planned};
+use crate::listing::{channel_names, list_messages, read_record};
+use crate::{Configuration, SetupError, place_components, read_configuration, wire_components};
+use cy_comp::Wiring;
+use cy_msg::{Items, Placement, PlayList};
+use cy_reader::{Filter, Record};
+use cy_store::Store;
+use std::alloc::Global;
+
+/// What a replay is set up from: the names of its files, and which messages are played.
+#[derive(Clone, Copy)]
+pub struct Request<'a> {
+    /// The DAG file.
+    pub dag: &'a str,
+    /// The scheduler file, where one is given.
+    pub sched: Option<&'a str>,
+    /// The record.
+    pub input: &'a str,
+    /// Which of its messages are let through.
+    pub filter: &'a Filter,
+}
+
+/// A replay that is set up: all that a run needs.
+#[derive(Drop)]
+pub struct Replay {
+    /// What the configuration files say.
+    pub configuration: Configuration,
+    /// The record.
+    pub recorded: Record,
+    /// The components over the channels of the record, and those of their own.
+    pub wiring: Wiring,
+    /// The contexts in which the components run.
+    pub placement: Placement,
+    /// The messages that are played.
+    pub list: PlayList,
+    /// How many messages are played on each channel, by its number.
+    pub counts: Items<u32>,
+}
+
+// Judges what was read, and makes what a run needs of it.
+fn judge(
+    alloc: Global,
+    request: &Request,
+    configuration: Configuration,
+    recorded: Record,
+) -> Result<Replay, SetupError>
+    requires { IsPlaceable configuration.sched }
+    ensures judged { IsJudged replayed
+        (judged_in (request_of request.now) (configured configuration) recorded) result }
+    ensures set_up { IfOk result (IsSetUp (request_of request.now)) }
+{
+    let channels = channel_names(alloc, &recorded)?;
+    let wiring = wire_components(alloc, request.dag, &configuration, &channels)?;
+    let list = list_messages(alloc, request.input, request.filter, &recorded, &wiring)?;
+    let counts = counts_of(alloc, wiring.names.count(), list.tokens.as_slice())?;
+    test_planned(alloc, request.input, &wiring, &counts)?;
+    let placement = place_components(alloc, &configuration)?;
+    Ok(Replay {
+        configuration,
+        recorded,
+        wiring,
+        placement,
+        list,
+        counts: Items::new(counts),
+    })
+}
+
+/// Sets up a replay. It reads the DAG file, the component files that it names, in the order of the
+/// DAG, the scheduler file, if one is given, and the record. Then it wires the components over the
+/// record's channels, lists the messages that are played, and places the components. The first
+/// thing in the way is answered: a file that is refused, where a fault of the wiring is one of the
+/// DAG file, and too many messages or entries are one of the record. No file is changed.
+pub fn set_up<S: Store>(
+    alloc: Global,
+    store: &mut S,
+    request: &Request,
+) -> Result<Replay, SetupError>
+    ensures comes { ComesTo replayed (replay_in (request_of request.now))
+        (IsAsked (request_of request.now) (S.shows store.old).files) (S.shows store.old)
+        (S.shows store.new) result }
+    ensures set_up { IfOk result (IsSetUp (request_of request.now)) }
+{
+    let configuration = read_configuration(alloc, store, request.dag, request.sched)?;
+    let recorded = read_record(alloc, store, request.input)?;
+    judge(alloc, request, configuration, recorded)
+}
