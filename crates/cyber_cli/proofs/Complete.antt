@@ -1,6 +1,6 @@
 -- Where no count of faults rose, the answer is what the files call for, or Memory.
 use Rattle.std.proofs.Common.{◌≡◌, ℕ, List, Option, Some, None, refl, sym, ap, ◌∙◌, subst, inl, inr}
-use Rattle.std.specs.Prelude.{◌⊎◌, IsSomeAnd}
+use Rattle.std.specs.Prelude.{◌⊎◌, IsSomeAnd, MatchOption}
 use Rattle.std.specs.FinMap.{get}
 use Rattle.std.proofs.lemmas.Option.{MatchOption-at_some}
 use Rattle.cy_store.specs.Files.{Files}
@@ -10,18 +10,19 @@ use Rattle.cyber_cli.specs.declared.status.Status.TheVariants.{Done, Refused, Us
 use Rattle.cyber_cli.specs.declared.input.Input.{Input}
 use Rattle.cy_store.specs.Reads.{Reads, Accepts, Refuses, Absent}
 use Rattle.cy_replay.specs.declared.error.Refusal.{Refusal}
-use Rattle.cy_replay.specs.Configuration.{Configured}
 use Rattle.cy_reader.specs.declared.error.LoadError.{LoadError}
 use Rattle.cy_reader.specs.Record.{Contents}
+use Rattle.cyber_cli.specs.PlayWords.{PlayWords}
+use Rattle.cyber_cli.specs.PlayWork.{replayed_in}
 use Rattle.cyber_cli.specs.Words.{PassWords, CheckWords, InfoWords}
 use Rattle.cyber_cli.specs.Info.{told_of, load_status}
 use Rattle.cyber_cli.specs.Check.{checked_in}
 use Rattle.cyber_cli.specs.ConfigText.{fault_status}
 use Rattle.cyber_cli.specs.Input.{IsInput}
-use Rattle.cyber_cli.specs.Command.{Command, Pass, Check, Info, Work}
+use Rattle.cyber_cli.specs.Command.{Command, Pass, Check, Info, Play, Work, command_of}
 use Rattle.cyber_cli.specs.Pass.{IsPlayed}
 use Rattle.cyber_cli.specs.Outcome.{IsAccepted, IsTaken, IsRefused, IsAbsent}
-use Rattle.cyber_cli.specs.Due.{Sinks, Answers, IsDueFor, IsMisused, IsTold, IsUntold, CallsFor, IsComplete}
+use Rattle.cyber_cli.specs.Due.{Sinks, Answers, IsDue, IsDueFor, IsMisused, IsTold, IsUntold, CallsFor, IsComplete}
 
 -- a status other than SinkFault and Memory is answered where it is due
 told_so : (due : Status) (line : List ℕ) (old new : Sinks) (answer : Status) → IsTold due line old new answer → (answer ≡ due) ⊎ ((answer ≡ SinkFault) ⊎ (answer ≡ Memory))
@@ -57,6 +58,7 @@ taken : (c : Command) (m : Files) (work : Work) → IsAccepted c (Some m) work �
 taken (Pass p) m work a = (a.bytes, a.input, held_is (get m p.input) a.bytes a.held, a.played)
 taken (Check w) m work a = (a.read, a.accepted)
 taken (Info w) m work a = (a.read, a.accepted)
+taken (Play w) m work a = (a.read, a.accepted)
 
 -- what is due is called for, where no faults rose
 called : (c : Command) (old new : StoreView) (m : Files) (due : Status) (line : List ℕ) → old.files ≡ Some m → (Rose old.faults new.faults → ⊥)
@@ -114,8 +116,8 @@ one_stands p m a b (inr (inr x)) (inl (y, (bytes, i, e, input))) = absurd (not_a
 one_stands p m a b (inr (inr x)) (inr (inl y)) = absurd (there (get m p.input) (λ b. (i : Input) → IsInput p b i → ⊥) y.1 x.1)
 one_stands p m a b (inr (inr x)) (inr (inr y)) = x.0 ∙ sym y.0
 
--- what `check` comes to calls for one status
-abbrev status_of : Reads Refusal Configured → Status
+-- what `check` and `play` come to calls for one status
+abbrev status_of : {A : Type 0} → Reads Refusal A → Status
 status_of (Accepts c) = Done
 status_of (Refuses r) = fault_status r.fault
 status_of (Absent name) = StoreFault
@@ -144,10 +146,20 @@ info_status w m SinkFault h = absurd h
 info_status w m Limit h = h.1.status ∙ ap status_told (sym h.1.refused)
 info_status w m Memory h = absurd h
 
+play_status : (w : PlayWords) (m : Files) (due : Status) → CallsFor (Play w) m due → due ≡ status_of (replayed_in w m)
+play_status w m Done h = ap status_of (sym h.1)
+play_status w m Refused h = h.1.status ∙ ap status_of (sym h.1.refused)
+play_status w m Usage h = absurd h
+play_status w m StoreFault h = ap status_of (sym h.1)
+play_status w m SinkFault h = absurd h
+play_status w m Limit h = h.1.status ∙ ap status_of (sym h.1.refused)
+play_status w m Memory h = absurd h
+
 one_call : (c : Command) (m : Files) (a b : Status) → CallsFor c m a → CallsFor c m b → a ≡ b
 one_call (Pass p) m a b x y = one_stands p m a b (pass_stands p m a x) (pass_stands p m b y)
 one_call (Check w) m a b x y = check_status w m a x ∙ sym (check_status w m b y)
 one_call (Info w) m a b x y = info_status w m a x ∙ sym (info_status w m b y)
+one_call (Play w) m a b x y = play_status w m a x ∙ sym (play_status w m b y)
 
 pub complete : (words : List (List ℕ)) (old_store new_store : StoreView) (old new : Sinks) (answer : Status) → Answers words old_store new_store old new answer
     → IsComplete words old_store new_store old new answer
@@ -165,3 +177,11 @@ complete words old_store new_store old new answer a c m due asked told call stor
   where
     is_due : IsDueFor c old_store new_store a.due a.line
     is_due = MatchOption-at_some (IsMisused old_store new_store a.due a.line) (λ c. IsDueFor c old_store new_store a.due a.line) c asked a.is_due
+
+-- a fault of a sink is never due
+pub not_sink : (words : List (List ℕ)) (old new : StoreView) (due : Status) (line : List ℕ) → IsDue words old new due line → due ≡ SinkFault → ⊥
+not_sink words old new due line d e = by (command_of words) (subst (λ (s : Status). IsDue words old new s line) e d)
+  where
+    by : (o : Option Command) → MatchOption o (IsMisused old new SinkFault line) (λ c. IsDueFor c old new SinkFault line) → ⊥
+    by None m = let no : SinkFault ≡ Usage = m.usage in cc
+    by (Some c) d = d

@@ -1,9 +1,9 @@
 -- How `info` ends, at each place where it may.
-use Rattle.std.proofs.Common.{ℕ, ◌≡◌, ◌≢◌, List, [], Option, Some, None, IfSome, Result, Ok, Err, refl, sym, ap, subst, ◌∙◌, inl, inr}
+use Rattle.std.proofs.Common.{ℕ, ◌≡◌, List, [], Option, Some, None, IfSome, Result, Ok, Err, refl, sym, ap, subst, ◌∙◌, inl, inr}
 use Rattle.std.specs.Prelude.{IsErrOf, IsSomeAnd}
 use Rattle.std.specs.FinMap.{get}
 use Rattle.cy_store.specs.Files.{Files, Holds, Lacks}
-use Rattle.cy_store.specs.Reads.{Reads, Accepts, Refuses, Absent, file_by, judged}
+use Rattle.cy_store.specs.Reads.{Absent, file_by, judged}
 use Rattle.cy_store.specs.Store.{StoreView}
 use Rattle.cy_reader.specs.declared.error.LoadError.{LoadError}
 use Rattle.cy_reader.specs.declared.error.LoadError.TheVariants as load
@@ -13,11 +13,11 @@ use Rattle.cy_reader.specs.Info.{info_text}
 use Rattle.cyber_cli.specs.declared.status.Status.{Status}
 use Rattle.cyber_cli.specs.declared.status.Status.TheVariants.{Done}
 use Rattle.cyber_cli.specs.Words.{InfoWords}
-use Rattle.cyber_cli.specs.Command.{Command, Info}
+use Rattle.cyber_cli.specs.Command.{Info}
 use Rattle.cyber_cli.specs.Info.{told_of}
 use Rattle.cyber_cli.specs.LoadText.{is_load_limit}
 use Rattle.cyber_cli.specs.CheckEnds.{IsStarved}
-use Rattle.cyber_cli.specs.InfoEnds.{IsDueUnread, IsStoreFault, IsFileFault}
+use Rattle.cyber_cli.specs.InfoEnds.{IsDueUnread}
 use Rattle.cyber_cli.specs.Due.{IsDueFor}
 use Rattle.cyber_cli.proofs.CheckExits.{view_same, refuses, no_writes}
 

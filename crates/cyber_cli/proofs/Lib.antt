@@ -14,6 +14,9 @@ pub mod Found
 pub mod Accepted
 pub mod BothFiles
 pub mod PassExits
+pub mod PlayExits
+pub mod PlayRuns
+pub mod PlayWriting
 pub mod Playing
 pub mod Making
 pub mod CheckExits

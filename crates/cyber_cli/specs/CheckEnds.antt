@@ -21,7 +21,8 @@ pub record IsStarved (due : Status) (line : List ℕ) : Type 0 where
 -- failed, or that there is no memory.
 abbrev pub IsDueUnset : SetupError → Status → List ℕ → Type 0
 IsDueUnset (setup.Refused refusal) due line = IsStarved due line
-    ⊎ ((due ≡ fault_status refusal.fault) × (line ≡ file_line refusal.file (fault_text refusal.fault)))
+    ⊎ ((due ≡ fault_status refusal.fault)
+    × (line ≡ file_line refusal.file (fault_text refusal.fault)))
 IsDueUnset (setup.Store file) due line = IsStarved due line
     ⊎ ((due ≡ StoreFault) × (line ≡ store_line file))
 IsDueUnset setup.Memory due line = IsStarved due line

@@ -1,4 +1,4 @@
--- What is told of a configuration file that isn't taken, and with which status. Limits aside, it is
+-- What is told of a file of a replay that isn't taken, and with which status. Limits aside, it is
 -- the name of the refusal and its parts in their order: numbers as they are, texts in quotes.
 use Rattle.std.specs.Prelude.{ℕ, List, [], ◌∷◌, ◌++◌, Bool, true, false, if◌then◌else◌, codes}
 use Rattle.std.specs.Fmt.{decimal}
@@ -14,7 +14,7 @@ use Rattle.cy_sched.specs.declared.error.SchedError.{SchedError}
 use Rattle.cy_sched.specs.declared.error.SchedError.TheVariants as sched
 use Rattle.cy_replay.specs.declared.error.Fault.{Fault}
 use Rattle.cy_replay.specs.declared.error.Fault.TheVariants as fault
-use Rattle.cyber_cli.specs.LoadText.{limit_text}
+use Rattle.cyber_cli.specs.LoadText.{limit_text, load_text, is_load_limit}
 use Rattle.cyber_cli.specs.declared.status.Status.{Status}
 use Rattle.cyber_cli.specs.declared.status.Status.TheVariants as status
 
@@ -84,6 +84,8 @@ fault_text (fault.ConfigTooLarge count) = limit_text (codes "ConfigTooLarge") co
 fault_text (fault.Text e) = text_text e
 fault_text (fault.Dag e) = dag_text e
 fault_text (fault.Sched e) = sched_text e
+fault_text (fault.Record e) = load_text e
+fault_text (fault.TooMany count) = limit_text (codes "TooMany") count
 
 -- Whether it is a limit that was passed: a message that stands too deep is one.
 abbrev pub is_limit : Fault → Bool
@@ -92,6 +94,8 @@ is_limit (fault.Text (text.TooDeep line column)) = true
 is_limit (fault.Dag (dag.TooMany count)) = true
 is_limit (fault.Dag (dag.TooManyChannels count)) = true
 is_limit (fault.Sched (sched.TooManyProcessors count)) = true
+is_limit (fault.Record e) = is_load_limit e
+is_limit (fault.TooMany count) = true
 is_limit other = false
 
 abbrev pub fault_status : Fault → Status

@@ -1,4 +1,6 @@
 pub mod Words
+pub mod PlayWords
+pub mod PlayViews
 pub mod Command
 pub mod Lines
 pub mod LoadText
@@ -23,3 +25,5 @@ pub mod Check
 pub mod CheckEnds
 pub mod Info
 pub mod InfoEnds
+pub mod PlayWork
+pub mod PlayEnds

@@ -13,6 +13,7 @@ use Rattle.cyber_cli.specs.declared.failure.Failure.{Failure}
 use Rattle.cyber_cli.specs.declared.failure.Failure.TheVariants as failure
 use Rattle.cyber_cli.specs.declared.status.Status.{Status}
 use Rattle.cyber_cli.specs.declared.status.Status.TheVariants.{Done, Refused, StoreFault, Memory}
+use Rattle.cyber_cli.specs.PlayViews.{play_words_of}
 use Rattle.cyber_cli.specs.Words.{PassWords, CheckWords, InfoWords, Given, is_pass}
 use Rattle.cyber_cli.specs.Command as command
 use Rattle.cyber_cli.specs.Lines.{store_line, not_built_line, memory_line}
@@ -42,11 +43,13 @@ abbrev pub command_asked : code.Command → command.Command
 command_asked (asked.Pass p) = command.Pass (words_of p)
 command_asked (asked.Check w) = command.Check (check_words_of w)
 command_asked (asked.Info w) = command.Info (info_words_of w)
+command_asked (asked.Play w) = command.Play (play_words_of w)
 
 abbrev pub IsInForm : code.Command → Type 0
 IsInForm (asked.Pass p) = is_pass (words_of p) ≡ true
 IsInForm (asked.Check w) = ⊤
 IsInForm (asked.Info w) = ⊤
+IsInForm (asked.Play w) = ⊤
 
 abbrev pub name_of_file : PassWords → File → List ℕ
 name_of_file p file.Input = p.input
@@ -65,5 +68,6 @@ PassEnds p old new (Err failure.Memory) = IsDueFor (command.Pass p) old new Memo
 -- The status that is due after a failure, and its line.
 abbrev pub IsDueAfter : PassWords → Failure → Status → List ℕ → Type 0
 IsDueAfter p failure.NotBuilt due line = (due ≡ Refused) × (line ≡ not_built_line p.input)
-IsDueAfter p (failure.Store f) due line = (due ≡ StoreFault) × (line ≡ store_line (name_of_file p f))
+IsDueAfter p (failure.Store f) due line = (due ≡ StoreFault)
+    × (line ≡ store_line (name_of_file p f))
 IsDueAfter p failure.Memory due line = (due ≡ Memory) × (line ≡ memory_line)

@@ -75,7 +75,8 @@ is_option name g = bytes_eq g.name name && is_word g.value
 
 -- The options of `check`: `--dag`, and perhaps `--sched` before or behind it.
 abbrev pub one_option : Given → Option CheckWords
-one_option a = if is_option (codes "--dag") a then Some record { dag = a.value; sched = None } else None
+one_option a =
+    if is_option (codes "--dag") a then Some record { dag = a.value; sched = None } else None
 
 abbrev pub two_options : Given → Given → Option CheckWords
 two_options a b =

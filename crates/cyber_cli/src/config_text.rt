@@ -1,12 +1,14 @@
-// The texts of what is wrong with configuration files.
+// The texts of what is wrong with the files of a replay.
 ghost use Rattle.std.specs.Prelude.{◌≡◌, ◌++◌, IfOk, OnOk, codes};
 ghost use Rattle.cy_msg.specs.Quoted.{quoted};
 ghost use Rattle.cyber_cli.specs.Lines.{file_line, store_line as line_of_store};
 ghost use Rattle.cyber_cli.specs.ConfigText.{numbers_text, named_text, kind_text};
 ghost use Rattle.cyber_cli.specs.LoadText.{limit_text};
 ghost use Rattle.cyber_cli.specs.ConfigText.{text_text};
-ghost use Rattle.cyber_cli.specs.ConfigText.{dag_text, sched_text, fault_text, fault_status, is_limit};
+ghost use Rattle.cyber_cli.specs.ConfigText.{dag_text, sched_text, fault_text, fault_status};
+ghost use Rattle.cyber_cli.specs.ConfigText.{is_limit};
 
+use crate::load_text::{is_load_limit, push_load};
 use crate::status::Status;
 use cy_dag::DagError;
 use cy_msg::{Bytes, Text, push_quoted};
@@ -136,6 +138,8 @@ fn push_fault(to: &mut Vec<u8>, fault: &Fault) -> io::Result<()>
         Fault::Text(error) => push_text(to, error),
         Fault::Dag(error) => push_dag(to, error),
         Fault::Sched(error) => push_sched(to, error),
+        Fault::Record(error) => push_load(to, error),
+        Fault::TooMany { count } => push_limit(to, "TooMany", *count),
     }
 }
 
@@ -187,13 +191,17 @@ pub fn store_line(alloc: Global, file: &str) -> Result<Bytes, AllocError>
 fn is_limit(fault: &Fault) -> bool
     ensures { result ≡ is_limit fault.now }
 {
-    matches!(
-        fault,
-        Fault::ConfigTooLarge { .. }
-            | Fault::Text(TextError::TooDeep { .. })
-            | Fault::Dag(DagError::TooMany { .. } | DagError::TooManyChannels { .. })
-            | Fault::Sched(SchedError::TooManyProcessors { .. })
-    )
+    match fault {
+        Fault::Record(error) => is_load_limit(error),
+        fault => matches!(
+            fault,
+            Fault::ConfigTooLarge { .. }
+                | Fault::Text(TextError::TooDeep { .. })
+                | Fault::Dag(DagError::TooMany { .. } | DagError::TooManyChannels { .. })
+                | Fault::Sched(SchedError::TooManyProcessors { .. })
+                | Fault::TooMany { .. }
+        ),
+    }
 }
 
 /// The status of a fault.

@@ -20,6 +20,7 @@ mod load_text;
 mod make;
 mod one;
 mod play;
+mod play_words;
 mod recording;
 mod status;
 mod still;

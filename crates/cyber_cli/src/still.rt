@@ -4,7 +4,7 @@ ghost use Rattle.cyber_cli.specs.Line.{bytes_of_line};
 ghost use Rattle.cyber_cli.specs.Due.{IsDue, IsTold, GetsFront, Answers, IsComplete};
 ghost use Rattle.cy_store.specs.Store.{SinkView};
 
-use crate::commands::{run_check, run_info, run_pass};
+use crate::commands::{run_check, run_info, run_pass, run_play};
 use crate::due::Due;
 use crate::fault_text::{OUTPUT_LINE, USAGE_LINE};
 use crate::line::{Line, write_line};
@@ -23,6 +23,7 @@ fn due_of<'a, S: Store>(alloc: Global, words: &'a [Text], store: &mut S) -> Due<
         Some(Command::Pass(pass)) => run_pass(alloc, &pass, store),
         Some(Command::Check(check)) => run_check(alloc, &check, store),
         Some(Command::Info(info)) => run_info(alloc, &info, store),
+        Some(Command::Play(play)) => run_play(alloc, &play, store),
         None => Due {
             status: Status::Usage,
             line: Line::Fixed(USAGE_LINE),
@@ -91,8 +92,12 @@ fn tell<O: Sink, E: Sink>(due: &Due, out: &mut O, err: &mut E) -> Status
 /// calls. `check --dag F [--sched F]` prints what configuration files say, and `info FILE` what a
 /// record is.
 ///
-/// The text or the line that tells what was done goes to `out`, and one that tells of a refusal or a
-/// fault goes to `err`. The answer is one of the seven statuses; its contract says which is due,
+/// `play --serial --dag F --record F --out F --trace F`, with `--sched F` and the options
+/// `--channels LIST`, `--drop LIST`, `--begin N` and `--end N` that choose messages, plays a record
+/// serially through the components of a DAG, and writes both files.
+///
+/// The text or the line that tells what was done goes to `out`, and one that tells of a refusal or
+/// a fault goes to `err`. The answer is one of the seven statuses; its contract says which is due,
 /// what stands in the store then, and how it is told.
 pub fn cyber_still<S: Store, O: Sink, E: Sink>(
     alloc: Global,

@@ -3,9 +3,10 @@ ghost use Rattle.std.specs.Prelude.{◌≡◌, true, Some, None, IfSome, MatchOp
 ghost use Rattle.cyber_cli.specs.Words.{is_word, is_pass, pass_of, check_of, is_option};
 ghost use Rattle.cyber_cli.specs.Words.{first_option, pair_at, two_options, info_of};
 ghost use Rattle.cyber_cli.specs.Command.{command_of};
-ghost use Rattle.cyber_cli.specs.Views.{words_of, check_words_of, given_of, command_asked, IsInForm};
-ghost use Rattle.cyber_cli.specs.Views.{info_words_of};
+ghost use Rattle.cyber_cli.specs.Views.{words_of, check_words_of, given_of, command_asked};
+ghost use Rattle.cyber_cli.specs.Views.{IsInForm, info_words_of};
 
+use crate::play_words::{Play, play_words};
 use cy_msg::Text;
 
 /// The most bytes of a word.
@@ -51,6 +52,8 @@ pub enum Command<'a> {
     Check(Check<'a>),
     /// To print what a record is.
     Info(Info<'a>),
+    /// To play a record serially through the components of a DAG.
+    Play(Play<'a>),
 }
 
 // An option: its name, its value, and the words behind it.
@@ -61,8 +64,8 @@ struct Given<'a> {
     rest: &'a [Text],
 }
 
-// Whether a text may stand as a name.
-fn names_something(text: &str) -> bool
+/// Whether a text may stand as a name.
+pub(crate) fn names_something(text: &str) -> bool
     ensures { result ≡ is_word text.now }
 {
     match text.as_bytes() {
@@ -213,6 +216,7 @@ pub fn command_of<'a>(words: &'a [Text]) -> Option<Command<'a>>
         "pass" => Some(Command::Pass(pass_words(words)?)),
         "check" => Some(Command::Check(check_words(words)?)),
         "info" => Some(Command::Info(info_words(words)?)),
+        "play" => Some(Command::Play(play_words(words)?)),
         _ => None,
     }
 }

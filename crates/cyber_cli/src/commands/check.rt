@@ -23,8 +23,8 @@ use cy_sched::Sched;
 use cy_store::Store;
 use std::alloc::Global;
 
-// What is due where the files are not accepted.
-fn due_unset<'a>(alloc: Global, error: SetupError) -> Due<'a>
+/// What is due where the files are not accepted.
+pub(super) fn due_unset<'a>(alloc: Global, error: SetupError) -> Due<'a>
     ensures { IsDueUnset error result.status (bytes_of_line result.line) }
 {
     match error {
@@ -74,7 +74,8 @@ fn unknown_in(sched: &Sched) -> &[Text]
 // The text of what was read.
 fn text_of(alloc: Global, check: &Check, configuration: &Configuration) -> Result<Bytes, SetupError>
     requires { IsPlaceable configuration.now.sched }
-    ensures text { IfOk result (IsTextOf (check_words_of check.now) (configured configuration.now)) }
+    ensures text { IfOk result
+        (IsTextOf (check_words_of check.now) (configured configuration.now)) }
     ensures only_memory { IsOkUnless result SetupError.Memory }
 {
     let placement = place_components(alloc, configuration)?;

@@ -38,8 +38,8 @@ fn failed_at(file: File, error: StoreError) -> Failure
     }
 }
 
-// A failure to write a file.
-fn unwritten(file: File, error: WriteError) -> Failure
+/// A failure to write a file.
+pub(super) fn unwritten(file: File, error: WriteError) -> Failure
     ensures failed { (error ≡ WriteError.Memory → ⊥) → result ≡ Failure.Store file }
     ensures memory { error ≡ WriteError.Memory → result ≡ Failure.Memory }
 {
@@ -124,8 +124,8 @@ fn due_after<'a>(pass: &Pass<'a>, failure: Failure) -> Due<'a>
     }
 }
 
-/// What is due for `pass` with these words: it plays the record that they name, and writes the record
-/// of all messages and the trace.
+/// What is due for `pass` with these words: it plays the record that they name, and writes the
+/// record of all messages and the trace.
 pub fn run_pass<'a, S: Store>(alloc: Global, pass: &Pass<'a>, store: &mut S) -> Due<'a>
     requires { is_pass (words_of pass.now) ≡ true }
     ensures { IsDueFor (command.Pass (words_of pass.now)) (S.shows store.old) (S.shows store.new)

@@ -1,0 +1,59 @@
+-- How `play` ends.
+use Rattle.std.specs.Prelude.{ℕ, ◌≡◌, List, length}
+use Rattle.cy_store.specs.Write.{Write}
+use Rattle.cy_msg.specs.Placement.{scan_of}
+use Rattle.wake_core.specs.LawfulRun.{LawfulRun}
+use Rattle.wake_core.specs.Plain.{Plain}
+use Rattle.wake_core.specs.Rest.{run_shown}
+use Rattle.wake_core.specs.Run.{routes_of}
+use Rattle.wake_core.specs.Serial.{SerialRun}
+use Rattle.cy_replay.specs.Recording.{Source, IsWritable}
+use Rattle.cy_replay.specs.Setup.{replayed}
+use Rattle.cy_replay.specs.declared.setup.Replay.{Replay}
+use Rattle.cyber_cli.specs.declared.failure.Failure.{Failure}
+use Rattle.cyber_cli.specs.declared.failure.Failure.TheVariants as failure
+use Rattle.cyber_cli.specs.declared.failure.File.{File}
+use Rattle.cyber_cli.specs.declared.failure.File.TheVariants as file
+use Rattle.cyber_cli.specs.declared.commands.play.Told.{Told}
+use Rattle.cyber_cli.specs.declared.status.Status.{Status}
+use Rattle.cyber_cli.specs.declared.status.Status.TheVariants.{StoreFault, Memory}
+use Rattle.cyber_cli.specs.Lines.{store_line, memory_line}
+use Rattle.cyber_cli.specs.PlayWords.{PlayWords}
+use Rattle.cyber_cli.specs.PlayWork.{source_in, run_trace, play_writes, play_line}
+
+-- What the record of a replay is written from.
+abbrev pub source_by : Replay → Source
+source_by x = source_in (replayed x) x.list
+
+-- A world in which a replay was played serially: its tape can be written.
+pub record HasRun (x : Replay) (w : Plain) : Type 0 where
+  pub run : SerialRun (routes_of x.wiring.plans) (scan_of x.placement.contexts) x.list.tokens
+      (run_shown w)
+  pub lawful : LawfulRun x.list.tokens (routes_of x.wiring.plans) w
+  pub counts : length w.counts ≡ length x.wiring.names
+  pub writable : IsWritable (source_by x) w.tape
+
+-- All writes of a replay's run.
+abbrev pub writes_by : PlayWords → Replay → Plain → List Write
+writes_by w x world = play_writes w (source_by x) x.list.shadowed (run_shown world)
+
+-- The line that tells of the run, and the trace beside it.
+abbrev pub IsLine : Replay → Plain → List ℕ → Type 0
+IsLine x w line = line ≡ play_line (source_by x) x.list (run_shown w)
+
+pub record IsTold (x : Replay) (w : Plain) (told : Told) : Type 0 where
+  pub trace : told.trace ≡ run_trace (source_by x) x.list.shadowed (run_shown w)
+  pub line : IsLine x w told.line
+
+-- The files that `play` names.
+abbrev pub name_of_play : PlayWords → File → List ℕ
+name_of_play w file.Input = w.input
+name_of_play w file.Output = w.output
+name_of_play w file.Trace = w.trace
+
+-- The status that is due where a replay was not played and written, and its line.
+abbrev pub IsDueAfterPlay : PlayWords → Failure → Status → List ℕ → Type 0
+IsDueAfterPlay w failure.NotBuilt due line = (due ≡ Memory) × (line ≡ memory_line)
+IsDueAfterPlay w (failure.Store f) due line = (due ≡ StoreFault)
+    × (line ≡ store_line (name_of_play w f))
+IsDueAfterPlay w failure.Memory due line = (due ≡ Memory) × (line ≡ memory_line)
