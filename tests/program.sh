@@ -310,6 +310,63 @@ tells_no_record() { # what is wrong, the status, the line behind the record's na
   ends "$2" '' "cyber: in.rec: $3"
 }
 
+# Plays a record of the drive serially, with the program's files in the test's folder.
+plays_the_drive() { # the record, the name of what is written, and the line
+  begin "plays $1 through the components of a drive"
+  local here=$PWD
+  mkdir -p "$work/drive"
+  (cd "$top" && exec "$program" play --serial --dag examples/drive/drive.dag --record "$1" \
+    --out="$work/drive/$2.rec" --trace "$work/drive/$2.trace") >"$here/out" 2>"$here/err"
+  status=$?
+  ends 0 "$3" ''
+  [ "$(sed -n 2p "$work/drive/$2.trace")" = "$(sed 's/done: //; s/, calls.*//; s/,//' <<<"$3")" ]
+  count $? "$name: the trace's second line is '$(sed -n 2p "$work/drive/$2.trace")'"
+}
+
+# Plays messages of one component, and compares the line and the component's part of the trace.
+plays_one_component() { # what it shows, the record, further words in one text, the line and the component's calls
+  begin "plays $1"
+  one_component PassComponent "$READS_IN" 'out: "/o"'
+  cp "$top/examples/pass/$2" files/in.rec
+  # shellcheck disable=SC2086
+  run play --dag d.dag --record in.rec --out out.rec --trace trace --serial $3
+  ends 0 "$4" ''
+  [ "$(grep '^call' files/trace)" = "$5" ]
+  count $? "$name: the calls are '$(grep '^call' files/trace)'"
+}
+
+refuses_a_replay() { # what is wrong, the status, the line behind `cyber: `, and a command that changes the files
+  begin "refuses to play $1"
+  one_component PassComponent "$READS_IN" 'out: "/o"'
+  cp "$top/examples/pass/two.rec" files/in.rec
+  (cd files && eval "$4")
+  run play --serial --dag d.dag --record in.rec --out out.rec --trace trace --sched=s.sched
+  ends "$2" '' "cyber: $3"
+  lacks files/out.rec
+  lacks files/trace
+}
+
+# Plays records of a drive or others, and compares both files and the line with what a Python script makes of the same files.
+plays_as_described() { # the words, but those for the files that are written
+  begin "plays as the rules say: $*"
+  local here=$PWD
+  (cd "$top" && python3 tests/replay.py "$here/rec" "$here/trace" "$here/line" "$@")
+  (cd "$top" && exec "$program" play --serial --out "$here/out.rec" --trace "$here/out.trace" "$@") >out 2>err
+  status=$?
+  ends 0 "$(cat line)" ''
+  holds out.rec rec
+  holds out.trace trace
+}
+
+plays_at_random() { # how many records
+  begin "plays $1 random records through random components"
+  python3 "$top/tests/replays.py" "$program" "$1" 1 >report
+  count $? "$name: $(head -n 1 report)"
+}
+
+READS_IN='config_file_path: "p.conf" readers { channel: "/in" }'
+A_SCHED='echo "scheduler_conf { classic_conf { groups { name: \"g\" } } }" >s.sched'
+
 plays_a_record one.rec 2271 8
 plays_a_record two.rec 2300 11
 plays_a_record thousand.rec 38583 3005
@@ -345,6 +402,61 @@ refuses_the_words check --dag a --dag b
 refuses_the_words check --dag a --sched b c
 refuses_the_words check -dag a
 refuses_the_words check --dag a --plan b
+
+# All four names that `play` needs, and words that are none of its form beside them.
+refuses_a_play() { # the words behind the four names
+  refuses_the_words play --dag d --record r --out o --trace t "$@"
+}
+refuses_the_words play
+refuses_the_words play --serial --dag d --record r --out o
+refuses_the_words play --serial --dag d --record r --out o --trace
+refuses_the_words play --serial --dag d --record r --out o --trace o
+refuses_the_words play --serial --dag d --record r --out r --trace t
+refuses_the_words play --serial --dag d --record r --out o --trace d
+refuses_the_words play --serial --dag d --record r --out s --trace t --sched s
+refuses_a_play
+refuses_a_play --serial=x
+refuses_a_play --serial --serial
+refuses_a_play --serial word
+refuses_a_play --serial --plan p
+refuses_a_play --serial --dag e
+refuses_a_play --serial --channels
+refuses_a_play --serial --channels=
+refuses_a_play --serial --channels /a,,/b
+refuses_a_play --serial --drop /a,
+refuses_a_play --serial --begin 1x
+refuses_a_play --serial --begin=-1
+refuses_a_play --serial --end 18446744073709551616
+refuses_a_play --serial --end 000000000000000000001
+
+plays_the_drive examples/drive/drive.rec first 'done: played 3205, shadowed 0, calls 2370, written 5573'
+plays_the_drive "$work/drive/first.rec" second 'done: played 3205, shadowed 2368, calls 2370, written 5573'
+
+drive=(--dag examples/drive/drive.dag --record examples/drive/drive.rec)
+plays_as_described "${drive[@]}"
+plays_as_described "${drive[@]}" --sched examples/drive/drive.sched
+plays_as_described "${drive[@]}" --channels /wheel/speed,/map/limit --begin 1700000005000000000
+plays_as_described "${drive[@]}" --drop /map/limit --end 1700000005000000000
+python3 "$top/bench/made.py" 3000 "$work/made"
+plays_as_described --dag "$work/made.dag" --record "$work/made.record"
+plays_at_random 100
+plays_one_component 'a record' two.rec '' 'done: played 2, shadowed 0, calls 2, written 4' \
+  'call 1/1 1 1@100=7
+call 2/2 2 2@100=-980'
+plays_one_component 'a record up to a time' two.rec '--begin=00 --end 99' 'done: played 0, shadowed 0, calls 0, written 0' ''
+plays_one_component 'what is not dropped' two.rec '--drop /x,/in' 'done: played 0, shadowed 0, calls 0, written 0' ''
+plays_one_component 'the channels that are wanted' one.rec '--channels /y,/in --end 18446744073709551615' \
+  'done: played 1, shadowed 0, calls 1, written 2' 'call 1/1 1 1@100=7'
+
+refuses_a_replay 'a text' 1 'in.rec: not a record' "$A_SCHED; echo no record >in.rec"
+refuses_a_replay 'a record that is cut' 1 'in.rec: at 2113: Cut' "$A_SCHED; truncate -s 2150 in.rec"
+refuses_a_replay 'a record of another kind' 1 'in.rec: at 2064: Kind 9' \
+  "$A_SCHED; truncate -s 2064 in.rec; printf '\\x09\\0\\0\\0\\0\\0\\0\\0\\0\\0\\0\\0\\0\\0\\0\\0' >>in.rec"
+refuses_a_replay 'a record that is not there' 3 'in.rec: the store failed' "$A_SCHED; rm in.rec"
+refuses_a_replay 'a record that is too long' 5 'in.rec: limit FileTooLarge passed: 2147483649' \
+  "$A_SCHED; truncate -s 2147483649 in.rec"
+refuses_a_replay 'without its scheduler file' 3 's.sched: the store failed' ''
+refuses_a_replay 'a cycle' 1 'd.dag: TriggerCycle 0' "$A_SCHED; echo 'out: \"/in\"' >p.conf"
 
 checks_one_component
 checks_the_drive --dag examples/drive/drive.dag --sched examples/drive/drive.sched
