@@ -364,6 +364,39 @@ plays_at_random() { # how many records
   count $? "$name: $(head -n 1 report)"
 }
 
+# Five components read /a, on which more messages are played than may be planned for all of them.
+plans_too_many() {
+  begin 'refuses to plan more entries than a run keeps'
+  mkdir files
+  python3 - "$top/tests" <<'P'
+import sys
+sys.path.insert(0, sys.argv[1])
+from record import number, record
+with open("files/in.rec", "wb") as file:
+    file.write(record([(b"/a", k, number(1, 2)) for k in range(1_048_576)] + [(b"/z", 1_048_576, number(1, 2))]))
+with open("files/d.dag", "w") as file:
+    for k in range(5):
+        config = f'name: "p{k}" config_file_path: "p{k}.conf" readers {{ channel: "/a" }}'
+        print(f'module_config {{ components {{ class_name: "PassComponent" config {{ {config} }} }} }}', file=file)
+        with open(f"files/p{k}.conf", "w") as conf:
+            print(f'out: "/o{k}"', file=conf)
+P
+  run play --serial --dag d.dag --record in.rec --out out.rec --trace trace
+  ends 5 '' 'cyber: in.rec: limit TooMany passed: 16777217'
+  lacks files/out.rec
+}
+
+# Plays where one of the two files can't be made, since a folder has its name.
+plays_without() { # that file
+  begin "plays with a folder as the $1"
+  one_component PassComponent "$READS_IN" 'out: "/o"'
+  cp "$top/examples/pass/two.rec" files/in.rec
+  (cd files && python3 "$top/tests/replay.py" ../want.rec ../want.trace ../want.line --dag d.dag --record in.rec)
+  mkdir "files/$1"
+  run play --serial --dag d.dag --record in.rec --out out.rec --trace trace
+  ends 3 '' "cyber: $1: the store failed"
+}
+
 READS_IN='config_file_path: "p.conf" readers { channel: "/in" }'
 A_SCHED='echo "scheduler_conf { classic_conf { groups { name: \"g\" } } }" >s.sched'
 
@@ -448,6 +481,20 @@ plays_one_component 'what is not dropped' two.rec '--drop /x,/in' 'done: played 
 plays_one_component 'the channels that are wanted' one.rec '--channels /y,/in --end 18446744073709551615' \
   'done: played 1, shadowed 0, calls 1, written 2' 'call 1/1 1 1@100=7'
 
+plans_too_many
+plays_without out.rec
+lacks files/trace
+plays_without trace
+holds files/out.rec want.rec
+
+# What stands first in the way is told, though what comes behind it is wrong too.
+A_CYCLE="echo 'out: \"/in\"' >p.conf"
+refuses_a_replay 'a DAG before a component file' 1 'd.dag: NoComponents' 'echo >d.dag; echo out >p.conf'
+refuses_a_replay 'a component file before the scheduler file' 1 'p.conf: Missing 0 "out"' 'echo >p.conf; echo >s.sched'
+refuses_a_replay 'no component file before the scheduler file' 3 'p.conf: the store failed' 'rm p.conf; echo >s.sched'
+refuses_a_replay 'a scheduler file before the record' 1 's.sched: NoGroup' 'echo >s.sched; echo no record >in.rec'
+refuses_a_replay 'a record before the wiring' 1 'in.rec: not a record' "$A_SCHED; $A_CYCLE; echo no record >in.rec"
+refuses_a_replay 'no record before the wiring' 3 'in.rec: the store failed' "$A_SCHED; $A_CYCLE; rm in.rec"
 refuses_a_replay 'a text' 1 'in.rec: not a record' "$A_SCHED; echo no record >in.rec"
 refuses_a_replay 'a record that is cut' 1 'in.rec: at 2113: Cut' "$A_SCHED; truncate -s 2150 in.rec"
 refuses_a_replay 'a record of another kind' 1 'in.rec: at 2064: Kind 9' \
