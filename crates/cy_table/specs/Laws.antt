@@ -1,0 +1,109 @@
+-- The laws of the steps. Where a table shows a world before a step, and the seat that steps shows
+-- what the step needs, then the table shows a world after it: the one that the event gives, or the
+-- same.
+use Rattle.std.specs.Prelude.{ℕ, ◌≡◌, ◌≢◌, ◌≤◌, ◌<◌, ◌==◌, List, [], ◌∷◌, ◌++◌, length}
+use Rattle.std.specs.Prelude.{slice_index, Some, None}
+use mathlib.Core.Option.{some}
+use lib.ListN.{get_elem?}
+use Rattle.atomic_table.specs.Table.{State as Table, stepped, keeps, takes, gives}
+use Rattle.cy_comp.specs.Routine.{RoutineView}
+use Rattle.wake_core.specs.Plain.{Plain, to_play_from}
+use Rattle.wake_core.specs.Events.{Acquires, Spends, Readies, Asks, Looks, Clears, Yields}
+use Rattle.wake_core.specs.Events.{Releases, Ticks, Closes}
+use Rattle.cy_table.specs.declared.part.Part.{Part}
+use Rattle.cy_table.specs.declared.part.Part.TheVariants as part
+use Rattle.cy_table.specs.Layout.{clock_word, closing_word, hold_word, state_word, flag_word}
+use Rattle.cy_table.specs.Layout.{routine_slot, number_of}
+use Rattle.cy_table.specs.Seats.{Seat, Grip}
+use Rattle.cy_table.specs.Rule.{Rooms, Rules}
+use Rattle.cy_table.specs.Steps.{Sits, Becomes, acquiring, failing, MayReady, readying, MayAsk}
+use Rattle.cy_table.specs.Steps.{asking, MayYield, next_state, yielding, MayRelease, releasing}
+use Rattle.cy_table.specs.Steps.{MaySpend, spending, looking, clearing_but, seeing, ticking}
+use Rattle.cy_table.specs.Steps.{heeding, closing_all}
+
+-- The swap of a hold word, by a thread with nothing in hand: the event Acquire where it was found
+-- free, and then the routine was at home; else no event.
+pub record HoldSwaps : Type 0 where
+  pub free : (r : Rooms) (w : Plain) (s : Table Part Seat) (id c : ℕ) (v : Seat)
+      (out : List (ℕ × Part)) → Sits r w s id v → v.hand ≡ None → c < length w.routes
+      → slice_index s.words (hold_word c) ≡ 0
+      → (x : RoutineView) × (get_elem? s.homes (routine_slot c) ≡ some (some (part.Routine x)))
+      × Becomes r (Acquires id c) w (stepped s (hold_word c) 1 id out (acquiring v c x)
+      (takes (routine_slot c) (part.Routine x)))
+  pub held : (r : Rooms) (w : Plain) (s : Table Part Seat) (id c : ℕ) (v : Seat)
+      (out : List (ℕ × Part)) → Sits r w s id v → c < length w.routes
+      → slice_index s.words (hold_word c) ≢ 0
+      → Rules r w (stepped s (hold_word c) 1 id out (failing v c) keeps)
+
+-- The stores of a state: the events Ready, Ask and Yield.
+pub record StateStores : Type 0 where
+  pub ready : (r : Rooms) (w : Plain) (s : Table Part Seat) (id : ℕ) (v : Seat) (g : Grip)
+      (out : List (ℕ × Part)) → Sits r w s id v → v.hand ≡ Some g → MayReady v g
+      → Becomes r (Readies id g.croutine) w
+      (stepped s (state_word g.croutine) 0 id out (readying v g) keeps)
+  pub ask : (r : Rooms) (w : Plain) (s : Table Part Seat) (id : ℕ) (v : Seat) (g : Grip)
+      (out : List (ℕ × Part)) → Sits r w s id v → v.hand ≡ Some g → MayAsk g
+      → Becomes r (Asks id g.croutine) w
+      (stepped s (state_word g.croutine) 1 id out (asking v g) keeps)
+  pub yield_as : (r : Rooms) (w : Plain) (s : Table Part Seat) (id : ℕ) (v : Seat) (g : Grip)
+      (out : List (ℕ × Part)) → Sits r w s id v → v.hand ≡ Some g → MayYield v g
+      → Becomes r (Yields id g.croutine (next_state g)) w (stepped s (state_word g.croutine)
+      (number_of (next_state g)) id out (yielding v g) keeps)
+
+-- The store of a hold word, when the routine in its slot is the one that the seat shows: the event
+-- Release.
+pub record HoldStores : Type 0 where
+  pub release : (r : Rooms) (w : Plain) (s : Table Part Seat) (id : ℕ) (v : Seat) (g : Grip)
+      (out : List (ℕ × Part)) → Sits r w s id v → v.hand ≡ Some g → MayRelease g
+      → Becomes r (Releases id g.croutine) w (stepped s (hold_word g.croutine) 0 id
+      ((routine_slot g.croutine, part.Routine g.routine) ∷ out) (releasing v) gives)
+
+-- The swap of a flag: the event Spend, at the clock that the thread set or saw last.
+pub record FlagSwaps : Type 0 where
+  pub spend : (r : Rooms) (w : Plain) (s : Table Part Seat) (id : ℕ) (v : Seat) (g : Grip)
+      (out : List (ℕ × Part)) → Sits r w s id v → v.hand ≡ Some g → MaySpend v g
+      → Becomes r (Spends id g.croutine v.clock) w (stepped s (flag_word g.croutine) 1 id out
+      (spending v g (slice_index s.words (flag_word g.croutine) == 1)) keeps)
+
+-- The load of a state by a thread that has filled all readers, of the first of its news: the event
+-- Look.
+pub record StateLoads : Type 0 where
+  pub look : (r : Rooms) (w : Plain) (s : Table Part Seat) (id : ℕ) (v : Seat) (c : ℕ)
+      (later : List ℕ) (out : List (ℕ × Part)) → Sits r w s id v → v.fills ≡ []
+      → v.news ≡ c ∷ later → c < length w.routes
+      → Becomes r (Looks id c) w (stepped s (state_word c) (slice_index s.words (state_word c)) id
+      out (looking v c later (slice_index s.words (state_word c) == 1)) keeps)
+
+-- The store of a flag that is to be cleared: the event Clear.
+pub record FlagStores : Type 0 where
+  pub clear : (r : Rooms) (w : Plain) (s : Table Part Seat) (id : ℕ) (v : Seat) (c : ℕ)
+      (before after : List ℕ) (out : List (ℕ × Part)) → Sits r w s id v
+      → v.clearing ≡ before ++ c ∷ after → c < length w.routes
+      → Becomes r (Clears id c) w
+      (stepped s (flag_word c) 0 id out (clearing_but v (before ++ after)) keeps)
+
+-- The load of the clock, which is no event, and finds no time before one that the thread set or
+-- saw; and its store by the player: the event Tick.
+pub record ClockSteps : Type 0 where
+  pub load : (r : Rooms) (w : Plain) (s : Table Part Seat) (id : ℕ) (v : Seat)
+      (out : List (ℕ × Part)) → Sits r w s id v
+      → Rules r w (stepped s clock_word (slice_index s.words clock_word) id out
+      (seeing v (slice_index s.words clock_word)) keeps)
+  pub rises : (r : Rooms) (w : Plain) (s : Table Part Seat) (id : ℕ) (v : Seat) → Sits r w s id v
+      → v.clock ≤ slice_index s.words clock_word
+  pub tick : (r : Rooms) (w : Plain) (s : Table Part Seat) (v : Seat) (time : ℕ)
+      (out : List (ℕ × Part)) → Sits r w s 0 v → v.clock ≤ time
+      → Becomes r (Ticks time) w (stepped s clock_word time 0 out (ticking v time) keeps)
+
+-- The load of the word that says whether the run is closing, which is no event; and its store by
+-- the player when all was played: the event Close.
+pub record ClosingSteps : Type 0 where
+  pub load : (r : Rooms) (w : Plain) (s : Table Part Seat) (id : ℕ) (v : Seat)
+      (out : List (ℕ × Part)) → Sits r w s id v
+      → Rules r w (stepped s closing_word (slice_index s.words closing_word) id out
+      (heeding v (slice_index s.words closing_word == 1)) keeps)
+  pub is_true : (r : Rooms) (w : Plain) (s : Table Part Seat) (id : ℕ) (v : Seat)
+      → Sits r w s id v → (slice_index s.words closing_word == 1) ≡ w.closing
+  pub close : (r : Rooms) (w : Plain) (s : Table Part Seat) (v : Seat) (out : List (ℕ × Part))
+      → Sits r w s 0 v → length v.played ≡ to_play_from v.routes 0 v.counts
+      → Becomes r Closes w (stepped s closing_word 1 0 out (closing_all v) keeps)

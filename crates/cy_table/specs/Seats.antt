@@ -1,0 +1,94 @@
+-- What a thread at the table knows: plain data, which each of its steps changes.
+use Rattle.std.specs.Prelude.{ℕ, Bool, false, List, [], Option, None}
+use Rattle.cy_msg.specs.declared.token.Token.{Token}
+use Rattle.cy_fuse.specs.Visitor.{VisitorView}
+use Rattle.cy_comp.specs.declared.call.Call.{Call}
+use Rattle.cy_comp.specs.Routine.{RoutineView}
+use Rattle.wake_core.specs.declared.route.Route.{Route}
+use Rattle.cy_comp.specs.declared.state.State.{State}
+use Rattle.wake_core.specs.declared.phase.Phase.{Phase}
+use Rattle.wake_core.specs.Plain.{blank}
+
+-- A croutine in hand, with its phase and its routine as it is after the thread's events: a call
+-- counts from its fetch on, though the component is stepped later.
+pub record Grip : Type 0 where
+  pub croutine : ℕ
+  pub phase : Phase
+  pub routine : RoutineView
+
+-- A component's visitor, while the thread is behind its door.
+pub record Visit : Type 0 where
+  pub component : ℕ
+  pub visitor : VisitorView
+
+-- The tape: its messages, and for how many there is room in all.
+pub record TapeView : Type 0 where
+  pub messages : List Token
+  pub room : ℕ
+
+-- The calls of a component, as the thread had them in hand.
+pub record Seen : Type 0 where
+  pub component : ℕ
+  pub calls : List Call
+
+-- What a thread found, in order: a croutine held, or in a state after its update; the clock; and
+-- whether the run is closing.
+pub data Entry : Type 0 where
+  Busy : ℕ → Entry
+  Found : ℕ → State → Entry
+  Clock : ℕ → Entry
+  Closing : Bool → Entry
+
+pub record Seat : Type 0 where
+  -- What the table is for: the components, and how many messages are played on each channel.
+  pub routes : List Route
+  pub counts : List ℕ
+  -- What is in hand.
+  pub hand : Option Grip
+  pub visit : Option Visit
+  pub tape : Option TapeView
+  -- What is owed: readers to fill, news to look at, flags to clear; and the message of these.
+  pub fills : List (ℕ × ℕ)
+  pub news : List ℕ
+  pub clearing : List ℕ
+  pub token : Token
+  -- The player's: the played messages that stand on the tape.
+  pub played : List Token
+  -- The calls that were in hand, the newest first; the clock that was set or seen last; whether the
+  -- run was set or found closing; and how many tuples the last fetch saw.
+  pub seen : List Seen
+  pub clock : ℕ
+  pub closing : Bool
+  pub tail : ℕ
+  -- For contracts alone.
+  pub note : List Entry
+  -- How many seats were split off this one and not joined yet; and 1 where this seat itself was
+  -- not joined, else 0.
+  pub split : ℕ
+  pub live : ℕ
+
+-- A seat that has nothing and owes nothing.
+abbrev pub idle_seat : List Route → (counts : List ℕ) → List Seen → (live : ℕ) → Seat
+idle_seat routes counts seen live = record {
+  routes = routes;
+  counts = counts;
+  hand = None;
+  visit = None;
+  tape = None;
+  fills = [];
+  news = [];
+  clearing = [];
+  token = blank;
+  played = [];
+  seen = seen;
+  clock = 0;
+  closing = false;
+  tail = 0;
+  note = [];
+  split = 0;
+  live = live;
+}
+
+-- No seat: that of a thread which was joined, or never came.
+abbrev pub no_seat : Seat
+no_seat = idle_seat [] [] [] 0
