@@ -2,7 +2,8 @@
 //!
 //! A function here changes nothing: its contract is a law of `specs/Laws`, over the rule of
 //! `specs/Rule`. Each stands on the law of its event, which keeps all that holds of a world.
-ghost use Rattle.cy_table.specs.Laws.{HoldSwaps, StateStores, HoldStores};
+ghost use Rattle.cy_table.specs.Laws.{HoldSwaps, StateStores, HoldStores, FlagSwaps, StateLoads};
+ghost use Rattle.cy_table.specs.Laws.{FlagStores, ClockSteps, ClosingSteps};
 
 use wake_core::laws;
 
@@ -27,4 +28,39 @@ pub fn hold_stores()
     ensures { HoldStores }
 {
     laws::release();
+}
+
+/// The swap of a flag spends it.
+pub fn flag_swaps()
+    ensures { FlagSwaps }
+{
+    laws::spend();
+}
+
+/// The load of a state is a look at one that was filled.
+pub fn state_loads()
+    ensures { StateLoads }
+{
+    laws::look();
+}
+
+/// The store of a flag clears it.
+pub fn flag_stores()
+    ensures { FlagStores }
+{
+    laws::clear();
+}
+
+/// The load of the clock changes nothing, and its store sets it forward.
+pub fn clock_steps()
+    ensures { ClockSteps }
+{
+    laws::tick();
+}
+
+/// The load of closing changes nothing, and its store closes.
+pub fn closing_steps()
+    ensures { ClosingSteps }
+{
+    laws::close();
 }
