@@ -11,6 +11,7 @@ use Rattle.wake_core.specs.declared.route.Route.{Route}
 use Rattle.wake_core.specs.Run.{played_of}
 use Rattle.wake_core.specs.Plain.{Plain}
 use Rattle.wake_core.specs.Sound.{Sound}
+use Rattle.wake_core.specs.Fields.{IsFixed}
 use Rattle.cy_table.specs.declared.part.Part.{Part}
 use Rattle.cy_table.specs.Seats.{Seat, Seen}
 use Rattle.cy_table.specs.Layout.{words_for, slots_for}
@@ -89,6 +90,7 @@ module _ (r : Rooms) (w : Plain) (s : Table Part Seat) (id : ℕ) (v : Seat) (si
     wide = length-set s.words i n ∙ (sits.rules.wide ∙ ap (λ (l : List Route). words_for (length l)) (sym routes));
     deep = deep ∙ (sits.rules.deep ∙ ap (λ (l : List Route). slots_for (length l)) (sym routes));
     sound = sound;
+    fixed = subst (λ (l : List Route × List ℕ). IsFixed l.0 l.1) (λ k. (sym routes k, sym counts k)) sits.rules.fixed;
     roomy = subst (λ (l : List Route × List ℕ). AreRoomy l.0 l.1 r) (λ k. (sym routes k, sym counts k)) sits.rules.roomy;
     shows = shows;
     knows = all_know mine;

@@ -4,3 +4,6 @@ pub mod Parts
 pub mod Knowing
 pub mod Holding
 pub mod Telling
+pub mod Doors
+pub mod Filling
+pub mod Sending

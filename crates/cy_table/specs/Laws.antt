@@ -6,20 +6,22 @@ use Rattle.std.specs.Prelude.{slice_index, Some, None}
 use mathlib.Core.Option.{some}
 use lib.ListN.{get_elem?}
 use Rattle.atomic_table.specs.Table.{State as Table, stepped, keeps, takes, gives}
+use Rattle.cy_fuse.specs.Visitor.{VisitorView, arrived}
 use Rattle.cy_comp.specs.Routine.{RoutineView}
 use Rattle.wake_core.specs.Plain.{Plain, to_play_from}
-use Rattle.wake_core.specs.Events.{Acquires, Spends, Readies, Asks, Looks, Clears, Yields}
-use Rattle.wake_core.specs.Events.{Releases, Ticks, Closes}
+use Rattle.wake_core.specs.Events.{Acquires, Spends, Readies, Asks, Fills, Looks, Clears}
+use Rattle.wake_core.specs.Events.{Yields, Releases, Ticks, Closes}
 use Rattle.cy_table.specs.declared.part.Part.{Part}
 use Rattle.cy_table.specs.declared.part.Part.TheVariants as part
 use Rattle.cy_table.specs.Layout.{clock_word, closing_word, hold_word, state_word, flag_word}
-use Rattle.cy_table.specs.Layout.{routine_slot, number_of}
-use Rattle.cy_table.specs.Seats.{Seat, Grip}
-use Rattle.cy_table.specs.Rule.{Rooms, Rules}
+use Rattle.cy_table.specs.Layout.{tape_door, visitor_door, tape_slot, routine_slot}
+use Rattle.cy_table.specs.Layout.{visitor_slot, number_of}
+use Rattle.cy_table.specs.Seats.{Seat, Grip, Visit, TapeView}
+use Rattle.cy_table.specs.Rule.{Rooms, Rules, tape_at, visitor_at}
 use Rattle.cy_table.specs.Steps.{Sits, Becomes, acquiring, failing, MayReady, readying, MayAsk}
 use Rattle.cy_table.specs.Steps.{asking, MayYield, next_state, yielding, MayRelease, releasing}
 use Rattle.cy_table.specs.Steps.{MaySpend, spending, looking, clearing_but, seeing, ticking}
-use Rattle.cy_table.specs.Steps.{heeding, closing_all}
+use Rattle.cy_table.specs.Steps.{heeding, closing_all, entering, visiting, filling}
 
 -- The swap of a hold word, by a thread with nothing in hand: the event Acquire where it was found
 -- free, and then the routine was at home; else no event.
@@ -107,3 +109,39 @@ pub record ClosingSteps : Type 0 where
   pub close : (r : Rooms) (w : Plain) (s : Table Part Seat) (v : Seat) (out : List (ℕ × Part))
       → Sits r w s 0 v → length v.played ≡ to_play_from v.routes 0 v.counts
       → Becomes r Closes w (stepped s closing_word 1 0 out (closing_all v) keeps)
+
+-- The swaps of a door, which are no event. Where it was found open, the slot had the tape, or the
+-- visitor, that the world has.
+pub record TapeDoorSwaps : Type 0 where
+  pub open_door : (r : Rooms) (w : Plain) (s : Table Part Seat) (id : ℕ) (v : Seat)
+      (out : List (ℕ × Part)) → Sits r w s id v → v.tape ≡ None
+      → slice_index s.words tape_door ≡ 0
+      → (x : TapeView) × (get_elem? s.homes tape_slot ≡ some (some (part.Tape x)))
+      × (x ≡ tape_at r w)
+      × Rules r w (stepped s tape_door 1 id out (entering v x) (takes tape_slot (part.Tape x)))
+  pub shut_door : (r : Rooms) (w : Plain) (s : Table Part Seat) (id : ℕ) (v : Seat)
+      (out : List (ℕ × Part)) → Sits r w s id v → slice_index s.words tape_door ≢ 0
+      → Rules r w (stepped s tape_door 1 id out v keeps)
+
+pub record VisitorDoorSwaps : Type 0 where
+  pub open_door : (r : Rooms) (w : Plain) (s : Table Part Seat) (id c : ℕ) (v : Seat)
+      (out : List (ℕ × Part)) → Sits r w s id v → c < length w.routes → v.visit ≡ None
+      → slice_index s.words (visitor_door c) ≡ 0
+      → (x : VisitorView) × (get_elem? s.homes (visitor_slot c) ≡ some (some (part.Visitor x)))
+      × (x ≡ visitor_at r w c)
+      × Rules r w (stepped s (visitor_door c) 1 id out (visiting v c x)
+      (takes (visitor_slot c) (part.Visitor x)))
+  pub shut_door : (r : Rooms) (w : Plain) (s : Table Part Seat) (id c : ℕ) (v : Seat)
+      (out : List (ℕ × Part)) → Sits r w s id v → c < length w.routes
+      → slice_index s.words (visitor_door c) ≢ 0
+      → Rules r w (stepped s (visitor_door c) 1 id out v keeps)
+
+-- The store of a visitor's door, when the slot has one arrival more, of the first of the readers
+-- that are to be filled: the event Fill.
+pub record FillStores : Type 0 where
+  pub fill : (r : Rooms) (w : Plain) (s : Table Part Seat) (id : ℕ) (v : Seat) (a : Visit) (j : ℕ)
+      (later : List (ℕ × ℕ)) (out : List (ℕ × Part)) → Sits r w s id v → v.visit ≡ Some a
+      → v.fills ≡ (a.component, j) ∷ later → a.component < length w.routes
+      → Becomes r (Fills id a.component j) w (stepped s (visitor_door a.component) 0 id
+      ((visitor_slot a.component, part.Visitor (arrived a.visitor j v.token)) ∷ out)
+      (filling v a.component j later) gives)

@@ -2,7 +2,7 @@
 -- seats of all threads show one plain world, of which all holds that holds of a run.
 use Rattle.std.specs.Prelude.{ℕ, ◌+◌, ◌-◌, ◌≡◌, ◌≢◌, ◌≤◌, ◌<◌, ◌⊎◌, ◌==◌, if◌then◌else◌, Bool, true}
 use Rattle.std.specs.Prelude.{List, [], ◌∷◌, length, take, map, sum, slice_index, slice_index_or}
-use Rattle.std.specs.Prelude.{slice_get, option_map, Option, Some, None, vec_capacity}
+use Rattle.std.specs.Prelude.{slice_get, option_map, Option, Some, None}
 use Rattle.std.specs.Option.{option_map_or}
 use mathlib.Core.Option.{some, none}
 use mathlib.Core.Option as maybe
@@ -21,7 +21,7 @@ use Rattle.wake_core.specs.Planned.{planned_count, first_reader, counts_from}
 use Rattle.cy_comp.specs.declared.state.State.{State}
 use Rattle.wake_core.specs.declared.phase.Hand.{Hand}
 use Rattle.wake_core.specs.Plain.{Plain, hand, unsent_of}
-use Rattle.wake_core.specs.Fields.{queue_of}
+use Rattle.wake_core.specs.Fields.{IsFixed, queue_of}
 use Rattle.wake_core.specs.Sound.{Sound}
 use Rattle.cy_table.specs.declared.part.Part.{Part}
 use Rattle.cy_table.specs.declared.part.Part.TheVariants as part
@@ -57,7 +57,7 @@ visitor_in (some (some (part.Visitor v))) = Some v
 visitor_in _ = None
 
 abbrev pub tape_in : Home → Option TapeView
-tape_in (some (some (part.Tape t))) = Some record { messages = t.items; room = vec_capacity t }
+tape_in (some (some (part.Tape t))) = Some t
 tape_in _ = None
 
 -- What a seat has of a component; and what it has in hand, as the plain world has it.
@@ -209,6 +209,7 @@ pub record Rules (r : Rooms) (w : Plain) (s : Table Part Seat) : Type 0 where
   pub wide : length s.words ≡ words_for (length w.routes)
   pub deep : length s.homes ≡ slots_for (length w.routes)
   pub sound : Sound w
+  pub fixed : IsFixed w.routes w.counts
   pub roomy : AreRoomy w.routes w.counts r
   pub shows : Shows r w (spread s)
   pub knows : (j : ℕ) (v : Seat) → get_elem? s.views j ≡ some v → Knows w j v

@@ -1,12 +1,19 @@
 -- What each kind of step leaves of the seat that steps, and what the seat has to show before it.
-use Rattle.std.specs.Prelude.{ℕ, ◌+◌, ◌≡◌, ◌≢◌, ◌⊎◌, Bool, true, false, List, [], ◌∷◌}
-use Rattle.std.specs.Prelude.{◌++◌, if◌then◌else◌, Option, Some, None}
+use Rattle.std.specs.Prelude.{ℕ, ◌+◌, ◌≡◌, ◌≢◌, ◌≤◌, ◌⊎◌, ◌==◌, Bool, true, List, [], ◌∷◌, ◌++◌}
+use Rattle.std.specs.Prelude.{length, slice_get, slice_index, if◌then◌else◌, Option, Some, None}
 use Rattle.std.specs.Option.{option_map_or}
 use mathlib.Core.Option.{some}
 use lib.ListN.{get_elem?}
 use Rattle.atomic_table.specs.Table.{State as Table}
-use Rattle.cy_comp.specs.Calls.{last_outcome, held_until}
-use Rattle.cy_comp.specs.Routine.{RoutineView}
+use Rattle.cy_msg.specs.declared.token.Token.{Token}
+use Rattle.cy_msg.specs.declared.token.Tuple.{Tuple}
+use Rattle.cy_msg.specs.Tokens.{on_channel}
+use Rattle.cy_fuse.specs.Visitor.{VisitorView, tuples_at}
+use Rattle.cy_comp.specs.declared.call.Out.{Out}
+use Rattle.cy_comp.specs.Calls.{last_outcome, held_until, output}
+use Rattle.cy_comp.specs.Routine.{RoutineView, taken}
+use Rattle.wake_core.specs.declared.route.Route.{Route}
+use Rattle.wake_core.specs.Run.{readers_of, writes_from}
 use Rattle.cy_comp.specs.declared.state.State.{State}
 use Rattle.cy_comp.specs.declared.state.State.TheVariants.{Ready, DataWait}
 use Rattle.wake_core.specs.Plain.{Plain}
@@ -15,7 +22,7 @@ use Rattle.wake_core.specs.declared.phase.Phase.TheVariants.{Fresh, Woken, Known
 use Rattle.wake_core.specs.declared.phase.Phase.TheVariants.{Running, Sending, Done}
 use Rattle.wake_core.specs.Events.{IsDue, is_waiting, phase_after_spend, state_after}
 use Rattle.cy_table.specs.declared.part.Part.{Part}
-use Rattle.cy_table.specs.Seats.{Seat, Grip, Entry}
+use Rattle.cy_table.specs.Seats.{Seat, Grip, TapeView, Entry}
 use Rattle.cy_table.specs.Seats.Entry.{Busy, Found, Clock, Closing}
 use Rattle.cy_table.specs.Rule.{Rooms, Rules}
 
@@ -148,3 +155,78 @@ heeding v found = record v { closing = found; note = v.note ++ Closing found ∷
 
 abbrev pub closing_all : Seat → Seat
 closing_all v = record v { closing = true }
+
+-- The swaps of a door that was found open: the tape, or a visitor, is in hand.
+abbrev pub entering : Seat → TapeView → Seat
+entering v x = record v { tape = Some x }
+
+abbrev pub visiting : Seat → (c : ℕ) → VisitorView → Seat
+visiting v c x = record v { visit = Some record { component = c; visitor = x } }
+
+-- The store of a visitor's door after a fill: the first of the readers was filled. A component that
+-- was triggered is news.
+abbrev pub filling : Seat → (c role : ℕ) → (later : List (ℕ × ℕ)) → Seat
+filling v c j later = record v {
+  visit = None;
+  fills = later;
+  news = if j == 0 then v.news ++ c ∷ [] else v.news;
+}
+
+-- The store of a visitor's door after a fetch: a call is made on the tuple that was found, or
+-- nothing was found. How many tuples there were is known in both cases.
+abbrev pub called : Grip → Option (Tuple × ℕ × ℕ) → Grip
+called g None = record g { phase = Empty }
+called g (Some f) = record g { phase = Running; routine = taken g.routine f.0 f.1 f.2 }
+
+abbrev pub fetching : Seat → Grip → VisitorView → Option (Tuple × ℕ × ℕ) → Seat
+fetching v g x found =
+    let h = called g found in
+    record v {
+      visit = None;
+      tail = length (tuples_at x);
+      hand = Some h;
+      seen = record { component = g.croutine; calls = h.routine.calls } ∷ v.seen;
+    }
+
+-- The stores of the tape's door. The message that was put there is owed to the readers of its
+-- channel.
+abbrev pub owing : Seat → Token → Seat
+owing v t = record v { tape = None; fills = readers_of v.routes t.channel; token = t }
+
+-- .. by the player: the next message of a channel that no component writes, at its time.
+pub record MayTape (v : Seat) (t : Token) : Type 0 where
+  pub owes : OwesNone v
+  pub unwritten : writes_from 0 v.routes t.channel ≡ None
+  pub next : t.seq ≡ length (on_channel t.channel v.played) + 1
+  pub within : t.seq ≤ slice_index v.counts t.channel
+  pub now : t.time ≡ v.clock
+
+abbrev pub taping : Seat → Token → Seat
+taping v t = record (owing v t) { played = v.played ++ t ∷ [] }
+
+-- .. by a holder: the output that waits, numbered behind those on the tape.
+pub record MaySend (v : Seat) (g : Grip) : Type 0 where
+  pub owes : OwesNone v
+  pub sends : ((g.phase ≡ Running)
+      × (held_until (last_outcome g.routine.kind g.routine.calls) ≡ None))
+      ⊎ ((g.phase ≡ Known) × (g.routine.state ≡ Ready))
+
+abbrev pub out_at : List Route → ℕ → ℕ
+out_at routes c = option_map_or (λ (x : Route). x.out) (slice_get routes c) 0
+
+abbrev pub output_at : List Route → ℕ → List Token → Out → Token
+output_at routes c tape out =
+    output (out_at routes c) (length (on_channel (out_at routes c) tape) + 1) out
+
+abbrev pub phase_sent : Phase → Phase
+phase_sent Running = Running
+phase_sent phase = Sending
+
+abbrev pub sent_of : Grip → Grip
+sent_of g = record g {
+  phase = phase_sent g.phase;
+  routine = record g.routine { pending = None };
+}
+
+abbrev pub sending : Seat → Grip → Token → Seat
+sending v g t = record (owing v t) { hand = Some (sent_of g) }

@@ -3,7 +3,8 @@
 //! A function here changes nothing: its contract is a law of `specs/Laws`, over the rule of
 //! `specs/Rule`. Each stands on the law of its event, which keeps all that holds of a world.
 ghost use Rattle.cy_table.specs.Laws.{HoldSwaps, StateStores, HoldStores, FlagSwaps, StateLoads};
-ghost use Rattle.cy_table.specs.Laws.{FlagStores, ClockSteps, ClosingSteps};
+ghost use Rattle.cy_table.specs.Laws.{FlagStores, ClockSteps, ClosingSteps, TapeDoorSwaps};
+ghost use Rattle.cy_table.specs.Laws.{VisitorDoorSwaps, FillStores};
 
 use wake_core::laws;
 
@@ -63,4 +64,21 @@ pub fn closing_steps()
     ensures { ClosingSteps }
 {
     laws::close();
+}
+
+/// The swap of the tape's door takes the tape, or changes nothing.
+pub fn tape_door_swaps()
+    ensures { TapeDoorSwaps }
+{}
+
+/// The swap of a visitor's door takes the visitor, or changes nothing.
+pub fn visitor_door_swaps()
+    ensures { VisitorDoorSwaps }
+{}
+
+/// The store of a visitor's door after a fill lets a message arrive.
+pub fn fill_stores()
+    ensures { FillStores }
+{
+    laws::fill();
 }

@@ -10,4 +10,4 @@
 pub mod laws;
 mod part;
 
-pub use part::Part;
+pub use part::{Part, Tape};

@@ -2,6 +2,7 @@
 use cy_comp::Routine;
 use cy_fuse::Visitor;
 use cy_msg::Token;
+use std::marker::Model;
 
 /// What a slot holds.
 #[derive(Drop)]
@@ -13,5 +14,20 @@ pub enum Part {
     /// The visitor of a component.
     Visitor(Visitor),
     /// The messages that were sent.
-    Tape(Vec<Token>),
+    Tape(Tape),
+}
+
+/// The messages that were sent, in order. Contracts see it as a `TapeView`.
+#[derive(Drop)]
+pub struct Tape {
+    messages: Vec<Token>,
+}
+
+impl Model for Tape {
+    ghost use Rattle.std.specs.Prelude.{vec_capacity};
+    ghost use Rattle.cy_table.specs.Seats.{TapeView};
+
+    ghost Value = { TapeView };
+
+    ghost view = { λ t. record { messages = t.messages.items; room = vec_capacity t.messages } };
 }
