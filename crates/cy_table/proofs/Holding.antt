@@ -64,7 +64,7 @@ last_here : (calls : List Call) (o : Option Route) → o ≢ None
 last_here calls None ne = absurd (ne refl)
 last_here calls (Some x) ne = refl
 
-get_in : {X : Type 0} (xs : List X) (n : ℕ) → n < length xs → slice_get xs n ≢ None
+pub get_in : {X : Type 0} (xs : List X) (n : ℕ) → n < length xs → slice_get xs n ≢ None
 get_in [] n less e = absurd (omega (arith, less))
 get_in (x ∷ xs) Rattle.std.proofs.Common.zero less e = none-some x (sym e)
 get_in (x ∷ xs) (Rattle.std.proofs.Common.suc n) less e = get_in xs n (omega (arith, less)) e
@@ -187,7 +187,7 @@ module _ (r : Rooms) (w : Plain) (s : Table Part Seat) (id : ℕ) (v : Seat) (si
     effect = refl;
   }
 
-  last_known : (g : Grip) → v.hand ≡ Some g → last_of w.routes w.calls g.croutine ≡ last_outcome g.routine.kind g.routine.calls
+  pub last_known : (g : Grip) → v.hand ≡ Some g → last_of w.routes w.calls g.croutine ≡ last_outcome g.routine.kind g.routine.calls
   last_known g e = last_here (w.calls g.croutine) (slice_get w.routes g.croutine) (get_in w.routes g.croutine (croutine_known g e))
       ∙ ap (λ (x : RoutineView). last_outcome x.kind x.calls) (sym (routine_known g e))
 

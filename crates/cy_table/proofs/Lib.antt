@@ -7,3 +7,4 @@ pub mod Telling
 pub mod Doors
 pub mod Filling
 pub mod Sending
+pub mod Fetching

@@ -1,0 +1,215 @@
+-- The tape's door is left after a message was put there.
+use Rattle.std.proofs.Common.{ℕ, ◌+◌, ◌-◌, ◌*◌, ◌≡◌, ◌≢◌, ◌≤◌, ◌<◌, ◌⊎◌, ◌==◌, Bool, true, false, refl, sym, ◌∙◌, ap, ap₂, subst, inl, inr, ⊎_elim, List, [], ◌∷◌, ◌++◌, length, length-set, take, filter, cond, not, is_some, slice_get, slice_index, option_map, Option, Some, None, arith}
+use Rattle.std.proofs.lemmas.Bool.Decides.{eqb_tells}
+use Rattle.std.proofs.lemmas.Option.{none-some}
+use Rattle.std.proofs.Math.Seq.{take-length}
+use Rattle.std.specs.Option.{option_map_or}
+use mathlib.Core.Option.{some}
+use Rattle.atomic_table.specs.Table.{State as Table, stepped, gives}
+use Rattle.cy_msg.specs.declared.token.Token.{Token}
+use Rattle.cy_msg.specs.Tokens.{on_channel}
+use Rattle.cy_comp.specs.declared.call.Out.{Out}
+use Rattle.cy_comp.specs.declared.state.State.{State}
+use Rattle.cy_comp.specs.declared.state.State.TheVariants.{Ready}
+use Rattle.cy_comp.specs.Calls.{last_outcome, held_until, output}
+use Rattle.cy_comp.specs.Routine.{RoutineView}
+use Rattle.wake_core.specs.declared.route.Route.{Route}
+use Rattle.wake_core.specs.declared.phase.Phase.{Phase}
+use Rattle.wake_core.specs.declared.phase.Phase.TheVariants.{Known, Running}
+use Rattle.wake_core.specs.Run.{set_at, readers_of, writes_from, played_of}
+use Rattle.wake_core.specs.Plain.{Plain, hand, outs_of, taped_of, unsent_of}
+use Rattle.wake_core.specs.Events.{IsNext, Tapes, Sends, MaySend as MaySendIn, after_tape, after_send}
+use Rattle.wake_core.specs.Sound.{Consistent}
+use Rattle.wake_core.specs.Laws.{KeepsSound, SendLaws}
+use Rattle.wake_core.proofs.Taping.{played_taped, send_taped, IsUnsent, unsent_is}
+use Rattle.wake_core.proofs.Timing.{played-own, played-other}
+use Rattle.wake_core.proofs.Writers.{writes_own}
+use Rattle.cy_table.specs.declared.part.Part.{Part}
+use Rattle.cy_table.specs.declared.part.Part.TheVariants as part
+use Rattle.cy_table.specs.Seats.{Seat, Grip, TapeView}
+use Rattle.cy_table.specs.Rule.{Rooms, Rules, Home, Kept, Shows, ShowsParts, spread, routine_in, routine_of, hand_of, routine_at, visitor_at, tape_at, out_in}
+use Rattle.cy_table.specs.Steps.{Sits, Becomes, with_message, MayTape, taping, MaySend, out_at, output_at, phase_sent, sent_of, sending}
+use Rattle.cy_table.proofs.Places.{there, other, shown_still, shown_anew, after, spread_gives}
+use Rattle.cy_table.proofs.Parts.{routine_beside, routine_turned, same_words}
+use Rattle.cy_table.proofs.Knowing.{Grows, rules_after}
+use Rattle.cy_table.proofs.Holding.{wide_is, deep_is, seat_is, seat_in, hand_is, in_phase, routine_known, croutine_known, last_known, owes_known, mine}
+use Rattle.cy_table.proofs.Doors.{tape_others, tape_given, tape_known}
+
+-- On a channel that no component writes, all messages were played.
+keeps_played : (routes : List Route) (channel : ℕ) → writes_from 0 routes channel ≡ None → (tape : List Token) → on_channel channel (played_of routes tape) ≡ on_channel channel tape
+keeps_played routes channel un [] = refl
+keeps_played routes channel un (t ∷ rest) = elim (eqb_tells t.channel channel) [
+  | inl h ↦
+      ap (λ (o : Option ℕ). on_channel channel (cond (not (is_some o)) (t ∷ played_of routes rest) (played_of routes rest))) (ap (writes_from 0 routes) h.1 ∙ un)
+      ∙ (ap (λ b. cond b (t ∷ on_channel channel (played_of routes rest)) (on_channel channel (played_of routes rest))) h.0
+      ∙ (ap (λ (l : List Token). t ∷ l) (keeps_played routes channel un rest) ∙ sym (ap (λ b. cond b (t ∷ on_channel channel rest) (on_channel channel rest)) h.0)))
+  | inr h ↦ left_out h.0 (not (is_some (writes_from 0 routes t.channel)))
+      ∙ (keeps_played routes channel un rest ∙ sym (ap (λ b. cond b (t ∷ on_channel channel rest) (on_channel channel rest)) h.0))
+]
+  where
+    left_out : (t.channel == channel) ≡ false → (b : Bool) → on_channel channel (cond b (t ∷ played_of routes rest) (played_of routes rest)) ≡ on_channel channel (played_of routes rest)
+    left_out differs true = ap (λ b. cond b (t ∷ on_channel channel (played_of routes rest)) (on_channel channel (played_of routes rest))) differs
+    left_out differs false = refl
+
+abbrev out_or : Out → Option Out → Out
+out_or d None = d
+out_or d (Some o) = o
+
+record IsShownBy (u : Option Token) (o : Out) : Type 0 where
+  from : Token
+  is : u ≡ Some from
+  shows : out_in from ≡ o
+
+shown_by : (u : Option Token) (o : Out) → option_map out_in u ≡ Some o → IsShownBy u o
+shown_by None o e = absurd (none-some o e)
+shown_by (Some t) o e = record { from = t; is = refl; shows = ap (out_or o) e }
+
+-- The unsent output of a component, by what its routine says waits.
+token_from : (w : Plain) (c : ℕ) (t : Token) (u : IsUnsent w c t) → t ≡ output u.route.out (length (on_channel u.route.out w.tape) + 1) (out_in t)
+token_from w c t u = λ k. record { channel = u.its k; seq = u.number k; time = t.time; whole = t.whole; origin = t.origin }
+
+output_is : (w : Plain) (c : ℕ) (o : Out) (m : IsShownBy (unsent_of w c) o) (u : IsUnsent w c m.from) → output_at w.routes c w.tape o ≡ m.from
+output_is w c o m u =
+    ap (λ channel. output channel (length (on_channel channel w.tape) + 1) o) (ap (λ (x : Option Route). option_map_or (λ (y : Route). y.out) x 0) u.at)
+    ∙ (ap (output u.route.out (length (on_channel u.route.out w.tape) + 1)) (sym m.shows) ∙ sym (token_from w c m.from u))
+
+-- A routine, when so many of its outputs stand on the tape.
+abbrev as_taped : Rooms → Plain → ℕ → ℕ → RoutineView
+as_taped r w d n = record (routine_at r w d) { pending = option_map out_in (slice_get (outs_of w.routes w.calls d) n) }
+
+module _ (r : Rooms) (w : Plain) (s : Table Part Seat) (v : Seat) (sits : Sits r w s 0 v) where
+  -- The player puts a message there.
+  pub tape_becomes : (x : TapeView) (m : Token) → v.tape ≡ Some x → MayTape v m → (out : List (ℕ × Part)) → KeepsSound (Tapes m)
+      → Becomes r (Tapes m) w (stepped s 3 0 0 ((0, part.Tape (with_message x m)) ∷ out) (taping v m) gives)
+  tape_becomes x m has may out keep =
+      let t = spread s in
+      let x' : TapeView = with_message x m in
+      let back : Home = some (some (part.Tape x')) in
+      let h = set_at 0 back t.home in
+      let v' : Seat = taping v m in
+      let w' : Plain = after_tape 0 m w in
+      let at = seat_is r w s 0 v sits in
+      let th = sits.rules.shows.threads in
+      let k = mine r w s 0 v sits in
+      let made = k.made sits.live in
+      let player = k.player refl in
+      let un : writes_from 0 w.routes m.channel ≡ None = ap (λ (l : List Route). writes_from 0 l m.channel) (sym made.0) ∙ may.unwritten in
+      let known : x ≡ tape_at r w = tape_known r w s 0 v sits x has in
+      let next : IsNext m w = record {
+        unwritten = un;
+        next = may.next ∙ (ap (λ (l : List Token). length (on_channel m.channel l) + 1) player.0 ∙ ap (λ (l : List Token). length l + 1) (keeps_played w.routes m.channel un w.tape));
+        within = subst (λ (l : List ℕ). m.seq ≤ slice_index l m.channel) made.1 may.within;
+      } in
+      let happens : Tapes m w w' = record { owes = owes_known r w s 0 v sits may.owes; next = next; now = may.now ∙ player.1; effect = refl } in
+      let grows : Grows w.routes w.tape w'.tape w.clock w.clock w.calls w.calls w.closing w.closing 0 = record {
+        rises = omega arith;
+        begins = λ c. take-length (w.calls c);
+        closes = λ e. e;
+        player = λ ne. absurd (ne refl);
+      } in
+      let kept : (d : ℕ) → d < length w.routes → Kept (routine_in (h (2 * d + 1))) (set_at 3 0 t.word (4 * d + 4)) (λ j. routine_of d (set_at 0 v' t.seat j).hand) (routine_at r w' d) = λ d less.
+      subst (λ (y : RoutineView). Kept (routine_in (h (2 * d + 1))) (set_at 3 0 t.word (4 * d + 4)) (λ j. routine_of d (set_at 0 v' t.seat j).hand) y) (ap (as_taped r w d) (sym (played_taped w m un d)))
+      (routine_beside sits.rules.shows.parts 3 0 0 v' h d less (other 3 0 t.word (4 * d + 4) (λ e. omega arith)) (other 0 back t.home (2 * d + 1) (λ e. omega arith)) (ap (λ (u : Seat). routine_of d u.hand) (sym at))) in
+      let shows : Shows r w' (after t 3 0 0 v' h) = record {
+        parts = subst (λ (y : TapeView). ShowsParts (length w.routes) y (routine_at r w') (visitor_at r w') (after t 3 0 0 v' h)) (ap (λ (y : TapeView). with_message y m) known)
+            (tape_given sits.rules.shows.parts 0 v' x x' (routine_at r w') (ap (λ (u : Seat). u.tape) at ∙ has) refl (ap (λ (u : Seat). u.visit) (sym at)) kept);
+        words = same_words 3 0 (tape_others 0 t.word) sits.rules.shows.words;
+        threads = record {
+          hand_is = shown_still (λ (u : Seat). hand_of u.hand) t.seat w.hands th.hand_is 0 v' (ap (λ (u : Seat). hand_of u.hand) (sym at));
+          fills_are = shown_anew (λ (u : Seat). u.fills) t.seat w.fills th.fills_are 0 v' (readers_of w.routes m.channel) (ap (λ (l : List Route). readers_of l m.channel) (sym made.0));
+          news_are = shown_still (λ (u : Seat). u.news) t.seat w.news th.news_are 0 v' (ap (λ (u : Seat). u.news) (sym at));
+          clearing_is = shown_still (λ (u : Seat). u.clearing) t.seat w.clearing th.clearing_is 0 v' (ap (λ (u : Seat). u.clearing) (sym at));
+          token_is = shown_anew (λ (u : Seat). u.token) t.seat w.tokens th.token_is 0 v' m refl;
+        };
+      } in record {
+        world = w';
+        happens = happens;
+        rules = rules_after r w s 0 v sits w' refl refl grows v' 3 0 ((0, part.Tape x') ∷ out) gives (keep w w' happens sits.rules.sound)
+            (subst (Shows r w') (sym (spread_gives s 3 0 0 v' out (omega (arith, wide_is r w s 0 v sits)) (seat_in r w s 0 v sits) 0 (part.Tape x') (omega (arith, deep_is r w s 0 v sits)))) shows)
+            (length-set s.homes 0 (some (part.Tape x'))) refl refl
+            record {
+              made = k.made;
+              joined = λ z. absurd (sits.live z);
+              calls = k.calls;
+              past = k.past;
+              closes = k.closes;
+              player = λ z. (ap (λ (l : List Token). l ++ m ∷ []) (k.player z).0 ∙ sym (played-own w.routes w.tape m un), (k.player z).1, (k.player z).2);
+            };
+      }
+
+module _ (r : Rooms) (w : Plain) (s : Table Part Seat) (id : ℕ) (v : Seat) (sits : Sits r w s id v) where
+  may_send : (g : Grip) → v.hand ≡ Some g → MaySend v g → MaySendIn id g.croutine (phase_sent g.phase) w
+  may_send g e may = ⊎_elim
+      (λ (p : (g.phase ≡ Running) × (held_until (last_outcome g.routine.kind g.routine.calls) ≡ None)).
+      inl (in_phase r w s id v sits g Running e p.0, ap held_until (last_known r w s id v sits g e) ∙ p.1, ap phase_sent p.0))
+      (λ (p : (g.phase ≡ Known) × (g.routine.state ≡ Ready)).
+      inr (in_phase r w s id v sits g Known e p.0, sym (ap (λ (x : RoutineView). x.state) (routine_known r w s id v sits g e)) ∙ p.1, ap phase_sent p.0))
+      may.sends
+
+  -- A holder puts its output there.
+  pub send_becomes : (g : Grip) (x : TapeView) (o : Out) → v.hand ≡ Some g → v.tape ≡ Some x → g.routine.pending ≡ Some o → MaySend v g → (out : List (ℕ × Part)) → SendLaws
+      → Becomes r (Sends id g.croutine (phase_sent g.phase) (output_at v.routes g.croutine x.messages o)) w
+      (stepped s 3 0 id ((0, part.Tape (with_message x (output_at v.routes g.croutine x.messages o))) ∷ out) (sending v g (output_at v.routes g.croutine x.messages o)) gives)
+  send_becomes g x o e has pends may out law =
+      let t = spread s in
+      let c : ℕ = g.croutine in
+      let next : Phase = phase_sent g.phase in
+      let m : Token = output_at v.routes c x.messages o in
+      let x' : TapeView = with_message x m in
+      let back : Home = some (some (part.Tape x')) in
+      let h = set_at 0 back t.home in
+      let v' : Seat = sending v g m in
+      let w' : Plain = after_send id c next m w in
+      let at = seat_is r w s id v sits in
+      let th = sits.rules.shows.threads in
+      let k = mine r w s id v sits in
+      let made = k.made sits.live in
+      let consistent : Consistent w = sits.rules.sound.consistent in
+      let known : x ≡ tape_at r w = tape_known r w s id v sits x has in
+      let routine_is : g.routine ≡ routine_at r w c = routine_known r w s id v sits g e in
+      let by : IsShownBy (unsent_of w c) o = shown_by (unsent_of w c) o (sym (ap (λ (y : RoutineView). y.pending) routine_is) ∙ pends) in
+      let u : IsUnsent w c by.from = unsent_is w c by.from by.is in
+      let m_is : m ≡ by.from = ap₂ (λ (l : List Route) (ms : List Token). output_at l c ms o) made.0 (ap (λ (y : TapeView). y.messages) known) ∙ output_is w c o by u in
+      let unsent : unsent_of w c ≡ Some m = by.is ∙ ap Some (sym m_is) in
+      let written : writes_from 0 w.routes m.channel ≡ Some c = ap (λ (y : Token). writes_from 0 w.routes y.channel) m_is ∙ (ap (writes_from 0 w.routes) u.its ∙ writes_own consistent.wired c u.route u.at) in
+      let sends = may_send g e may in
+      let taped = send_taped id c next m w sends unsent consistent.wired in
+      let all : unsent_of w' c ≡ None = law.all id c next m w sends unsent consistent in
+      let happens : Sends id c next m w w' = record { owes = owes_known r w s id v sits may.owes; held = sends; unsent = unsent; effect = refl } in
+      let grows : Grows w.routes w.tape w'.tape w.clock w.clock w.calls w.calls w.closing w.closing id = record {
+        rises = omega arith;
+        begins = λ d. take-length (w.calls d);
+        closes = λ z. z;
+        player = λ ne. (played-other w.routes w.tape m c written, refl, refl);
+      } in
+      let shows : Shows r w' (after t 3 0 id v' h) = record {
+        parts = subst (λ (y : TapeView). ShowsParts (length w.routes) y (routine_at r w') (visitor_at r w') (after t 3 0 id v' h)) (ap (λ (y : TapeView). with_message y m) known)
+            (tape_given sits.rules.shows.parts id v' x x' (routine_at r w') (ap (λ (z : Seat). z.tape) at ∙ has) refl (ap (λ (z : Seat). z.visit) (sym at))
+            (λ d less. routine_turned sits.rules.shows.parts 3 0 id v' h (routine_at r w') g (sent_of g) (hand_is r w s id v sits g e) refl refl
+            (ap (λ (y : RoutineView). let z : RoutineView = record y { pending = None } in z) routine_is
+            ∙ ap (λ (p : Option Out). let z : RoutineView = record (routine_at r w c) { pending = p } in z) (sym (ap (option_map out_in) all)))
+            (λ b ne. ap (as_taped r w b) (sym (taped.other b ne)))
+            d less (other 3 0 t.word (4 * d + 4) (λ z. omega arith)) (other 0 back t.home (2 * d + 1) (λ z. omega arith))));
+        words = same_words 3 0 (tape_others 0 t.word) sits.rules.shows.words;
+        threads = record {
+          hand_is = shown_anew (λ (z : Seat). hand_of z.hand) t.seat w.hands th.hand_is id v' (hand c next) refl;
+          fills_are = shown_anew (λ (z : Seat). z.fills) t.seat w.fills th.fills_are id v' (readers_of w.routes m.channel) (ap (λ (l : List Route). readers_of l m.channel) (sym made.0));
+          news_are = shown_still (λ (z : Seat). z.news) t.seat w.news th.news_are id v' (ap (λ (z : Seat). z.news) (sym at));
+          clearing_is = shown_still (λ (z : Seat). z.clearing) t.seat w.clearing th.clearing_is id v' (ap (λ (z : Seat). z.clearing) (sym at));
+          token_is = shown_anew (λ (z : Seat). z.token) t.seat w.tokens th.token_is id v' m refl;
+        };
+      } in record {
+        world = w';
+        happens = happens;
+        rules = rules_after r w s id v sits w' refl refl grows v' 3 0 ((0, part.Tape x') ∷ out) gives (law.sound id c next m w w' happens sits.rules.sound)
+            (subst (Shows r w') (sym (spread_gives s 3 0 id v' out (omega (arith, wide_is r w s id v sits)) (seat_in r w s id v sits) 0 (part.Tape x') (omega (arith, deep_is r w s id v sits)))) shows)
+            (length-set s.homes 0 (some (part.Tape x'))) refl refl
+            record {
+              made = k.made;
+              joined = λ z. absurd (sits.live z);
+              calls = k.calls;
+              past = k.past;
+              closes = k.closes;
+              player = λ z. ((k.player z).0 ∙ sym (played-other w.routes w.tape m c written), (k.player z).1, (k.player z).2);
+            };
+      }

@@ -6,11 +6,16 @@ use Rattle.std.specs.Prelude.{slice_index, Some, None}
 use mathlib.Core.Option.{some}
 use lib.ListN.{get_elem?}
 use Rattle.atomic_table.specs.Table.{State as Table, stepped, keeps, takes, gives}
-use Rattle.cy_fuse.specs.Visitor.{VisitorView, arrived}
+use Rattle.cy_msg.specs.declared.token.Token.{Token}
+use Rattle.cy_fuse.specs.Visitor.{VisitorView, arrived, visited}
+use Rattle.cy_comp.specs.declared.call.Out.{Out}
+use Rattle.cy_comp.specs.Calls.{cursor_after}
 use Rattle.cy_comp.specs.Routine.{RoutineView}
+use Rattle.wake_core.specs.declared.phase.Phase.TheVariants.{Asked}
 use Rattle.wake_core.specs.Plain.{Plain, to_play_from}
 use Rattle.wake_core.specs.Events.{Acquires, Spends, Readies, Asks, Fills, Looks, Clears}
-use Rattle.wake_core.specs.Events.{Yields, Releases, Ticks, Closes}
+use Rattle.wake_core.specs.Events.{Yields, Releases, Ticks, Closes, Tapes, Sends}
+use Rattle.wake_core.specs.Events.{Fetches}
 use Rattle.cy_table.specs.declared.part.Part.{Part}
 use Rattle.cy_table.specs.declared.part.Part.TheVariants as part
 use Rattle.cy_table.specs.Layout.{clock_word, closing_word, hold_word, state_word, flag_word}
@@ -22,6 +27,8 @@ use Rattle.cy_table.specs.Steps.{Sits, Becomes, acquiring, failing, MayReady, re
 use Rattle.cy_table.specs.Steps.{asking, MayYield, next_state, yielding, MayRelease, releasing}
 use Rattle.cy_table.specs.Steps.{MaySpend, spending, looking, clearing_but, seeing, ticking}
 use Rattle.cy_table.specs.Steps.{heeding, closing_all, entering, visiting, filling}
+use Rattle.cy_table.specs.Steps.{with_message, MayTape, taping, MaySend, output_at, phase_sent}
+use Rattle.cy_table.specs.Steps.{sending, fetching}
 
 -- The swap of a hold word, by a thread with nothing in hand: the event Acquire where it was found
 -- free, and then the routine was at home; else no event.
@@ -145,3 +152,27 @@ pub record FillStores : Type 0 where
       → Becomes r (Fills id a.component j) w (stepped s (visitor_door a.component) 0 id
       ((visitor_slot a.component, part.Visitor (arrived a.visitor j v.token)) ∷ out)
       (filling v a.component j later) gives)
+
+-- The stores of the tape's door, when the slot has one message more: the event Tape, by the player
+-- or by a holder of the output that waits.
+pub record TapeStores : Type 0 where
+  pub play : (r : Rooms) (w : Plain) (s : Table Part Seat) (v : Seat) (x : TapeView) (t : Token)
+      (out : List (ℕ × Part)) → Sits r w s 0 v → v.tape ≡ Some x → MayTape v t
+      → Becomes r (Tapes t) w (stepped s tape_door 0 0
+      ((tape_slot, part.Tape (with_message x t)) ∷ out) (taping v t) gives)
+  pub send : (r : Rooms) (w : Plain) (s : Table Part Seat) (id : ℕ) (v : Seat) (g : Grip)
+      (x : TapeView) (o : Out) (out : List (ℕ × Part)) → Sits r w s id v → v.hand ≡ Some g
+      → v.tape ≡ Some x → g.routine.pending ≡ Some o → MaySend v g
+      → let t = output_at v.routes g.croutine x.messages o in
+      Becomes r (Sends id g.croutine (phase_sent g.phase) t) w (stepped s tape_door 0 id
+      ((tape_slot, part.Tape (with_message x t)) ∷ out) (sending v g t) gives)
+
+-- The store of a visitor's door after a fetch, with the visitor as it was: the event Fetch, whether
+-- a tuple was found or not.
+pub record FetchStores : Type 0 where
+  pub fetch : (r : Rooms) (w : Plain) (s : Table Part Seat) (id : ℕ) (v : Seat) (g : Grip)
+      (a : Visit) (out : List (ℕ × Part)) → Sits r w s id v → v.hand ≡ Some g → g.phase ≡ Asked
+      → v.visit ≡ Some a → a.component ≡ g.croutine
+      → Becomes r (Fetches id g.croutine) w (stepped s (visitor_door a.component) 0 id
+      ((visitor_slot a.component, part.Visitor a.visitor) ∷ out)
+      (fetching v g a.visitor (visited (cursor_after g.routine.calls) a.visitor)) gives)

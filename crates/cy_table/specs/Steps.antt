@@ -190,6 +190,9 @@ fetching v g x found =
 
 -- The stores of the tape's door. The message that was put there is owed to the readers of its
 -- channel.
+abbrev pub with_message : TapeView → Token → TapeView
+with_message x t = record x { messages = x.messages ++ t ∷ [] }
+
 abbrev pub owing : Seat → Token → Seat
 owing v t = record v { tape = None; fills = readers_of v.routes t.channel; token = t }
 

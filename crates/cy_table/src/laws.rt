@@ -4,7 +4,7 @@
 //! `specs/Rule`. Each stands on the law of its event, which keeps all that holds of a world.
 ghost use Rattle.cy_table.specs.Laws.{HoldSwaps, StateStores, HoldStores, FlagSwaps, StateLoads};
 ghost use Rattle.cy_table.specs.Laws.{FlagStores, ClockSteps, ClosingSteps, TapeDoorSwaps};
-ghost use Rattle.cy_table.specs.Laws.{VisitorDoorSwaps, FillStores};
+ghost use Rattle.cy_table.specs.Laws.{VisitorDoorSwaps, FillStores, TapeStores, FetchStores};
 
 use wake_core::laws;
 
@@ -81,4 +81,19 @@ pub fn fill_stores()
     ensures { FillStores }
 {
     laws::fill();
+}
+
+/// The stores of the tape's door put a message there.
+pub fn tape_stores()
+    ensures { TapeStores }
+{
+    laws::tape();
+    laws::send();
+}
+
+/// The store of a visitor's door after a fetch makes a call, or finds nothing.
+pub fn fetch_stores()
+    ensures { FetchStores }
+{
+    laws::fetch();
 }
