@@ -35,11 +35,11 @@ use Rattle.cy_table.proofs.Knowing.{Grows, nothing_grows, rules_after, seen_grow
 use Rattle.cy_table.proofs.Holding.{get_in, wide_is, deep_is, seat_is, seat_in, hand_is, in_phase, routine_known, croutine_known, mine}
 use Rattle.cy_table.proofs.Doors.{visitor_others, visitor_given, visitor_known}
 
-record IsRoute (routes : List Route) (c : ℕ) : Type 0 where
-  route : Route
-  at : slice_get routes c ≡ Some route
+pub record IsRoute (routes : List Route) (c : ℕ) : Type 0 where
+  pub route : Route
+  pub at : slice_get routes c ≡ Some route
 
-route_there : (routes : List Route) (c : ℕ) → c < length routes → IsRoute routes c
+pub route_there : (routes : List Route) (c : ℕ) → c < length routes → IsRoute routes c
 route_there routes c less = ⊎_elim
     (λ (p : (x : Route) × (c < length routes) × (slice_get routes c ≡ Some x) × (get_or routes c x ≡ x)). record { route = p.0; at = p.2 })
     (λ (p : (length routes ≤ c) × (slice_get routes c ≡ None)). absurd (omega (arith, less, p.0)))

@@ -214,7 +214,7 @@ module _ (r : Rooms) (w : Plain) (s : Table Part Seat) (id : ℕ) (v : Seat) (si
 
   -- A hold word is swapped.
   pub acquire_becomes : (c : ℕ) → v.hand ≡ None → c < length w.routes → (spread s).word (4 * c + 4) ≡ 0 → (out : List (ℕ × Part)) → KeepsSound (Acquires id c)
-      → (x : RoutineView) × (get_elem? s.homes (2 * c + 1) ≡ some (some (part.Routine x)))
+      → (x : RoutineView) × (get_elem? s.homes (2 * c + 1) ≡ some (some (part.Routine x))) × (x ≡ routine_at r w c)
       × Becomes r (Acquires id c) w (stepped s (4 * c + 4) 1 id out (acquiring v c x) (takes (2 * c + 1) (part.Routine x)))
   acquire_becomes c idle less free out keep =
       let t = spread s in
@@ -239,6 +239,7 @@ module _ (r : Rooms) (w : Plain) (s : Table Part Seat) (id : ℕ) (v : Seat) (si
       } in (
         x,
         home_is s (2 * c + 1) (some (some (part.Routine x))) (routine_back (t.home (2 * c + 1)) x home.shown),
+        refl,
         record {
           world = w';
           happens = happens;

@@ -48,7 +48,7 @@ pub seen_grows : (calls calls' : ℕ → List Call) (xs : List Seen) → ((c : �
 seen_grows calls calls' [] grow all = tt
 seen_grows calls calls' (x ∷ xs) grow all = (begins_then x.calls (calls x.component) (calls' x.component) all.0 (grow x.component), seen_grows calls calls' xs grow all.1)
 
-live_set : (l : List Seat) (j : ℕ) (v u : Seat) → get_elem? l j ≡ some v → total_live (set l j u) + v.live ≡ total_live l + u.live
+pub live_set : (l : List Seat) (j : ℕ) (v u : Seat) → get_elem? l j ≡ some v → total_live (set l j u) + v.live ≡ total_live l + u.live
 live_set [] j v u e = absurd (some-ne-none v (sym e))
 live_set (x ∷ xs) zero v u e = omega (arith, ap (λ (z : Seat). z.live) (some-injective x v e))
 live_set (x ∷ xs) (suc j) v u e = omega (arith, live_set xs j v u e)

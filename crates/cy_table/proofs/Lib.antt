@@ -8,3 +8,5 @@ pub mod Doors
 pub mod Filling
 pub mod Sending
 pub mod Fetching
+pub mod Benching
+pub mod Leaving

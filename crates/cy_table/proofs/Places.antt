@@ -40,7 +40,7 @@ module _ {X : Type 0} (g : Seat → X) (seat : ℕ → Seat) (old : ℕ → X) (
     | inr h ↦ other id y old j h ∙ (all j ∙ ap g (sym (other id v seat j h)))
   ]
 
-list_changed : {X : Type 0} (d : X) (xs : List X) (i : ℕ) (x : X) → i < length xs → (λ k. get_or (set xs i x) k d) ≡ set_at i x (λ k. get_or xs k d)
+pub list_changed : {X : Type 0} (d : X) (xs : List X) (i : ℕ) (x : X) → i < length xs → (λ k. get_or (set xs i x) k d) ≡ set_at i x (λ k. get_or xs k d)
 list_changed d xs i x less = fun_ext (λ k. elim (place k i) [
   | inl h ↦ rw h (get_or-set_same xs i x d less ∙ sym (there i x (λ k. get_or xs k d) i refl))
   | inr h ↦ get_or-set_other xs i k x d h ∙ sym (other i x (λ k. get_or xs k d) k h)

@@ -55,12 +55,12 @@ abbrev out_or : Out → Option Out → Out
 out_or d None = d
 out_or d (Some o) = o
 
-record IsShownBy (u : Option Token) (o : Out) : Type 0 where
-  from : Token
-  is : u ≡ Some from
-  shows : out_in from ≡ o
+pub record IsShownBy (u : Option Token) (o : Out) : Type 0 where
+  pub from : Token
+  pub is : u ≡ Some from
+  pub shows : out_in from ≡ o
 
-shown_by : (u : Option Token) (o : Out) → option_map out_in u ≡ Some o → IsShownBy u o
+pub shown_by : (u : Option Token) (o : Out) → option_map out_in u ≡ Some o → IsShownBy u o
 shown_by None o e = absurd (none-some o e)
 shown_by (Some t) o e = record { from = t; is = refl; shows = ap (out_or o) e }
 
@@ -78,6 +78,19 @@ abbrev as_taped : Rooms → Plain → ℕ → ℕ → RoutineView
 as_taped r w d n = record (routine_at r w d) { pending = option_map out_in (slice_get (outs_of w.routes w.calls d) n) }
 
 module _ (r : Rooms) (w : Plain) (s : Table Part Seat) (v : Seat) (sits : Sits r w s 0 v) where
+  unwritten_known : (m : Token) → MayTape v m → writes_from 0 w.routes m.channel ≡ None
+  unwritten_known m may = ap (λ (l : List Route). writes_from 0 l m.channel) (sym ((mine r w s 0 v sits).made sits.live).0) ∙ may.unwritten
+
+  -- The player's next message is the world's.
+  pub next_known : (m : Token) → MayTape v m → IsNext m w
+  next_known m may =
+      let k = mine r w s 0 v sits in
+      let un = unwritten_known m may in record {
+        unwritten = un;
+        next = may.next ∙ (ap (λ (l : List Token). length (on_channel m.channel l) + 1) (k.player refl).0 ∙ ap (λ (l : List Token). length l + 1) (keeps_played w.routes m.channel un w.tape));
+        within = subst (λ (l : List ℕ). m.seq ≤ slice_index l m.channel) (k.made sits.live).1 may.within;
+      }
+
   -- The player puts a message there.
   pub tape_becomes : (x : TapeView) (m : Token) → v.tape ≡ Some x → MayTape v m → (out : List (ℕ × Part)) → KeepsSound (Tapes m)
       → Becomes r (Tapes m) w (stepped s 3 0 0 ((0, part.Tape (with_message x m)) ∷ out) (taping v m) gives)
@@ -93,13 +106,9 @@ module _ (r : Rooms) (w : Plain) (s : Table Part Seat) (v : Seat) (sits : Sits r
       let k = mine r w s 0 v sits in
       let made = k.made sits.live in
       let player = k.player refl in
-      let un : writes_from 0 w.routes m.channel ≡ None = ap (λ (l : List Route). writes_from 0 l m.channel) (sym made.0) ∙ may.unwritten in
+      let un : writes_from 0 w.routes m.channel ≡ None = unwritten_known m may in
       let known : x ≡ tape_at r w = tape_known r w s 0 v sits x has in
-      let next : IsNext m w = record {
-        unwritten = un;
-        next = may.next ∙ (ap (λ (l : List Token). length (on_channel m.channel l) + 1) player.0 ∙ ap (λ (l : List Token). length l + 1) (keeps_played w.routes m.channel un w.tape));
-        within = subst (λ (l : List ℕ). m.seq ≤ slice_index l m.channel) made.1 may.within;
-      } in
+      let next : IsNext m w = next_known m may in
       let happens : Tapes m w w' = record { owes = owes_known r w s 0 v sits may.owes; next = next; now = may.now ∙ player.1; effect = refl } in
       let grows : Grows w.routes w.tape w'.tape w.clock w.clock w.calls w.calls w.closing w.closing 0 = record {
         rises = omega arith;

@@ -2,33 +2,35 @@
 -- what the step needs, then the table shows a world after it: the one that the event gives, or the
 -- same.
 use Rattle.std.specs.Prelude.{ℕ, ◌≡◌, ◌≢◌, ◌≤◌, ◌<◌, ◌==◌, List, [], ◌∷◌, ◌++◌, length}
-use Rattle.std.specs.Prelude.{slice_index, Some, None}
+use Rattle.std.specs.Prelude.{slice_index, slice_set, Some, None}
 use mathlib.Core.Option.{some}
 use lib.ListN.{get_elem?}
 use Rattle.atomic_table.specs.Table.{State as Table, stepped, keeps, takes, gives}
 use Rattle.cy_msg.specs.declared.token.Token.{Token}
+use Rattle.cy_msg.specs.declared.token.Tuple.{Tuple}
 use Rattle.cy_fuse.specs.Visitor.{VisitorView, arrived, visited}
 use Rattle.cy_comp.specs.declared.call.Out.{Out}
 use Rattle.cy_comp.specs.Calls.{cursor_after}
 use Rattle.cy_comp.specs.Routine.{RoutineView}
 use Rattle.wake_core.specs.declared.phase.Phase.TheVariants.{Asked}
-use Rattle.wake_core.specs.Plain.{Plain, to_play_from}
+use Rattle.wake_core.specs.Plain.{Plain, blank, to_play_from}
 use Rattle.wake_core.specs.Events.{Acquires, Spends, Readies, Asks, Fills, Looks, Clears}
 use Rattle.wake_core.specs.Events.{Yields, Releases, Ticks, Closes, Tapes, Sends}
 use Rattle.wake_core.specs.Events.{Fetches}
+use Rattle.wake_core.specs.Laws.{with_idle}
 use Rattle.cy_table.specs.declared.part.Part.{Part}
 use Rattle.cy_table.specs.declared.part.Part.TheVariants as part
 use Rattle.cy_table.specs.Layout.{clock_word, closing_word, hold_word, state_word, flag_word}
 use Rattle.cy_table.specs.Layout.{tape_door, visitor_door, tape_slot, routine_slot}
 use Rattle.cy_table.specs.Layout.{visitor_slot, number_of}
-use Rattle.cy_table.specs.Seats.{Seat, Grip, Visit, TapeView}
-use Rattle.cy_table.specs.Rule.{Rooms, Rules, tape_at, visitor_at}
+use Rattle.cy_table.specs.Seats.{Seat, Grip, Visit, TapeView, no_seat}
+use Rattle.cy_table.specs.Rule.{Rooms, Rules, IsEmpty, routine_at, visitor_at, tape_at}
 use Rattle.cy_table.specs.Steps.{Sits, Becomes, acquiring, failing, MayReady, readying, MayAsk}
 use Rattle.cy_table.specs.Steps.{asking, MayYield, next_state, yielding, MayRelease, releasing}
 use Rattle.cy_table.specs.Steps.{MaySpend, spending, looking, clearing_but, seeing, ticking}
 use Rattle.cy_table.specs.Steps.{heeding, closing_all, entering, visiting, filling}
 use Rattle.cy_table.specs.Steps.{with_message, MayTape, taping, MaySend, output_at, phase_sent}
-use Rattle.cy_table.specs.Steps.{sending, fetching}
+use Rattle.cy_table.specs.Steps.{sending, fetching, splitting, split_off, joining}
 
 -- The swap of a hold word, by a thread with nothing in hand: the event Acquire where it was found
 -- free, and then the routine was at home; else no event.
@@ -37,6 +39,7 @@ pub record HoldSwaps : Type 0 where
       (out : List (ℕ × Part)) → Sits r w s id v → v.hand ≡ None → c < length w.routes
       → slice_index s.words (hold_word c) ≡ 0
       → (x : RoutineView) × (get_elem? s.homes (routine_slot c) ≡ some (some (part.Routine x)))
+      × (x ≡ routine_at r w c)
       × Becomes r (Acquires id c) w (stepped s (hold_word c) 1 id out (acquiring v c x)
       (takes (routine_slot c) (part.Routine x)))
   pub held : (r : Rooms) (w : Plain) (s : Table Part Seat) (id c : ℕ) (v : Seat)
@@ -176,3 +179,36 @@ pub record FetchStores : Type 0 where
       → Becomes r (Fetches id g.croutine) w (stepped s (visitor_door a.component) 0 id
       ((visitor_slot a.component, part.Visitor a.visitor) ∷ out)
       (fetching v g a.visitor (visited (cursor_after g.routine.calls) a.visitor)) gives)
+
+-- A seat is split off the player's, and an empty one is joined into it. The world stays; of a thread
+-- that was joined it says nothing.
+pub record BenchSteps : Type 0 where
+  pub split : (r : Rooms) (w : Plain) (s : Table Part Seat) (v : Seat) → Sits r w s 0 v
+      → Rules r w record {
+        words = s.words;
+        homes = s.homes;
+        views = slice_set s.views 0 (splitting v) ++ split_off v ∷ [];
+      }
+  pub join : (r : Rooms) (w : Plain) (s : Table Part Seat) (v : Seat) (j : ℕ) (o : Seat)
+      → Sits r w s 0 v → j ≢ 0 → get_elem? s.views j ≡ some o → o.live ≡ 1 → IsEmpty o
+      → Rules r (with_idle j blank w) record {
+        words = s.words;
+        homes = s.homes;
+        views = slice_set (slice_set s.views 0 (joining v o)) j no_seat;
+      }
+
+-- What a seat shows leaves room for what it is to put: an output that waits, or the next message,
+-- on the tape; a fill at its reader; a call that a fetch makes among the component's calls.
+pub record RoomsLeft : Type 0 where
+  pub send : (r : Rooms) (w : Plain) (s : Table Part Seat) (id : ℕ) (v : Seat) (g : Grip) (o : Out)
+      → Sits r w s id v → v.hand ≡ Some g → g.routine.pending ≡ Some o → length w.tape < r.tape
+  pub play : (r : Rooms) (w : Plain) (s : Table Part Seat) (v : Seat) (t : Token)
+      → Sits r w s 0 v → MayTape v t → length w.tape < r.tape
+  pub fill : (r : Rooms) (w : Plain) (s : Table Part Seat) (id : ℕ) (v : Seat) (c j : ℕ)
+      (later : List (ℕ × ℕ)) → Sits r w s id v → v.fills ≡ (c, j) ∷ later → c < length w.routes
+      → length (w.arrivals c) < r.arrivals c
+  pub fetch : (r : Rooms) (w : Plain) (s : Table Part Seat) (id : ℕ) (v : Seat) (g : Grip)
+      (a : Visit) (f : Tuple × ℕ × ℕ) → Sits r w s id v → v.hand ≡ Some g → g.phase ≡ Asked
+      → v.visit ≡ Some a → a.component ≡ g.croutine
+      → visited (cursor_after g.routine.calls) a.visitor ≡ Some f
+      → length (w.calls g.croutine) < r.calls g.croutine

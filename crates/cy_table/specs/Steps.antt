@@ -1,5 +1,5 @@
 -- What each kind of step leaves of the seat that steps, and what the seat has to show before it.
-use Rattle.std.specs.Prelude.{ℕ, ◌+◌, ◌≡◌, ◌≢◌, ◌≤◌, ◌⊎◌, ◌==◌, Bool, true, List, [], ◌∷◌, ◌++◌}
+use Rattle.std.specs.Prelude.{ℕ, ◌+◌, ◌-◌, ◌≡◌, ◌≢◌, ◌≤◌, ◌⊎◌, ◌==◌, Bool, true, List, [], ◌∷◌, ◌++◌}
 use Rattle.std.specs.Prelude.{length, slice_get, slice_index, if◌then◌else◌, Option, Some, None}
 use Rattle.std.specs.Option.{option_map_or}
 use mathlib.Core.Option.{some}
@@ -22,7 +22,7 @@ use Rattle.wake_core.specs.declared.phase.Phase.TheVariants.{Fresh, Woken, Known
 use Rattle.wake_core.specs.declared.phase.Phase.TheVariants.{Running, Sending, Done}
 use Rattle.wake_core.specs.Events.{IsDue, is_waiting, phase_after_spend, state_after}
 use Rattle.cy_table.specs.declared.part.Part.{Part}
-use Rattle.cy_table.specs.Seats.{Seat, Grip, TapeView, Entry}
+use Rattle.cy_table.specs.Seats.{Seat, Grip, TapeView, Entry, idle_seat}
 use Rattle.cy_table.specs.Seats.Entry.{Busy, Found, Clock, Closing}
 use Rattle.cy_table.specs.Rule.{Rooms, Rules}
 
@@ -233,3 +233,14 @@ sent_of g = record g {
 
 abbrev pub sending : Seat → Grip → Token → Seat
 sending v g t = record (owing v t) { hand = Some (sent_of g) }
+
+-- A seat is split off the player's, with nothing in hand, nothing owed and no calls seen; and one is
+-- joined, whose calls seen are kept.
+abbrev pub splitting : Seat → Seat
+splitting v = record v { split = v.split + 1 }
+
+abbrev pub split_off : Seat → Seat
+split_off v = idle_seat v.routes v.counts [] 1
+
+abbrev pub joining : Seat → Seat → Seat
+joining v o = record v { seen = o.seen ++ v.seen; split = v.split - 1 }

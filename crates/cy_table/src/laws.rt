@@ -5,6 +5,7 @@
 ghost use Rattle.cy_table.specs.Laws.{HoldSwaps, StateStores, HoldStores, FlagSwaps, StateLoads};
 ghost use Rattle.cy_table.specs.Laws.{FlagStores, ClockSteps, ClosingSteps, TapeDoorSwaps};
 ghost use Rattle.cy_table.specs.Laws.{VisitorDoorSwaps, FillStores, TapeStores, FetchStores};
+ghost use Rattle.cy_table.specs.Laws.{BenchSteps, RoomsLeft};
 
 use wake_core::laws;
 
@@ -96,4 +97,18 @@ pub fn fetch_stores()
     ensures { FetchStores }
 {
     laws::fetch();
+}
+
+/// A seat that is split off, or joined, changes nothing.
+pub fn bench_steps()
+    ensures { BenchSteps }
+{
+    laws::threads();
+}
+
+/// What a seat is to put has room.
+pub fn rooms_left()
+    ensures { RoomsLeft }
+{
+    laws::room();
 }
