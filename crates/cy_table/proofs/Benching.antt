@@ -1,5 +1,5 @@
 -- Seats come and go.
-use Rattle.std.proofs.Common.{ℕ, zero, suc, ◌+◌, ◌-◌, ◌≡◌, ◌≢◌, ◌≤◌, ◌<◌, ◌⊎◌, Bool, true, false, refl, sym, ◌∙◌, ap, subst, ⊎_elim, List, [], ◌∷◌, ◌++◌, length, length-set, take, set, get_or, Option, Some, None, arith}
+use Rattle.std.proofs.Common.{ℕ, zero, suc, ◌+◌, ◌-◌, ◌≡◌, ◌≢◌, ◌≤◌, refl, sym, ◌∙◌, ap, subst, ⊎_elim, List, [], ◌∷◌, ◌++◌, set, get_or, arith}
 use mathlib.Core.Bool.{false≢true}
 use mathlib.Core.Option.{some, some-ne-none, some-injective}
 use lib.ListN.{get_elem?}
@@ -9,16 +9,15 @@ use Rattle.cy_msg.specs.declared.token.Token.{Token}
 use Rattle.cy_fuse.specs.Visitor.{VisitorView}
 use Rattle.cy_comp.specs.declared.call.Call.{Call}
 use Rattle.cy_comp.specs.Routine.{RoutineView}
-use Rattle.wake_core.specs.declared.phase.Hand.{Hand}
 use Rattle.wake_core.specs.Run.{set_at}
 use Rattle.wake_core.specs.Plain.{Plain, blank}
 use Rattle.wake_core.specs.Sound.{Sound}
 use Rattle.wake_core.specs.Laws.{IsIdle, with_idle}
 use Rattle.cy_table.specs.declared.part.Part.{Part}
 use Rattle.cy_table.specs.Seats.{Seat, Seen, TapeView, no_seat}
-use Rattle.cy_table.specs.Rule.{Rooms, Rules, Knows, IsEmpty, AreSeen, Shows, ShowsParts, ShowsThreads, Spread, spread, routine_of, visitor_of, hand_of, total_live}
+use Rattle.cy_table.specs.Rule.{Rooms, Rules, Knows, IsEmpty, AreSeen, ShowsParts, Spread, spread, routine_of, visitor_of, hand_of, total_live}
 use Rattle.cy_table.specs.Steps.{Sits, splitting, split_off, joining}
-use Rattle.cy_table.proofs.Places.{place, there, other, unseen, within, seated, shown_anew, list_changed}
+use Rattle.cy_table.proofs.Places.{place, unseen, within, seated, shown_anew, list_changed}
 use Rattle.cy_table.proofs.Keeping.{stays}
 use Rattle.cy_table.proofs.Knowing.{live_set}
 use Rattle.cy_table.proofs.Holding.{seat_is, seat_in, mine}
@@ -34,7 +33,7 @@ parts_reseated sh seat tape hand visit = record {
 }
 
 -- A seat more behind the others shows what no seat shows.
-snoc_seen : {X : Type 0} (g : Seat → X) (xs : List Seat) (b : Seat) → g b ≡ g no_seat → (k : ℕ) → g (get_or (xs ++ b ∷ []) k no_seat) ≡ g (get_or xs k no_seat)
+pub snoc_seen : {X : Type 0} (g : Seat → X) (xs : List Seat) (b : Seat) → g b ≡ g no_seat → (k : ℕ) → g (get_or (xs ++ b ∷ []) k no_seat) ≡ g (get_or xs k no_seat)
 snoc_seen g [] b e zero = e
 snoc_seen g [] b e (suc k) = refl
 snoc_seen g (x ∷ xs) b e zero = refl
@@ -44,7 +43,7 @@ live_snoc : (l : List Seat) (b : Seat) → total_live (l ++ b ∷ []) ≡ total_
 live_snoc [] b = omega arith
 live_snoc (x ∷ xs) b = omega (arith, live_snoc xs b)
 
-live_le : (l : List Seat) (j : ℕ) (v : Seat) → get_elem? l j ≡ some v → v.live ≤ total_live l
+pub live_le : (l : List Seat) (j : ℕ) (v : Seat) → get_elem? l j ≡ some v → v.live ≤ total_live l
 live_le [] j v e = absurd (some-ne-none v (sym e))
 live_le (x ∷ xs) zero v e = omega (arith, ap (λ (z : Seat). z.live) (some-injective x v e))
 live_le (x ∷ xs) (suc j) v e = omega (arith, live_le xs j v e)
@@ -53,7 +52,7 @@ seen_both : (calls : ℕ → List Call) (xs ys : List Seen) → AreSeen calls xs
 seen_both calls [] ys a b = b
 seen_both calls (x ∷ xs) ys a b = (a.0, seen_both calls xs ys a.1 b)
 
-same_seat : (xs : List Seat) (j : ℕ) (a b : Seat) → get_elem? xs j ≡ some a → get_elem? xs j ≡ some b → a ≡ b
+pub same_seat : (xs : List Seat) (j : ℕ) (a b : Seat) → get_elem? xs j ≡ some a → get_elem? xs j ≡ some b → a ≡ b
 same_seat xs j a b p q = some-injective a b (sym p ∙ q)
 
 -- Seats that only changed their number of seats split off, and what they saw.

@@ -1,5 +1,5 @@
 -- What the slots show after a step on a door, and the swaps of doors.
-use Rattle.std.proofs.Common.{ℕ, ◌+◌, ◌*◌, ◌≡◌, ◌≢◌, ◌<◌, ◌⊎◌, refl, sym, ◌∙◌, ap, subst, inl, inr, List, [], ◌∷◌, ◌++◌, length, length-set, Option, Some, None, arith}
+use Rattle.std.proofs.Common.{ℕ, ◌+◌, ◌*◌, ◌≡◌, ◌≢◌, ◌<◌, refl, sym, ◌∙◌, ap, subst, inl, inr, List, length, length-set, Option, Some, None, arith}
 use Rattle.std.proofs.lemmas.Option.{none-some}
 use mathlib.Core.Option.{some, none}
 use lib.ListN.{get_elem?}
@@ -10,8 +10,8 @@ use Rattle.wake_core.specs.Run.{set_at}
 use Rattle.wake_core.specs.Plain.{Plain}
 use Rattle.cy_table.specs.declared.part.Part.{Part}
 use Rattle.cy_table.specs.declared.part.Part.TheVariants as part
-use Rattle.cy_table.specs.Seats.{Seat, Grip, Visit, TapeView}
-use Rattle.cy_table.specs.Rule.{Rooms, Rules, Spread, Home, spread, routine_in, visitor_in, tape_in, routine_of, visitor_of, Kept, Shows, ShowsParts, routine_at, visitor_at, tape_at}
+use Rattle.cy_table.specs.Seats.{Seat, Visit, TapeView}
+use Rattle.cy_table.specs.Rule.{Rooms, Rules, Spread, Home, spread, routine_in, visitor_in, tape_in, routine_of, visitor_of, Kept, Shows, ShowsParts, visitor_at, tape_at}
 use Rattle.cy_table.specs.Steps.{Sits, entering, visiting}
 use Rattle.cy_table.proofs.Places.{place, there, other, home_is, after, spread_takes}
 use Rattle.cy_table.proofs.Keeping.{at_home, is_shut, has_it, taken, given}
@@ -100,7 +100,7 @@ abbrev visitor_or : VisitorView → Option VisitorView → VisitorView
 visitor_or d None = d
 visitor_or d (Some x) = x
 
-tape_back : (h : Home) (x : TapeView) → tape_in h ≡ Some x → h ≡ some (some (part.Tape x))
+pub tape_back : (h : Home) (x : TapeView) → tape_in h ≡ Some x → h ≡ some (some (part.Tape x))
 tape_back none x e = absurd (none-some x e)
 tape_back (some none) x e = absurd (none-some x e)
 tape_back (some (some part.Away)) x e = absurd (none-some x e)
@@ -108,7 +108,7 @@ tape_back (some (some (part.Routine y))) x e = absurd (none-some x e)
 tape_back (some (some (part.Visitor y))) x e = absurd (none-some x e)
 tape_back (some (some (part.Tape y))) x e = ap (λ (o : Option TapeView). some (some (part.Tape (tape_or x o)))) e
 
-visitor_back : (h : Home) (x : VisitorView) → visitor_in h ≡ Some x → h ≡ some (some (part.Visitor x))
+pub visitor_back : (h : Home) (x : VisitorView) → visitor_in h ≡ Some x → h ≡ some (some (part.Visitor x))
 visitor_back none x e = absurd (none-some x e)
 visitor_back (some none) x e = absurd (none-some x e)
 visitor_back (some (some part.Away)) x e = absurd (none-some x e)
@@ -144,9 +144,9 @@ module _ (r : Rooms) (w : Plain) (s : Table Part Seat) (id : ℕ) (v : Seat) (si
         home_is s 0 (some (some (part.Tape x))) (tape_back (t.home 0) x home.shown),
         refl,
         rules_after r w s id v sits w refl refl (nothing_grows w.routes w.tape w.clock w.calls w.closing id) v' 3 1 out (takes 0 (part.Tape x)) sits.rules.sound
-        (subst (Shows r w) (sym (spread_takes s 3 1 id v' out (omega (arith, wide_is r w s id v sits)) (seat_in r w s id v sits) 0 (part.Tape x) (omega (arith, deep_is r w s id v sits)))) shows)
-        (length-set s.homes 0 none) refl refl
-        record { made = k.made; joined = λ z. absurd (sits.live z); calls = k.calls; past = k.past; closes = k.closes; player = k.player },
+            (subst (Shows r w) (sym (spread_takes s 3 1 id v' out (omega (arith, wide_is r w s id v sits)) (seat_in r w s id v sits) 0 (part.Tape x) (omega (arith, deep_is r w s id v sits)))) shows)
+            (length-set s.homes 0 none) refl refl
+            record { made = k.made; joined = λ z. absurd (sits.live z); calls = k.calls; past = k.past; closes = k.closes; player = k.player },
       )
 
   pub enter_visitor : (c : ℕ) → c < length w.routes → v.visit ≡ None → (spread s).word (4 * c + 7) ≡ 0 → (out : List (ℕ × Part))
@@ -170,9 +170,9 @@ module _ (r : Rooms) (w : Plain) (s : Table Part Seat) (id : ℕ) (v : Seat) (si
         home_is s (2 * c + 2) (some (some (part.Visitor x))) (visitor_back (t.home (2 * c + 2)) x home.shown),
         refl,
         rules_after r w s id v sits w refl refl (nothing_grows w.routes w.tape w.clock w.calls w.closing id) v' i 1 out (takes (2 * c + 2) (part.Visitor x)) sits.rules.sound
-        (subst (Shows r w) (sym (spread_takes s i 1 id v' out (omega (arith, wide_is r w s id v sits, less)) (seat_in r w s id v sits) (2 * c + 2) (part.Visitor x) (omega (arith, deep_is r w s id v sits, less)))) shows)
-        (length-set s.homes (2 * c + 2) none) refl refl
-        record { made = k.made; joined = λ z. absurd (sits.live z); calls = k.calls; past = k.past; closes = k.closes; player = k.player },
+            (subst (Shows r w) (sym (spread_takes s i 1 id v' out (omega (arith, wide_is r w s id v sits, less)) (seat_in r w s id v sits) (2 * c + 2) (part.Visitor x) (omega (arith, deep_is r w s id v sits, less)))) shows)
+            (length-set s.homes (2 * c + 2) none) refl refl
+            record { made = k.made; joined = λ z. absurd (sits.live z); calls = k.calls; past = k.past; closes = k.closes; player = k.player },
       )
 
   -- It was found shut.

@@ -1,5 +1,5 @@
 -- A visitor's door is left after a fetch.
-use Rattle.std.proofs.Common.{ℕ, ◌+◌, ◌-◌, ◌*◌, ◌≡◌, ◌≢◌, ◌≤◌, ◌<◌, ◌⊎◌, refl, sym, ◌∙◌, ap, subst, inl, inr, ⊎_elim, List, [], ◌∷◌, ◌++◌, length, length-set, length-append, take, get_or, slice_get, option_map, Option, Some, None, arith}
+use Rattle.std.proofs.Common.{ℕ, ◌+◌, ◌-◌, ◌*◌, ◌≡◌, ◌≤◌, ◌<◌, refl, sym, ◌∙◌, ap, subst, ⊎_elim, List, [], ◌∷◌, ◌++◌, length, length-set, length-append, take, get_or, slice_get, option_map, Option, Some, None, arith}
 use Rattle.std.proofs.lemmas.Option.{slice_get_cases}
 use Rattle.std.proofs.Math.Seq.{take-length}
 use Rattle.std.specs.Option.{option_map_or}
@@ -18,7 +18,6 @@ use Rattle.wake_core.specs.declared.phase.Phase.TheVariants.{Asked, Empty, Runni
 use Rattle.wake_core.specs.Run.{set_at}
 use Rattle.wake_core.specs.Plain.{Plain, hand, outs_of, made_of, taped_of, unsent_of}
 use Rattle.wake_core.specs.Events.{Fetches, next_call, after_none, after_call, after_fetch}
-use Rattle.wake_core.specs.Sound.{Consistent}
 use Rattle.wake_core.specs.Fields.{queue_of}
 use Rattle.wake_core.specs.Laws.{KeepsSound, KeepsCalls}
 use Rattle.wake_core.proofs.Fetched.{call_of, next_visited}
@@ -26,10 +25,10 @@ use Rattle.wake_core.proofs.Shown.{asked_unsent}
 use Rattle.wake_core.proofs.Outputs.{outs_push, next_out}
 use Rattle.cy_table.specs.declared.part.Part.{Part}
 use Rattle.cy_table.specs.declared.part.Part.TheVariants as part
-use Rattle.cy_table.specs.Seats.{Seat, Seen, Grip, Visit}
-use Rattle.cy_table.specs.Rule.{Rooms, Rules, Home, Kept, Shows, spread, routine_in, routine_of, kind_at, routine_at, visitor_at, out_in}
+use Rattle.cy_table.specs.Seats.{Seat, Grip, Visit}
+use Rattle.cy_table.specs.Rule.{Rooms, Home, Shows, spread, routine_of, kind_at, routine_at, visitor_at, out_in}
 use Rattle.cy_table.specs.Steps.{Sits, Becomes, called, fetching}
-use Rattle.cy_table.proofs.Places.{place, there, other, after, spread_gives}
+use Rattle.cy_table.proofs.Places.{there, other, after, spread_gives}
 use Rattle.cy_table.proofs.Parts.{routine_beside, routine_turned, same_words, threads_hand}
 use Rattle.cy_table.proofs.Knowing.{Grows, nothing_grows, rules_after, seen_grows}
 use Rattle.cy_table.proofs.Holding.{get_in, wide_is, deep_is, seat_is, seat_in, hand_is, in_phase, routine_known, croutine_known, mine}

@@ -1,5 +1,5 @@
 -- A visitor's door is left after a fill.
-use Rattle.std.proofs.Common.{ℕ, ◌+◌, ◌-◌, ◌*◌, ◌≡◌, ◌≢◌, ◌≤◌, ◌<◌, ◌⊎◌, ◌==◌, Bool, true, refl, sym, ◌∙◌, ap, ap₂, subst, inl, inr, List, [], ◌∷◌, ◌++◌, length, length-set, length-append, cond, map, sum, slice_get, Option, Some, None, arith}
+use Rattle.std.proofs.Common.{ℕ, ◌+◌, ◌-◌, ◌*◌, ◌≡◌, ◌<◌, ◌==◌, refl, sym, ◌∙◌, ap, ap₂, subst, List, [], ◌∷◌, ◌++◌, length, length-set, length-append, cond, Some, arith}
 use mathlib.Core.Option.{some}
 use Rattle.atomic_table.specs.Table.{State as Table, stepped, gives}
 use Rattle.cy_msg.specs.declared.token.Token.{Token}
@@ -11,8 +11,8 @@ use Rattle.wake_core.specs.Events.{Fills, after_fill}
 use Rattle.wake_core.specs.Laws.{KeepsSound}
 use Rattle.cy_table.specs.declared.part.Part.{Part}
 use Rattle.cy_table.specs.declared.part.Part.TheVariants as part
-use Rattle.cy_table.specs.Seats.{Seat, Grip, Visit}
-use Rattle.cy_table.specs.Rule.{Rooms, Rules, Home, Shows, spread, routine_of, hand_of, routine_at, visitor_at}
+use Rattle.cy_table.specs.Seats.{Seat, Visit}
+use Rattle.cy_table.specs.Rule.{Rooms, Home, Shows, spread, routine_of, hand_of, routine_at, visitor_at}
 use Rattle.cy_table.specs.Steps.{Sits, Becomes, filling}
 use Rattle.cy_table.proofs.Places.{there, other, shown_still, shown_anew, after, spread_gives}
 use Rattle.cy_table.proofs.Parts.{routine_beside, same_words}

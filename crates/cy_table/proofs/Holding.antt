@@ -14,23 +14,20 @@ use Rattle.cy_comp.specs.declared.state.State.TheVariants.{Ready, DataWait, Slee
 use Rattle.cy_comp.specs.Calls.{last_outcome, held_until}
 use Rattle.cy_comp.specs.Routine.{RoutineView}
 use Rattle.wake_core.specs.declared.route.Route.{Route}
-use Rattle.wake_core.specs.declared.phase.Hand.{Hand}
 use Rattle.wake_core.specs.declared.phase.Phase.{Phase}
 use Rattle.wake_core.specs.declared.phase.Phase.TheVariants.{Fresh, Woken, Known, Asked, Empty, Running, Sending, Done}
 use Rattle.wake_core.specs.Run.{set_at}
 use Rattle.wake_core.specs.Plain.{Plain, hand, last_of, unsent_of}
-use Rattle.wake_core.specs.Events.{IsFree, IsDue, OwesNothing, state_after, Acquires, Readies, Asks, Yields, MayYield as MayYieldIn, Releases, after_acquire, after_ready, after_ask, after_yield, after_release}
-use Rattle.wake_core.specs.Sound.{Sound}
+use Rattle.wake_core.specs.Events.{IsFree, IsDue, OwesNothing, state_after, Acquires, Readies, Asks, Yields, MayYield as MayYieldIn, Releases, after_acquire, after_release}
 use Rattle.wake_core.specs.Laws.{KeepsSound}
 use Rattle.cy_table.specs.declared.part.Part.{Part}
 use Rattle.cy_table.specs.declared.part.Part.TheVariants as part
 use Rattle.cy_table.specs.Layout.{number_of}
 use Rattle.cy_table.specs.Seats.{Seat, Grip, Entry}
 use Rattle.cy_table.specs.Seats.Entry.{Busy, Found}
-use Rattle.cy_table.specs.Rule.{Rooms, Rules, Knows, Shows, Home, AtHome, spread, routine_in, routine_of, hand_of, kind_at, routine_at, out_in}
+use Rattle.cy_table.specs.Rule.{Rooms, Rules, Knows, Shows, Home, spread, routine_in, routine_of, hand_of, routine_at, out_in}
 use Rattle.cy_table.specs.Steps.{Sits, Becomes, acquiring, failing, put_in, MayReady, readying, MayAsk, asking, OwesNone, next_in, next_state, MayYield, yielding, MayRelease, releasing}
-use Rattle.cy_table.specs.Laws.{HoldSwaps, StateStores, HoldStores}
-use Rattle.cy_table.proofs.Places.{there, other, unseen, within, seated, word_is, is_word, home_is, after, spread_keeps, spread_takes, spread_gives}
+use Rattle.cy_table.proofs.Places.{there, other, unseen, within, seated, home_is, after, spread_keeps, spread_takes, spread_gives}
 use Rattle.cy_table.proofs.Keeping.{at_home, is_shut, has_it}
 use Rattle.cy_table.proofs.Parts.{routine_here, not_held, DoorsStay, OthersStay, same_words, parts_same, parts_turned, parts_taken, parts_given, state_stored, state_doors, hold_others, threads_hand, threads_still}
 use Rattle.cy_table.proofs.Knowing.{nothing_grows, rules_after}
@@ -43,7 +40,7 @@ abbrev routine_or : RoutineView → Option RoutineView → RoutineView
 routine_or d None = d
 routine_or d (Some x) = x
 
-routine_back : (h : Home) (x : RoutineView) → routine_in h ≡ Some x → h ≡ some (some (part.Routine x))
+pub routine_back : (h : Home) (x : RoutineView) → routine_in h ≡ Some x → h ≡ some (some (part.Routine x))
 routine_back none x e = absurd (none-some x e)
 routine_back (some none) x e = absurd (none-some x e)
 routine_back (some (some part.Away)) x e = absurd (none-some x e)
@@ -56,7 +53,6 @@ due_later Ready a b le due = due
 due_later DataWait a b le due = due
 due_later (Sleep until) a b le due = omega (arith, le, due)
 due_later Finished a b le due = due
-
 
 -- The outcome of the last call of a component.
 last_here : (calls : List Call) (o : Option Route) → o ≢ None
@@ -197,9 +193,11 @@ module _ (r : Rooms) (w : Plain) (s : Table Part Seat) (id : ℕ) (v : Seat) (si
       (λ (q : ((g.phase ≡ Running) × (held_until (last_outcome g.routine.kind g.routine.calls) ≡ None → g.routine.pending ≡ None)) ⊎ ((g.phase ≡ Sending) × (g.routine.pending ≡ None))). inr (⊎_elim
       (λ (p : (g.phase ≡ Running) × (held_until (last_outcome g.routine.kind g.routine.calls) ≡ None → g.routine.pending ≡ None)).
       let last = last_known g e in let some_call = sits.rules.sound.consistent.held.called id g.croutine (in_phase g Running e p.0) in
-      inl (in_phase g Running e p.0,
-      ap (option_map state_after) last ∙ (mapped_or (last_outcome g.routine.kind g.routine.calls) g.routine.state (λ n. some_call (last ∙ n)) ∙ ap Some (sym (ap (λ f. next_in f g.routine) p.0))),
-      λ h. none_unsent g e (p.1 (ap held_until (sym last) ∙ h))))
+      inl (
+        in_phase g Running e p.0,
+        ap (option_map state_after) last ∙ (mapped_or (last_outcome g.routine.kind g.routine.calls) g.routine.state (λ n. some_call (last ∙ n)) ∙ ap Some (sym (ap (λ f. next_in f g.routine) p.0))),
+        λ h. none_unsent g e (p.1 (ap held_until (sym last) ∙ h)),
+      ))
       (λ (p : (g.phase ≡ Sending) × (g.routine.pending ≡ None)). inr (in_phase g Sending e p.0, ap (λ f. next_in f g.routine) p.0, none_unsent g e p.1))
       q))
       may.sent

@@ -1,5 +1,5 @@
 -- What lies behind a word, after a step.
-use Rattle.std.proofs.Common.{ℕ, ◌≡◌, ◌≢◌, ◌⊎◌, refl, sym, ◌∙◌, ap, subst, inl, inr, ⊎_elim, Option, Some, None, arith}
+use Rattle.std.proofs.Common.{ℕ, ◌≡◌, ◌≢◌, sym, ◌∙◌, ap, inl, inr, ⊎_elim, Option, Some, None, arith}
 use Rattle.std.proofs.lemmas.Option.{none-some}
 use Rattle.cy_table.specs.Rule.{AtHome, OutWith, Kept}
 use Rattle.cy_table.proofs.Places.{place}

@@ -1,5 +1,5 @@
 -- What the seats know after a step, and the rule after it.
-use Rattle.std.proofs.Common.{ℕ, zero, suc, ◌+◌, ◌≡◌, ◌≢◌, ◌≤◌, ◌<◌, ◌⊎◌, Bool, true, refl, sym, ◌∙◌, ap, ap₂, subst, ⊎_elim, List, [], ◌∷◌, length, take, set, length-set, Option, Some, None, arith}
+use Rattle.std.proofs.Common.{ℕ, zero, suc, ◌+◌, ◌≡◌, ◌≢◌, ◌≤◌, Bool, true, refl, sym, ◌∙◌, ap, ap₂, subst, ⊎_elim, List, [], ◌∷◌, length, take, set, length-set, arith}
 use Rattle.std.proofs.Math.Seq.{take-length}
 use mathlib.Core.Option.{some, some-ne-none, some-injective}
 use lib.ListN.{get_elem?}
@@ -80,7 +80,7 @@ module _ (r : Rooms) (w : Plain) (s : Table Part Seat) (id : ℕ) (v : Seat) (si
       let total : total_live (set s.views id v') ≡ total_live s.views = omega (arith, sum, live) in
       ⊎_elim
       (λ (z : (0 ≡ id) × (v' ≡ u)). let k = sits.rules.counted v (subst (λ m. get_elem? s.views m ≡ some v) (sym z.0) sits.at) in
-        (ap (λ (y : Seat). y.live) (sym z.1) ∙ (live ∙ k.0), total ∙ (k.1 ∙ ap (λ m. m + 1) (sym split ∙ ap (λ (y : Seat). y.split) z.1))))
+      (ap (λ (y : Seat). y.live) (sym z.1) ∙ (live ∙ k.0), total ∙ (k.1 ∙ ap (λ m. m + 1) (sym split ∙ ap (λ (y : Seat). y.split) z.1))))
       (λ (z : (0 ≢ id) × (get_elem? s.views 0 ≡ some u)). let k = sits.rules.counted u z.1 in (k.0, total ∙ k.1))
       (at_set s.views id 0 v' u e)
 

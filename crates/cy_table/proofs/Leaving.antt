@@ -1,5 +1,5 @@
 -- There is room for what a seat is to put.
-use Rattle.std.proofs.Common.{ℕ, ◌+◌, ◌≡◌, ◌≤◌, ◌<◌, Bool, true, refl, sym, ◌∙◌, ap, List, [], ◌∷◌, length, option_map, Option, Some, None, arith}
+use Rattle.std.proofs.Common.{ℕ, ◌≡◌, ◌<◌, sym, ◌∙◌, ap, List, ◌∷◌, length, option_map, Some, arith}
 use Rattle.atomic_table.specs.Table.{State as Table}
 use Rattle.cy_msg.specs.declared.token.Token.{Token}
 use Rattle.cy_msg.specs.declared.token.Tuple.{Tuple}
@@ -17,7 +17,7 @@ use Rattle.cy_table.specs.Seats.{Seat, Grip, Visit}
 use Rattle.cy_table.specs.Rule.{Rooms}
 use Rattle.cy_table.specs.Steps.{Sits, MayTape}
 use Rattle.cy_table.proofs.Holding.{seat_is, in_phase, routine_known, croutine_known}
-use Rattle.cy_table.proofs.Sending.{IsShownBy, shown_by, next_known}
+use Rattle.cy_table.proofs.Sending.{shown_by, next_known}
 use Rattle.cy_table.proofs.Fetching.{route_there, next_is}
 
 pub play_room : (r : Rooms) (w : Plain) (s : Table Part Seat) (v : Seat) → Sits r w s 0 v → RoomLaws → (t : Token) → MayTape v t → length w.tape < r.tape

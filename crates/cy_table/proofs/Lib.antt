@@ -10,3 +10,4 @@ pub mod Sending
 pub mod Fetching
 pub mod Benching
 pub mod Leaving
+pub mod Lying

@@ -1,5 +1,5 @@
 -- What the slots, the words and the seats show after a step, part by part.
-use Rattle.std.proofs.Common.{ℕ, ◌+◌, ◌*◌, ◌≡◌, ◌≢◌, ◌⊎◌, ◌<◌, Bool, true, false, cond, refl, sym, ◌∙◌, ap, subst, inl, inr, ⊎_elim, Option, Some, None, List, arith}
+use Rattle.std.proofs.Common.{ℕ, ◌+◌, ◌*◌, ◌≡◌, ◌≢◌, ◌<◌, Bool, cond, refl, sym, ◌∙◌, ap, subst, inl, inr, Option, Some, None, List, arith}
 use Rattle.std.proofs.lemmas.Bool.Decides.{eqb_tells}
 use Rattle.std.proofs.lemmas.Option.{none-some}
 use mathlib.Core.Option.{some, none}
@@ -12,7 +12,7 @@ use Rattle.wake_core.specs.declared.phase.Phase.{Phase}
 use Rattle.wake_core.specs.Run.{set_at}
 use Rattle.wake_core.specs.Plain.{hand}
 use Rattle.cy_table.specs.declared.part.Part.TheVariants as part
-use Rattle.cy_table.specs.Layout.{number_of, yes_or_no}
+use Rattle.cy_table.specs.Layout.{number_of}
 use Rattle.cy_table.specs.Seats.{Seat, Grip, Visit, TapeView}
 use Rattle.cy_table.specs.Rule.{Spread, Home, routine_in, visitor_in, tape_in, routine_of, visitor_of, hand_of, Kept, ShowsParts, ShowsWords, ShowsThreads}
 use Rattle.cy_table.proofs.Places.{place, there, other, unseen, shown_still, shown_anew, after}

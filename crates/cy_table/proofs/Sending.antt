@@ -1,5 +1,5 @@
 -- The tape's door is left after a message was put there.
-use Rattle.std.proofs.Common.{ℕ, ◌+◌, ◌-◌, ◌*◌, ◌≡◌, ◌≢◌, ◌≤◌, ◌<◌, ◌⊎◌, ◌==◌, Bool, true, false, refl, sym, ◌∙◌, ap, ap₂, subst, inl, inr, ⊎_elim, List, [], ◌∷◌, ◌++◌, length, length-set, take, filter, cond, not, is_some, slice_get, slice_index, option_map, Option, Some, None, arith}
+use Rattle.std.proofs.Common.{ℕ, ◌+◌, ◌*◌, ◌≡◌, ◌≤◌, ◌<◌, ◌==◌, Bool, true, false, refl, sym, ◌∙◌, ap, ap₂, subst, inl, inr, ⊎_elim, List, [], ◌∷◌, ◌++◌, length, length-set, cond, not, is_some, slice_get, slice_index, option_map, Option, Some, None, arith}
 use Rattle.std.proofs.lemmas.Bool.Decides.{eqb_tells}
 use Rattle.std.proofs.lemmas.Option.{none-some}
 use Rattle.std.proofs.Math.Seq.{take-length}
@@ -9,7 +9,6 @@ use Rattle.atomic_table.specs.Table.{State as Table, stepped, gives}
 use Rattle.cy_msg.specs.declared.token.Token.{Token}
 use Rattle.cy_msg.specs.Tokens.{on_channel}
 use Rattle.cy_comp.specs.declared.call.Out.{Out}
-use Rattle.cy_comp.specs.declared.state.State.{State}
 use Rattle.cy_comp.specs.declared.state.State.TheVariants.{Ready}
 use Rattle.cy_comp.specs.Calls.{last_outcome, held_until, output}
 use Rattle.cy_comp.specs.Routine.{RoutineView}
@@ -17,7 +16,7 @@ use Rattle.wake_core.specs.declared.route.Route.{Route}
 use Rattle.wake_core.specs.declared.phase.Phase.{Phase}
 use Rattle.wake_core.specs.declared.phase.Phase.TheVariants.{Known, Running}
 use Rattle.wake_core.specs.Run.{set_at, readers_of, writes_from, played_of}
-use Rattle.wake_core.specs.Plain.{Plain, hand, outs_of, taped_of, unsent_of}
+use Rattle.wake_core.specs.Plain.{Plain, hand, outs_of, unsent_of}
 use Rattle.wake_core.specs.Events.{IsNext, Tapes, Sends, MaySend as MaySendIn, after_tape, after_send}
 use Rattle.wake_core.specs.Sound.{Consistent}
 use Rattle.wake_core.specs.Laws.{KeepsSound, SendLaws}
@@ -27,12 +26,12 @@ use Rattle.wake_core.proofs.Writers.{writes_own}
 use Rattle.cy_table.specs.declared.part.Part.{Part}
 use Rattle.cy_table.specs.declared.part.Part.TheVariants as part
 use Rattle.cy_table.specs.Seats.{Seat, Grip, TapeView}
-use Rattle.cy_table.specs.Rule.{Rooms, Rules, Home, Kept, Shows, ShowsParts, spread, routine_in, routine_of, hand_of, routine_at, visitor_at, tape_at, out_in}
-use Rattle.cy_table.specs.Steps.{Sits, Becomes, with_message, MayTape, taping, MaySend, out_at, output_at, phase_sent, sent_of, sending}
-use Rattle.cy_table.proofs.Places.{there, other, shown_still, shown_anew, after, spread_gives}
+use Rattle.cy_table.specs.Rule.{Rooms, Home, Kept, Shows, ShowsParts, spread, routine_in, routine_of, hand_of, routine_at, visitor_at, tape_at, out_in}
+use Rattle.cy_table.specs.Steps.{Sits, Becomes, with_message, MayTape, taping, MaySend, output_at, phase_sent, sent_of, sending}
+use Rattle.cy_table.proofs.Places.{other, shown_still, shown_anew, after, spread_gives}
 use Rattle.cy_table.proofs.Parts.{routine_beside, routine_turned, same_words}
 use Rattle.cy_table.proofs.Knowing.{Grows, rules_after}
-use Rattle.cy_table.proofs.Holding.{wide_is, deep_is, seat_is, seat_in, hand_is, in_phase, routine_known, croutine_known, last_known, owes_known, mine}
+use Rattle.cy_table.proofs.Holding.{wide_is, deep_is, seat_is, seat_in, hand_is, in_phase, routine_known, last_known, owes_known, mine}
 use Rattle.cy_table.proofs.Doors.{tape_others, tape_given, tape_known}
 
 -- On a channel that no component writes, all messages were played.

@@ -1,27 +1,26 @@
 -- The steps of a flag, of the clock and of closing, and the look at a state.
-use Rattle.std.proofs.Common.{ℕ, ◌+◌, ◌*◌, ◌≡◌, ◌≢◌, ◌≤◌, ◌<◌, ◌⊎◌, ◌==◌, Bool, true, false, cond, refl, sym, ◌∙◌, ap, ap₂, subst, inl, inr, List, [], ◌∷◌, ◌++◌, length, take, set, get_or, slice_index, Option, Some, None, arith}
+use Rattle.std.proofs.Common.{ℕ, ◌+◌, ◌*◌, ◌≡◌, ◌≤◌, ◌<◌, ◌==◌, Bool, true, false, cond, refl, sym, ◌∙◌, ap, ap₂, subst, inl, inr, List, [], ◌∷◌, ◌++◌, length, slice_index, Some, arith}
 use Rattle.std.proofs.Math.Seq.{take-length}
 use Rattle.atomic_table.specs.Table.{State as Table, stepped, keeps}
 use Rattle.cy_comp.specs.declared.state.State.{State}
 use Rattle.cy_comp.specs.declared.state.State.TheVariants.{Ready, DataWait, Sleep, Finished}
 use Rattle.cy_comp.specs.Routine.{RoutineView}
 use Rattle.wake_core.specs.declared.route.Route.{Route}
-use Rattle.wake_core.specs.declared.phase.Phase.{Phase}
 use Rattle.wake_core.specs.declared.phase.Phase.TheVariants.{Fresh}
-use Rattle.wake_core.specs.Run.{set_at, played_of}
-use Rattle.wake_core.specs.Plain.{Plain, hand, played_count, to_play, to_play_from}
+use Rattle.wake_core.specs.Run.{set_at}
+use Rattle.wake_core.specs.Plain.{Plain, hand, to_play_from}
 use Rattle.wake_core.specs.Events.{IsDue, is_waiting, phase_after_spend, Spends, Looks, Clears, Ticks, Closes, after_spend, after_look, after_clear}
 use Rattle.wake_core.specs.Laws.{KeepsSound}
 use Rattle.cy_table.specs.declared.part.Part.{Part}
 use Rattle.cy_table.specs.Layout.{number_of, yes_or_no}
-use Rattle.cy_table.specs.Seats.{Seat, Grip, Entry}
+use Rattle.cy_table.specs.Seats.{Seat, Grip}
 use Rattle.cy_table.specs.Seats.Entry.{Clock, Closing}
-use Rattle.cy_table.specs.Rule.{Rooms, Rules, Knows, Shows, ShowsWords, spread, routine_of, hand_of}
+use Rattle.cy_table.specs.Rule.{Rooms, Rules, Shows, ShowsWords, spread, routine_of, hand_of}
 use Rattle.cy_table.specs.Steps.{Sits, Becomes, MaySpend, spending, looking, clearing_but, seeing, ticking, heeding, closing_all}
 use Rattle.cy_table.proofs.Places.{place, there, other, unseen, shown_still, shown_anew, word_is, is_word, after, spread_keeps}
 use Rattle.cy_table.proofs.Parts.{DoorsStay, OthersStay, same_words, parts_same, state_doors, threads_hand, threads_still}
 use Rattle.cy_table.proofs.Knowing.{Grows, nothing_grows, rules_after}
-use Rattle.cy_table.proofs.Holding.{wide_is, seat_is, seat_in, hand_is, hand_known, croutine_known, routine_known, in_phase, mine, unmoved}
+use Rattle.cy_table.proofs.Holding.{wide_is, seat_is, seat_in, hand_is, croutine_known, routine_known, in_phase, mine, unmoved}
 
 yes_is : (b : Bool) → (yes_or_no b == 1) ≡ b
 yes_is false = refl

@@ -4,6 +4,7 @@
 use Rattle.std.specs.Prelude.{ℕ, ◌≡◌, ◌≢◌, ◌≤◌, ◌<◌, ◌==◌, List, [], ◌∷◌, ◌++◌, length}
 use Rattle.std.specs.Prelude.{slice_index, slice_set, Some, None}
 use mathlib.Core.Option.{some}
+use mathlib.Core.Option as maybe
 use lib.ListN.{get_elem?}
 use Rattle.atomic_table.specs.Table.{State as Table, stepped, keeps, takes, gives}
 use Rattle.cy_msg.specs.declared.token.Token.{Token}
@@ -17,20 +18,24 @@ use Rattle.wake_core.specs.Plain.{Plain, blank, to_play_from}
 use Rattle.wake_core.specs.Events.{Acquires, Spends, Readies, Asks, Fills, Looks, Clears}
 use Rattle.wake_core.specs.Events.{Yields, Releases, Ticks, Closes, Tapes, Sends}
 use Rattle.wake_core.specs.Events.{Fetches}
-use Rattle.wake_core.specs.Laws.{with_idle}
+use Rattle.wake_core.specs.Sound.{Sound}
+use Rattle.wake_core.specs.Fields.{IsFixed}
+use Rattle.wake_core.specs.Laws.{IsIdle, with_idle}
 use Rattle.cy_table.specs.declared.part.Part.{Part}
 use Rattle.cy_table.specs.declared.part.Part.TheVariants as part
 use Rattle.cy_table.specs.Layout.{clock_word, closing_word, hold_word, state_word, flag_word}
 use Rattle.cy_table.specs.Layout.{tape_door, visitor_door, tape_slot, routine_slot}
 use Rattle.cy_table.specs.Layout.{visitor_slot, number_of}
-use Rattle.cy_table.specs.Seats.{Seat, Grip, Visit, TapeView, no_seat}
-use Rattle.cy_table.specs.Rule.{Rooms, Rules, IsEmpty, routine_at, visitor_at, tape_at}
+use Rattle.cy_table.specs.Seats.{Seat, Seen, Grip, Visit, TapeView, no_seat}
+use Rattle.cy_table.specs.Rule.{Rooms, AreRoomy, AreSeen, LiesOpen, Rules, IsEmpty, routine_at}
+use Rattle.cy_table.specs.Rule.{visitor_at, tape_at}
 use Rattle.cy_table.specs.Steps.{Sits, Becomes, acquiring, failing, MayReady, readying, MayAsk}
 use Rattle.cy_table.specs.Steps.{asking, MayYield, next_state, yielding, MayRelease, releasing}
 use Rattle.cy_table.specs.Steps.{MaySpend, spending, looking, clearing_but, seeing, ticking}
 use Rattle.cy_table.specs.Steps.{heeding, closing_all, entering, visiting, filling}
 use Rattle.cy_table.specs.Steps.{with_message, MayTape, taping, MaySend, output_at, phase_sent}
 use Rattle.cy_table.specs.Steps.{sending, fetching, splitting, split_off, joining}
+use Rattle.cy_table.specs.Steps.{first_seat, at_rest}
 
 -- The swap of a hold word, by a thread with nothing in hand: the event Acquire where it was found
 -- free, and then the routine was at home; else no event.
@@ -180,8 +185,8 @@ pub record FetchStores : Type 0 where
       ((visitor_slot a.component, part.Visitor a.visitor) ∷ out)
       (fetching v g a.visitor (visited (cursor_after g.routine.calls) a.visitor)) gives)
 
--- A seat is split off the player's, and an empty one is joined into it. The world stays; of a thread
--- that was joined it says nothing.
+-- A seat is split off the player's, and an empty one is joined into it. The world stays; of a
+-- thread that was joined it says nothing.
 pub record BenchSteps : Type 0 where
   pub split : (r : Rooms) (w : Plain) (s : Table Part Seat) (v : Seat) → Sits r w s 0 v
       → Rules r w record {
@@ -212,3 +217,20 @@ pub record RoomsLeft : Type 0 where
       → v.visit ≡ Some a → a.component ≡ g.croutine
       → visited (cursor_after g.routine.calls) a.visitor ≡ Some f
       → length (w.calls g.croutine) < r.calls g.croutine
+
+-- A table that lies open, with the player's seat alone, shows a world at rest. And where the player
+-- has and owes nothing, and no seat is split off, nobody has or owes anything, and the table lies
+-- open.
+pub record TableEnds : Type 0 where
+  pub start : (r : Rooms) (w : Plain) (words : List ℕ) (homes : List (maybe.Option Part))
+      (seen : List Seen) → Sound w → ((p : ℕ) → IsIdle p w) → IsFixed w.routes w.counts
+      → AreRoomy w.routes w.counts r → LiesOpen r w words homes → AreSeen w.calls seen
+      → Rules r (at_rest w) record {
+        words = words;
+        homes = homes;
+        views = first_seat w seen ∷ [];
+      }
+  pub idle : (r : Rooms) (w : Plain) (s : Table Part Seat) (v : Seat) → Sits r w s 0 v
+      → IsEmpty v → v.split ≡ 0 → (p : ℕ) → IsIdle p w
+  pub open_table : (r : Rooms) (w : Plain) (s : Table Part Seat) (v : Seat) → Sits r w s 0 v
+      → IsEmpty v → v.split ≡ 0 → LiesOpen r w s.words s.homes

@@ -187,9 +187,9 @@ pub record IsEmpty (v : Seat) : Type 0 where
   pub news : v.news ≡ []
   pub clearing : v.clearing ≡ []
 
--- What a thread knows of the world beside what it has: what the table is for, the calls that it saw,
--- a clock that is past, and that the run is closing where it found so. A seat that was joined is
--- empty. The player knows the played messages, the clock and whether the run is closing.
+-- What a thread knows of the world beside what it has: what the table is for, the calls that it
+-- saw, a clock that is past, and that the run is closing where it found so. A seat that was joined
+-- is empty. The player knows the played messages, the clock and whether the run is closing.
 pub record Knows (w : Plain) (j : ℕ) (v : Seat) : Type 0 where
   pub made : v.live ≢ 0 → (v.routes ≡ w.routes) × (v.counts ≡ w.counts)
   pub joined : v.live ≡ 0 → IsEmpty v
@@ -223,3 +223,24 @@ pub record Ruled (routes : List Route) (counts : List ℕ) (s : Table Part Seat)
   pub components : world.routes ≡ routes
   pub planned : world.counts ≡ counts
   pub rules : Rules rooms world s
+
+-- The words and the slots of a world in which nobody has anything: no croutine is held, each door
+-- is open, and all is at home.
+pub record LiesOpen (r : Rooms) (w : Plain) (words : List ℕ) (homes : List (maybe.Option Part))
+    : Type 0 where
+  pub wide : length words ≡ words_for (length w.routes)
+  pub deep : length homes ≡ slots_for (length w.routes)
+  pub clock_is : slice_index words clock_word ≡ w.clock
+  pub closing_is : slice_index words closing_word ≡ yes_or_no w.closing
+  pub state : (c : ℕ) → c < length w.routes → slice_index words (state_word c)
+      ≡ number_of (w.states c)
+  pub flag : (c : ℕ) → c < length w.routes → slice_index words (flag_word c)
+      ≡ yes_or_no (w.spent c)
+  pub tape_free : slice_index words tape_door ≡ 0
+  pub free : (c : ℕ) → c < length w.routes → slice_index words (hold_word c) ≡ 0
+  pub visitor_free : (c : ℕ) → c < length w.routes → slice_index words (visitor_door c) ≡ 0
+  pub tape : get_elem? homes tape_slot ≡ some (some (part.Tape (tape_at r w)))
+  pub routine : (c : ℕ) → c < length w.routes
+      → get_elem? homes (routine_slot c) ≡ some (some (part.Routine (routine_at r w c)))
+  pub visitor : (c : ℕ) → c < length w.routes
+      → get_elem? homes (visitor_slot c) ≡ some (some (part.Visitor (visitor_at r w c)))

@@ -13,16 +13,16 @@ use Rattle.cy_comp.specs.declared.call.Out.{Out}
 use Rattle.cy_comp.specs.Calls.{last_outcome, held_until, output}
 use Rattle.cy_comp.specs.Routine.{RoutineView, taken}
 use Rattle.wake_core.specs.declared.route.Route.{Route}
-use Rattle.wake_core.specs.Run.{readers_of, writes_from}
+use Rattle.wake_core.specs.Run.{readers_of, writes_from, played_of}
 use Rattle.cy_comp.specs.declared.state.State.{State}
 use Rattle.cy_comp.specs.declared.state.State.TheVariants.{Ready, DataWait}
-use Rattle.wake_core.specs.Plain.{Plain}
+use Rattle.wake_core.specs.Plain.{Plain, blank}
 use Rattle.wake_core.specs.declared.phase.Phase.{Phase}
 use Rattle.wake_core.specs.declared.phase.Phase.TheVariants.{Fresh, Woken, Known, Asked, Empty}
 use Rattle.wake_core.specs.declared.phase.Phase.TheVariants.{Running, Sending, Done}
-use Rattle.wake_core.specs.Events.{IsDue, is_waiting, phase_after_spend, state_after}
+use Rattle.wake_core.specs.Events.{IsDue, phase_after_spend, state_after}
 use Rattle.cy_table.specs.declared.part.Part.{Part}
-use Rattle.cy_table.specs.Seats.{Seat, Grip, TapeView, Entry, idle_seat}
+use Rattle.cy_table.specs.Seats.{Seat, Seen, Grip, TapeView, Entry, idle_seat}
 use Rattle.cy_table.specs.Seats.Entry.{Busy, Found, Clock, Closing}
 use Rattle.cy_table.specs.Rule.{Rooms, Rules}
 
@@ -234,8 +234,8 @@ sent_of g = record g {
 abbrev pub sending : Seat → Grip → Token → Seat
 sending v g t = record (owing v t) { hand = Some (sent_of g) }
 
--- A seat is split off the player's, with nothing in hand, nothing owed and no calls seen; and one is
--- joined, whose calls seen are kept.
+-- A seat is split off the player's, with nothing in hand, nothing owed and no calls seen; and one
+-- is joined, whose calls seen are kept.
 abbrev pub splitting : Seat → Seat
 splitting v = record v { split = v.split + 1 }
 
@@ -244,3 +244,21 @@ split_off v = idle_seat v.routes v.counts [] 1
 
 abbrev pub joining : Seat → Seat → Seat
 joining v o = record v { seen = o.seen ++ v.seen; split = v.split - 1 }
+
+-- The player's seat at the start, which has seen some calls; and a world in which no thread has or
+-- owes anything, whatever they had.
+abbrev pub first_seat : Plain → List Seen → Seat
+first_seat w seen = record (idle_seat w.routes w.counts seen 1) {
+  played = played_of w.routes w.tape;
+  clock = w.clock;
+  closing = w.closing;
+}
+
+abbrev pub at_rest : Plain → Plain
+at_rest w = record w {
+  hands = λ p. None;
+  fills = λ p. [];
+  news = λ p. [];
+  clearing = λ p. [];
+  tokens = λ p. blank;
+}

@@ -5,7 +5,7 @@
 ghost use Rattle.cy_table.specs.Laws.{HoldSwaps, StateStores, HoldStores, FlagSwaps, StateLoads};
 ghost use Rattle.cy_table.specs.Laws.{FlagStores, ClockSteps, ClosingSteps, TapeDoorSwaps};
 ghost use Rattle.cy_table.specs.Laws.{VisitorDoorSwaps, FillStores, TapeStores, FetchStores};
-ghost use Rattle.cy_table.specs.Laws.{BenchSteps, RoomsLeft};
+ghost use Rattle.cy_table.specs.Laws.{BenchSteps, RoomsLeft, TableEnds};
 
 use wake_core::laws;
 
@@ -111,4 +111,11 @@ pub fn rooms_left()
     ensures { RoomsLeft }
 {
     laws::room();
+}
+
+/// At its start a table shows the world that it is made of, and at its end one that is at rest.
+pub fn table_ends()
+    ensures { TableEnds }
+{
+    laws::threads();
 }
