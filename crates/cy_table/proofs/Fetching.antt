@@ -123,6 +123,8 @@ module _ (r : Rooms) (w : Plain) (s : Table Part Seat) (id : ℕ) (v : Seat) (si
           threads = threads_hand sits.rules.shows.threads id v v' at refl refl refl refl (hand c Empty) refl;
         } in record {
           world = w';
+          routes = refl;
+          counts = refl;
           happens = happens;
           rules = rules_after r w s id v sits w' refl refl (nothing_grows w.routes w.tape w.clock w.calls w.closing id) v' i 0 ((2 * a.component + 2, part.Visitor a.visitor) ∷ out) gives (sound w w' happens sits.rules.sound)
               (subst (Shows r w')
@@ -184,6 +186,8 @@ module _ (r : Rooms) (w : Plain) (s : Table Part Seat) (id : ℕ) (v : Seat) (si
           threads = threads_hand sits.rules.shows.threads id v v' at refl refl refl refl (hand c Running) refl;
         } in record {
           world = w';
+          routes = refl;
+          counts = refl;
           happens = happens;
           rules = rules_after r w s id v sits w' refl refl grows v' i 0 ((2 * a.component + 2, part.Visitor a.visitor) ∷ out) gives (sound w w' happens sits.rules.sound)
               (subst (Shows r w')

@@ -68,6 +68,8 @@ fill_becomes r w s id v sits a j later has first less out keep =
       };
     } in record {
       world = w';
+      routes = refl;
+      counts = refl;
       happens = happens;
       rules = rules_after r w s id v sits w' refl refl (nothing_grows w.routes w.tape w.clock w.calls w.closing id) v' i 0 ((2 * c + 2, part.Visitor x') ∷ out) gives (keep w w' happens sits.rules.sound)
           (subst (Shows r w') (sym (spread_gives s i 0 id v' out (omega (arith, wide_is r w s id v sits, less)) (seat_in r w s id v sits) (2 * c + 2) (part.Visitor x') (omega (arith, deep_is r w s id v sits, less)))) shows)

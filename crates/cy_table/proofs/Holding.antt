@@ -157,6 +157,8 @@ module _ (r : Rooms) (w : Plain) (s : Table Part Seat) (id : ℕ) (v : Seat) (si
         threads = threads_hand sits.rules.shows.threads id v v' seat_is refl refl refl refl (hand c phase) refl;
       } in record {
         world = w';
+        routes = refl;
+        counts = refl;
         happens = happens;
         rules = rules_after r w s id v sits w' refl refl (nothing_grows w.routes w.tape w.clock w.calls w.closing id) v' i x out keeps (keep w w' happens sits.rules.sound)
             (subst (Shows r w') (sym (spread_keeps s i x id v' out (omega (arith, wide_is, less)) seat_in)) shows) refl refl refl
@@ -240,6 +242,8 @@ module _ (r : Rooms) (w : Plain) (s : Table Part Seat) (id : ℕ) (v : Seat) (si
         refl,
         record {
           world = w';
+          routes = refl;
+          counts = refl;
           happens = happens;
           rules = rules_after r w s id v sits w' refl refl (nothing_grows w.routes w.tape w.clock w.calls w.closing id) v' i 1 out (takes (2 * c + 1) (part.Routine x)) (keep w w' happens sits.rules.sound)
               (subst (Shows r w') (sym (spread_takes s i 1 id v' out (omega (arith, wide_is, less)) seat_in (2 * c + 1) (part.Routine x) (omega (arith, deep_is, less)))) shows)
@@ -275,6 +279,8 @@ module _ (r : Rooms) (w : Plain) (s : Table Part Seat) (id : ℕ) (v : Seat) (si
         threads = threads_hand sits.rules.shows.threads id v v' seat_is refl refl refl refl None refl;
       } in record {
         world = w';
+        routes = refl;
+        counts = refl;
         happens = happens;
         rules = rules_after r w s id v sits w' refl refl (nothing_grows w.routes w.tape w.clock w.calls w.closing id) v' i 0 ((2 * c + 1, y) ∷ out) gives (keep w w' happens sits.rules.sound)
             (subst (Shows r w') (sym (spread_gives s i 0 id v' out (omega (arith, wide_is, less)) seat_in (2 * c + 1) y (omega (arith, deep_is, less)))) shows)

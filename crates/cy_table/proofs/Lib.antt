@@ -11,3 +11,4 @@ pub mod Fetching
 pub mod Benching
 pub mod Leaving
 pub mod Lying
+pub mod Allowing

@@ -1,5 +1,5 @@
 -- A table at its start and at its end.
-use Rattle.std.proofs.Common.{ℕ, zero, suc, ◌+◌, ◌*◌, ◌≡◌, ◌≢◌, ◌≤◌, ◌<◌, ◌⊎◌, refl, sym, ◌∙◌, ap, subst, inl, inr, ⊎_elim, List, [], ◌∷◌, ◌++◌, length, get_or, Option, Some, None, arith}
+use Rattle.std.proofs.Common.{ℕ, zero, suc, ◌+◌, ◌*◌, ◌≡◌, ◌≢◌, ◌≤◌, ◌<◌, refl, sym, ◌∙◌, ap, subst, inl, ⊎_elim, List, [], ◌∷◌, length, get_or, Option, None, arith}
 use Rattle.std.proofs.lemmas.Option.{none-some}
 use mathlib.Core.Option.{some, some-ne-none, some-injective}
 use mathlib.Core.Option as maybe
@@ -16,7 +16,7 @@ use Rattle.cy_table.specs.Seats.{Seat, Seen, no_seat}
 use Rattle.cy_table.specs.Rule.{Rooms, AreRoomy, Rules, Knows, IsEmpty, AreSeen, Kept, AtHome, OutWith, LiesOpen, spread, routine_in, visitor_in, tape_in, routine_of, visitor_of, hand_of, routine_at, visitor_at, tape_at, total_live}
 use Rattle.cy_table.specs.Steps.{Sits, first_seat, at_rest}
 use Rattle.cy_table.proofs.Places.{place, is_word, home_is}
-use Rattle.cy_table.proofs.Holding.{mine, routine_back}
+use Rattle.cy_table.proofs.Holding.{routine_back}
 use Rattle.cy_table.proofs.Doors.{tape_back, visitor_back}
 use Rattle.cy_table.proofs.Benching.{snoc_seen, live_le, same_seat}
 

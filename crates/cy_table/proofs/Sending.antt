@@ -131,6 +131,8 @@ module _ (r : Rooms) (w : Plain) (s : Table Part Seat) (v : Seat) (sits : Sits r
         };
       } in record {
         world = w';
+        routes = refl;
+        counts = refl;
         happens = happens;
         rules = rules_after r w s 0 v sits w' refl refl grows v' 3 0 ((0, part.Tape x') ∷ out) gives (keep w w' happens sits.rules.sound)
             (subst (Shows r w') (sym (spread_gives s 3 0 0 v' out (omega (arith, wide_is r w s 0 v sits)) (seat_in r w s 0 v sits) 0 (part.Tape x') (omega (arith, deep_is r w s 0 v sits)))) shows)
@@ -208,6 +210,8 @@ module _ (r : Rooms) (w : Plain) (s : Table Part Seat) (id : ℕ) (v : Seat) (si
         };
       } in record {
         world = w';
+        routes = refl;
+        counts = refl;
         happens = happens;
         rules = rules_after r w s id v sits w' refl refl grows v' 3 0 ((0, part.Tape x') ∷ out) gives (law.sound id c next m w w' happens sits.rules.sound)
             (subst (Shows r w') (sym (spread_gives s 3 0 id v' out (omega (arith, wide_is r w s id v sits)) (seat_in r w s id v sits) 0 (part.Tape x') (omega (arith, deep_is r w s id v sits)))) shows)

@@ -132,6 +132,8 @@ module _ (r : Rooms) (w : Plain) (s : Table Part Seat) (id : ℕ) (v : Seat) (si
             (ap₂ (λ (st : State) (b : Bool). hand c (phase_after_spend st b)) (sym state_is) (sym was_is));
       } in record {
         world = w';
+        routes = refl;
+        counts = refl;
         happens = happens;
         rules = rules_after r w s id v sits w' refl refl (nothing_grows w.routes w.tape w.clock w.calls w.closing id) v' i 1 out keeps (keep w w' happens sits.rules.sound)
             (subst (Shows r w') (sym (spread_keeps s i 1 id v' out (omega (arith, wide_is r w s id v sits, less)) (seat_in r w s id v sits))) shows) refl refl refl
@@ -174,6 +176,8 @@ module _ (r : Rooms) (w : Plain) (s : Table Part Seat) (id : ℕ) (v : Seat) (si
         };
       } in record {
         world = w';
+        routes = refl;
+        counts = refl;
         happens = happens;
         rules = rules_after r w s id v sits w' refl refl (nothing_grows w.routes w.tape w.clock w.calls w.closing id) v' i x out keeps (keep w w' happens sits.rules.sound)
             (subst (Shows r w') (sym (spread_keeps s i x id v' out (omega (arith, wide_is r w s id v sits, less)) (seat_in r w s id v sits))) shows) refl refl refl
@@ -204,6 +208,8 @@ module _ (r : Rooms) (w : Plain) (s : Table Part Seat) (id : ℕ) (v : Seat) (si
         };
       } in record {
         world = w';
+        routes = refl;
+        counts = refl;
         happens = happens;
         rules = rules_after r w s id v sits w' refl refl (nothing_grows w.routes w.tape w.clock w.calls w.closing id) v' i 0 out keeps (keep w w' happens sits.rules.sound)
             (subst (Shows r w') (sym (spread_keeps s i 0 id v' out (omega (arith, wide_is r w s id v sits, less)) (seat_in r w s id v sits))) shows) refl refl refl
@@ -273,6 +279,8 @@ module _ (r : Rooms) (w : Plain) (s : Table Part Seat) (v : Seat) (sits : Sits r
         threads = threads_still sits.rules.shows.threads 0 v v' at refl refl refl refl refl;
       } in record {
         world = w';
+        routes = refl;
+        counts = refl;
         happens = happens;
         rules = rules_after r w s 0 v sits w' refl refl grows v' 1 time out keeps (keep w w' happens sits.rules.sound)
             (subst (Shows r w') (sym (spread_keeps s 1 time 0 v' out (omega (arith, wide_is r w s 0 v sits)) (seat_in r w s 0 v sits))) shows) refl refl refl
@@ -310,6 +318,8 @@ module _ (r : Rooms) (w : Plain) (s : Table Part Seat) (v : Seat) (sits : Sits r
         threads = threads_still sits.rules.shows.threads 0 v v' at refl refl refl refl refl;
       } in record {
         world = w';
+        routes = refl;
+        counts = refl;
         happens = happens;
         rules = rules_after r w s 0 v sits w' refl refl grows v' 2 1 out keeps (keep w w' happens sits.rules.sound)
             (subst (Shows r w') (sym (spread_keeps s 2 1 0 v' out (omega (arith, wide_is r w s 0 v sits)) (seat_in r w s 0 v sits))) shows) refl refl refl

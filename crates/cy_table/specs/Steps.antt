@@ -32,10 +32,13 @@ pub record Sits (r : Rooms) (w : Plain) (s : Table Part Seat) (id : ℕ) (v : Se
   pub at : get_elem? s.views id ≡ some v
   pub live : v.live ≢ 0
 
--- A step is an event: the table shows the world that the event gives.
+-- A step is an event: the table shows the world that the event gives, which is for the same
+-- components and counts.
 pub record Becomes (r : Rooms) (event : Plain → Plain → Type 0) (w : Plain) (s : Table Part Seat)
     : Type 0 where
   pub world : Plain
+  pub routes : world.routes ≡ w.routes
+  pub counts : world.counts ≡ w.counts
   pub happens : event w world
   pub rules : Rules r world s
 
