@@ -20,8 +20,7 @@ module _ {routes : List Route} {counts : List ℕ} {s s' : Table Part Seat} (k :
   pub ruled_still : Rules k.rooms k.world s' → Ruled routes counts s'
   ruled_still rules = record { world = k.world; rooms = k.rooms; components = k.components; planned = k.planned; rules = rules }
 
--- What the swap of a hold word tells: the routine is in hand, and the calls that were seen begin its
--- calls; or the croutine was held.
+-- What the swap of a hold word tells: the routine is in hand, or the croutine was held.
 abbrev Told : (c : ℕ) → Me Part Seat → ℕ → Me Part Seat → Type 0
 Told c m found n =
     (found ≡ 0 → (x : RoutineView) × (n ≡ (acquiring m.0 c x, (2 * c + 1, part.Routine x) ∷ m.1)))

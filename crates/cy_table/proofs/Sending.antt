@@ -1,7 +1,7 @@
 -- The tape's door is left after a message was put there.
 use Rattle.std.proofs.Common.{ℕ, ◌+◌, ◌*◌, ◌≡◌, ◌≤◌, ◌<◌, ◌==◌, Bool, true, false, refl, sym, ◌∙◌, ap, ap₂, subst, inl, inr, ⊎_elim, List, [], ◌∷◌, ◌++◌, length, length-set, cond, not, is_some, slice_get, slice_index, option_map, Option, Some, None, arith}
 use Rattle.std.proofs.lemmas.Bool.Decides.{eqb_tells}
-use Rattle.std.proofs.lemmas.Option.{none-some}
+use Rattle.std.proofs.lemmas.Option.{none-some, slice_get_within}
 use Rattle.std.proofs.Math.Seq.{take-length}
 use Rattle.std.specs.Option.{option_map_or}
 use mathlib.Core.Option.{some}
@@ -10,7 +10,7 @@ use Rattle.cy_msg.specs.declared.token.Token.{Token}
 use Rattle.cy_msg.specs.Tokens.{on_channel}
 use Rattle.cy_comp.specs.declared.call.Out.{Out}
 use Rattle.cy_comp.specs.declared.state.State.TheVariants.{Ready}
-use Rattle.cy_comp.specs.Calls.{last_outcome, held_until, output}
+use Rattle.cy_comp.specs.Calls.{last_outcome, held_until, output, outs}
 use Rattle.cy_comp.specs.Routine.{RoutineView}
 use Rattle.wake_core.specs.declared.route.Route.{Route}
 use Rattle.wake_core.specs.declared.phase.Phase.{Phase}
@@ -22,12 +22,13 @@ use Rattle.wake_core.specs.Sound.{Consistent}
 use Rattle.wake_core.specs.Laws.{KeepsSound, SendLaws}
 use Rattle.wake_core.proofs.Taping.{played_taped, send_taped, IsUnsent, unsent_is}
 use Rattle.wake_core.proofs.Timing.{played-own, played-other}
+use Rattle.wake_core.proofs.Outputs.{outs_but_last}
 use Rattle.wake_core.proofs.Writers.{writes_own}
 use Rattle.cy_table.specs.declared.part.Part.{Part}
 use Rattle.cy_table.specs.declared.part.Part.TheVariants as part
 use Rattle.cy_table.specs.Seats.{Seat, Grip, TapeView}
 use Rattle.cy_table.specs.Rule.{Rooms, Home, Kept, Shows, ShowsParts, spread, routine_in, routine_of, hand_of, routine_at, visitor_at, tape_at, out_in}
-use Rattle.cy_table.specs.Steps.{Sits, Becomes, with_message, MayTape, taping, MaySend, output_at, phase_sent, sent_of, sending}
+use Rattle.cy_table.specs.Steps.{Sits, Becomes, with_message, MayTape, taping, MaySend, out_at, output_at, phase_sent, sent_of, sending}
 use Rattle.cy_table.proofs.Places.{other, shown_still, shown_anew, after, spread_gives}
 use Rattle.cy_table.proofs.Parts.{routine_beside, routine_turned, same_words}
 use Rattle.cy_table.proofs.Knowing.{Grows, rules_after}
@@ -155,6 +156,22 @@ module _ (r : Rooms) (w : Plain) (s : Table Part Seat) (id : ℕ) (v : Seat) (si
       (λ (p : (g.phase ≡ Known) × (g.routine.state ≡ Ready)).
       inr (in_phase r w s id v sits g Known e p.0, sym (ap (λ (x : RoutineView). x.state) (routine_known r w s id v sits g e)) ∙ p.1, ap phase_sent p.0))
       may.sends
+
+  -- The output that waits is the last of the component's outputs.
+  pub number_known : (g : Grip) (o : Out) → v.hand ≡ Some g → g.routine.pending ≡ Some o
+      → length (on_channel (out_at v.routes g.croutine) w.tape) + 1 ≡ length (outs (out_at v.routes g.croutine) g.routine.calls)
+  number_known g o e pends =
+      let c : ℕ = g.croutine in
+      let routine_is : g.routine ≡ routine_at r w c = routine_known r w s id v sits g e in
+      let by : IsShownBy (unsent_of w c) o = shown_by (unsent_of w c) o (sym (ap (λ (y : RoutineView). y.pending) routine_is) ∙ pends) in
+      let u : IsUnsent w c by.from = unsent_is w c by.from by.is in
+      let channel_is : out_at v.routes c ≡ u.route.out =
+      ap (λ (l : List Route). out_at l c) ((mine r w s id v sits).made sits.live).0 ∙ ap (λ (x : Option Route). option_map_or (λ (y : Route). y.out) x 0) u.at in
+      let but_last = sits.rules.sound.consistent.delivered.but_last c u.route u.at in
+      let few = outs_but_last u.route.out (w.calls c) in
+      let more = slice_get_within (outs u.route.out (w.calls c)) (length (on_channel u.route.out w.tape)) by.from u.next in
+      let count : length (on_channel u.route.out w.tape) + 1 ≡ length (outs u.route.out (w.calls c)) = omega (arith, but_last, few, more) in
+      subst (λ channel. length (on_channel channel w.tape) + 1 ≡ length (outs channel g.routine.calls)) (sym channel_is) (count ∙ ap (λ (y : RoutineView). length (outs u.route.out y.calls)) (sym routine_is))
 
   -- A holder puts its output there.
   pub send_becomes : (g : Grip) (x : TapeView) (o : Out) → v.hand ≡ Some g → v.tape ≡ Some x → g.routine.pending ≡ Some o → MaySend v g → (out : List (ℕ × Part)) → SendLaws

@@ -1,7 +1,7 @@
 -- The laws of the steps. Where a table shows a world before a step, and the seat that steps shows
 -- what the step needs, then the table shows a world after it: the one that the event gives, or the
 -- same.
-use Rattle.std.specs.Prelude.{ℕ, ◌≡◌, ◌≢◌, ◌≤◌, ◌<◌, ◌==◌, List, [], ◌∷◌, ◌++◌, length}
+use Rattle.std.specs.Prelude.{ℕ, ◌+◌, ◌≡◌, ◌≢◌, ◌≤◌, ◌<◌, ◌==◌, List, [], ◌∷◌, ◌++◌, length}
 use Rattle.std.specs.Prelude.{slice_index, slice_set, Some, None}
 use mathlib.Core.Option.{some}
 use mathlib.Core.Option as maybe
@@ -9,9 +9,10 @@ use lib.ListN.{get_elem?}
 use Rattle.atomic_table.specs.Table.{State as Table, stepped, keeps, takes, gives}
 use Rattle.cy_msg.specs.declared.token.Token.{Token}
 use Rattle.cy_msg.specs.declared.token.Tuple.{Tuple}
+use Rattle.cy_msg.specs.Tokens.{on_channel}
 use Rattle.cy_fuse.specs.Visitor.{VisitorView, arrived, visited}
 use Rattle.cy_comp.specs.declared.call.Out.{Out}
-use Rattle.cy_comp.specs.Calls.{cursor_after}
+use Rattle.cy_comp.specs.Calls.{cursor_after, outs}
 use Rattle.cy_comp.specs.Routine.{RoutineView}
 use Rattle.wake_core.specs.declared.phase.Phase.TheVariants.{Asked}
 use Rattle.wake_core.specs.Plain.{Plain, blank, to_play_from}
@@ -33,8 +34,8 @@ use Rattle.cy_table.specs.Steps.{Sits, Becomes, acquiring, failing, MayReady, re
 use Rattle.cy_table.specs.Steps.{asking, MayYield, next_state, yielding, MayRelease, releasing}
 use Rattle.cy_table.specs.Steps.{MaySpend, spending, looking, clearing_but, seeing, ticking}
 use Rattle.cy_table.specs.Steps.{heeding, closing_all, entering, visiting, filling}
-use Rattle.cy_table.specs.Steps.{with_message, MayTape, taping, MaySend, output_at, phase_sent}
-use Rattle.cy_table.specs.Steps.{sending, fetching, splitting, split_off, joining}
+use Rattle.cy_table.specs.Steps.{with_message, MayTape, taping, MaySend, out_at, output_at}
+use Rattle.cy_table.specs.Steps.{phase_sent, sending, fetching, splitting, split_off, joining}
 use Rattle.cy_table.specs.Steps.{first_seat, at_rest}
 
 -- The swap of a hold word, by a thread with nothing in hand: the event Acquire where it was found
@@ -174,6 +175,11 @@ pub record TapeStores : Type 0 where
       → let t = output_at v.routes g.croutine x.messages o in
       Becomes r (Sends id g.croutine (phase_sent g.phase) t) w (stepped s tape_door 0 id
       ((tape_slot, part.Tape (with_message x t)) ∷ out) (sending v g t) gives)
+  -- That output is the last of the component's, so a holder knows its number without the tape.
+  pub number : (r : Rooms) (w : Plain) (s : Table Part Seat) (id : ℕ) (v : Seat) (g : Grip)
+      (o : Out) → Sits r w s id v → v.hand ≡ Some g → g.routine.pending ≡ Some o
+      → length (on_channel (out_at v.routes g.croutine) w.tape) + 1
+      ≡ length (outs (out_at v.routes g.croutine) g.routine.calls)
 
 -- The store of a visitor's door after a fetch, with the visitor as it was: the event Fetch, whether
 -- a tuple was found or not.

@@ -1,5 +1,5 @@
 -- The stores of the tape's door, by the laws of Tape.
-use Rattle.cy_table.proofs.Sending.{tape_becomes, send_becomes}
+use Rattle.cy_table.proofs.Sending.{tape_becomes, send_becomes, number_known}
 use Rattle.cy_table.proofs.laws.tape_stores.Goals as goal
 
 pub returns : goal.returns
@@ -7,4 +7,5 @@ returns k = record {
   play = λ r w s v x t out sits has may. tape_becomes r w s v sits x t has may out (k.tape.ensures.sound t);
   send = λ r w s id v g x o out sits e has pends may. send_becomes r w s id v sits g x o e has pends may out
       record { held = k.send.ensures.held; consistent = k.send.ensures.consistent; all = k.send.ensures.all; sound = k.send.ensures.sound; calls = k.send.ensures.calls };
+  number = λ r w s id v g o sits e pends. number_known r w s id v sits g o e pends;
 }
