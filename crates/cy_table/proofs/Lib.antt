@@ -12,3 +12,4 @@ pub mod Benching
 pub mod Leaving
 pub mod Lying
 pub mod Allowing
+pub mod Slots

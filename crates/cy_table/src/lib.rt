@@ -9,5 +9,11 @@
 
 pub mod laws;
 mod part;
+mod pass;
+mod rule;
+mod table;
+mod view;
 
 pub use part::{Part, Tape};
+pub use pass::{Busy, Hold, Pass};
+pub use table::FlagTable;

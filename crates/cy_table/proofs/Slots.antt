@@ -1,0 +1,34 @@
+-- A slot that a thread took last, read and written between two of its steps.
+use Rattle.std.proofs.Common.{ℕ, ◌≡◌, List, ◌∷◌, sym, ◌∙◌, ap}
+use Rattle.atomic_table.specs.Table.{rest}
+use Rattle.cy_comp.specs.Routine.{RoutineView}
+use Rattle.cy_table.specs.declared.part.Part.{Part}
+use Rattle.cy_table.specs.declared.part.Part.TheVariants as part
+use Rattle.cy_table.specs.Seats.{Seat}
+use Rattle.cy_table.specs.Plays.{Thread}
+
+abbrev pub part_or : Part → List (ℕ × Part) → Part
+part_or d Rattle.std.proofs.Common.[] = d
+part_or d (x ∷ xs) = x.1
+
+abbrev pub routine_or : RoutineView → Part → RoutineView
+routine_or d (part.Routine x) = x
+routine_or d _ = d
+
+-- After a swap that took the slot: it is the first that is out, and what was in it was read.
+pub in_front : (n : Thread) (v : Seat) (slot : ℕ) (y : Part) (more : List (ℕ × Part)) → n ≡ (v, (slot, y) ∷ more) → (old : Part) × (n.1 ≡ (slot, old) ∷ rest n.1)
+in_front n v slot y more is = let out = ap (λ (m : Thread). m.1) is in (y, out ∙ ap (λ l. (slot, y) ∷ rest l) (sym out))
+
+pub exchanged : (n k : Thread) (v : Seat) (slot : ℕ) (y z x : Part) (more : List (ℕ × Part)) → n ≡ (v, (slot, y) ∷ more) → n.1 ≡ (slot, z) ∷ rest n.1 → k ≡ (n.0, (slot, x) ∷ rest n.1)
+    → (y ≡ z) × (k ≡ (v, (slot, x) ∷ more))
+exchanged n k v slot y z x more is front after =
+    (ap (λ (o : Thread). part_or part.Away o.1) (sym is) ∙ ap (part_or part.Away) front, after ∙ (λ i. ((is i).0, (slot, x) ∷ rest (is i).1)))
+
+-- The same of a slot that is known to be out with the thread.
+pub out_front : (m : Thread) (slot : ℕ) (y : Part) (more : List (ℕ × Part)) → m.1 ≡ (slot, y) ∷ more → (old : Part) × (m.1 ≡ (slot, old) ∷ rest m.1)
+out_front m slot y more out = (y, out ∙ ap (λ l. (slot, y) ∷ rest l) (sym out))
+
+pub put_back : (m k : Thread) (slot : ℕ) (y z x : Part) (more : List (ℕ × Part)) → m.1 ≡ (slot, y) ∷ more → m.1 ≡ (slot, z) ∷ rest m.1 → k ≡ (m.0, (slot, x) ∷ rest m.1)
+    → (y ≡ z) × (k ≡ (m.0, (slot, x) ∷ more))
+put_back m k slot y z x more out front after =
+    (ap (part_or part.Away) (sym out ∙ front), after ∙ (λ i. (m.0, (slot, x) ∷ rest (out i))))

@@ -1,0 +1,104 @@
+-- What each call of the table needs of the thread's pass, and what it leaves.
+use Rattle.std.specs.Prelude.{ℕ, ◌≡◌, ◌≢◌, ◌<◌, List, [], ◌∷◌, length, Option, Some, None}
+use Rattle.cy_comp.specs.Routine.{RoutineView, taken}
+use Rattle.wake_core.specs.Plain.{Plain}
+use Rattle.wake_core.specs.WorldOf.{plain_of}
+use Rattle.cy_table.specs.declared.part.Part.{Part}
+use Rattle.cy_table.specs.declared.part.Part.TheVariants as part
+use Rattle.cy_table.specs.declared.pass.Pass.{Pass}
+use Rattle.cy_table.specs.declared.pass.Found.{Found}
+use Rattle.cy_table.specs.declared.pass.Hold.{Hold}
+use Rattle.cy_table.specs.declared.table.FlagTable.{FlagTable}
+use Rattle.cy_table.specs.Layout.{routine_slot}
+use Rattle.cy_table.specs.Seats.{Seat, Grip}
+use Rattle.cy_comp.specs.declared.state.State.{State}
+use Rattle.cy_table.specs.Steps.{acquiring, failing, MayAsk, MayYield, next_state, MayRelease}
+use Rattle.cy_table.specs.Plays.{Thread, in_hand, HasSeen}
+
+-- The world that a table was made of.
+abbrev pub made_of : FlagTable → Plain
+made_of t = plain_of t.table.shared.key.value
+
+-- The thread of a pass, and what it knows; the thread's number, of which 0 is the player's.
+abbrev pub thread_of : Pass → Thread
+thread_of p = p.seat.me
+
+abbrev pub seat_of : Pass → Seat
+seat_of p = p.seat.me.0
+
+abbrev pub number_of : Pass → ℕ
+number_of p = p.seat.id
+
+-- The routine of a croutine in hand, with the call on a tuple that a fetch found, though the
+-- component was not stepped on it yet.
+abbrev pub with_found : RoutineView → Option Found → RoutineView
+with_found x None = x
+with_found x (Some f) = taken x f.tuple f.position f.tail
+
+abbrev pub component_of : Hold → ℕ
+component_of h = h.component
+
+abbrev pub routine_of : Hold → RoutineView
+routine_of h = with_found h.routine h.found
+
+-- A pass of a table, not joined; and one that is so after a call, with its number.
+pub record IsAt (t : FlagTable) (p : Pass) : Type 0 where
+  pub table : p.seat.table_id ≡ t.table.shared.table_id
+  pub live : (seat_of p).live ≢ 0
+
+pub record Stays (t : FlagTable) (p q : Pass) : Type 0 where
+  pub at : IsAt t q
+  pub number : number_of q ≡ number_of p
+
+-- The component in hand was stepped on each tuple that a fetch gave.
+abbrev pub IsStepped : Hold → Type 0
+IsStepped h = h.found ≡ None
+
+-- A pass with no croutine in hand, and one that has this croutine in hand.
+pub record HasNoHold (p : Pass) : Type 0 where
+  pub hand : (seat_of p).hand ≡ None
+  pub out : (thread_of p).1 ≡ []
+
+pub record Holds (t : FlagTable) (p : Pass) (h : Hold) : Type 0 where
+  pub hand : (seat_of p).hand ≡ Some (in_hand (seat_of p))
+  pub croutine : (in_hand (seat_of p)).croutine ≡ component_of h
+  pub routine : (in_hand (seat_of p)).routine ≡ routine_of h
+  pub out : (thread_of p).1 ≡ (routine_slot (component_of h), part.Away) ∷ []
+  pub inside : component_of h < length (made_of t).routes
+
+-- Taking a croutine: the event Acquire, or none where it was found held.
+pub record MayAcquire (t : FlagTable) (p : Pass) (c : ℕ) : Type 0 where
+  pub at : IsAt t p
+  pub free : HasNoHold p
+  pub inside : c < length (made_of t).routes
+
+pub record Acquired (t : FlagTable) (p : Pass) (c : ℕ) (q : Pass) (h : Hold) : Type 0 where
+  pub component : component_of h ≡ c
+  pub seat : seat_of q ≡ acquiring (seat_of p) c (routine_of h)
+  pub holds : Holds t q h
+  pub stepped : IsStepped h
+  pub seen : HasSeen c (routine_of h).calls (seat_of p).seen
+
+pub record FoundHeld (p : Pass) (c : ℕ) (q : Pass) : Type 0 where
+  pub seat : seat_of q ≡ failing (seat_of p) c
+  pub free : HasNoHold q
+
+-- The events Ask, Yield and Release, of the croutine in hand.
+pub record CanAsk (t : FlagTable) (p : Pass) (h : Hold) : Type 0 where
+  pub at : IsAt t p
+  pub holds : Holds t p h
+  pub stepped : IsStepped h
+  pub may : MayAsk (in_hand (seat_of p))
+
+pub record CanYield (t : FlagTable) (p : Pass) (h : Hold) (state : State) : Type 0 where
+  pub at : IsAt t p
+  pub holds : Holds t p h
+  pub stepped : IsStepped h
+  pub may : MayYield (seat_of p) (in_hand (seat_of p))
+  pub next : state ≡ next_state (in_hand (seat_of p))
+
+pub record CanRelease (t : FlagTable) (p : Pass) (h : Hold) : Type 0 where
+  pub at : IsAt t p
+  pub holds : Holds t p h
+  pub stepped : IsStepped h
+  pub may : MayRelease (in_hand (seat_of p))

@@ -1,0 +1,25 @@
+// The table, whose calls are the events of a run.
+ghost use Rattle.std.specs.Prelude.{◌≡◌, ◌<◌, ◌^◌, length};
+ghost use Rattle.wake_core.specs.WorldOf.{plain_of};
+ghost use Rattle.cy_table.specs.Layout.{words_for, slots_for};
+
+use crate::part::Part;
+use crate::rule::Flags;
+use crate::view::View;
+use atomic_table::Table;
+use std::alloc::Global;
+use std::snapshot::Snapshot;
+use wake_core::World;
+
+mod hold;
+
+/// The world of a run as words and slots, which many threads change at once, each with a pass of
+/// its own. Contracts see the world that it was made of by `made_of`.
+#[derive(Drop)]
+pub struct FlagTable {
+    table: Table<Part, View, Snapshot<World>, Flags, Global>,
+    ghost words: { table.shared.table_id.words
+        ≡ words_for (length (plain_of table.shared.key.value).routes) },
+    ghost slots: { table.shared.table_id.slots
+        ≡ slots_for (length (plain_of table.shared.key.value).routes) },
+}

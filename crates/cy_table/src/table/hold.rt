@@ -1,0 +1,109 @@
+// Taking a croutine, saying what it is to do next, and giving it back.
+ghost use Rattle.std.specs.Prelude.{◌≡◌};
+ghost use Rattle.cy_table.specs.Layout.{number_of as number_for};
+
+use crate::laws;
+use crate::part::Part;
+use crate::pass::{Busy, Hold, Pass};
+use crate::rule::{Acquire, Ask, Release, Yield};
+use crate::table::FlagTable;
+use cy_comp::State;
+
+impl FlagTable {
+    ghost use Rattle.std.specs.Prelude.{◌≡◌, IfOk, IfErr};
+    ghost use Rattle.cy_table.specs.Steps.{releasing, asking, yielding};
+    ghost use Rattle.cy_table.specs.Plays.{in_hand};
+    ghost use Rattle.cy_table.specs.Calls.{seat_of, Stays, HasNoHold, Holds, IsStepped, MayAcquire};
+    ghost use Rattle.cy_table.specs.Calls.{Acquired, FoundHeld, CanRelease, CanAsk, CanYield};
+
+    /// Takes a croutine in hand, by one swap of its hold word, where it was found free. `Busy`
+    /// comes exactly where another thread was found to have it. The routine has at least the calls
+    /// that this thread has seen.
+    pub fn acquire(&self, pass: &mut Pass, component: u32) -> Result<Hold, Busy>
+        requires { MayAcquire self.now pass.old component }
+        ensures same { Stays self.now pass.old pass.new }
+        ensures taken { IfOk result (λ h. Acquired self.now pass.old component pass.new h) }
+        ensures busy { IfErr result (λ _. FoundHeld pass.old component pass.new) }
+    {
+        laws::hold_swaps();
+        let c = component as usize;
+        let shared = &self.table.shared;
+        let found = shared.swap::<Acquire>(&mut pass.seat, 4 * c + 4, 1);
+        if found == 0 {
+            let taken = shared.exchange(&mut pass.seat, 2 * c + 1, Part::Away);
+            let Part::Routine(routine) = taken else {
+                unreachable!()
+            };
+            Ok(Hold {
+                component,
+                routine,
+                found: None,
+            })
+        } else {
+            Err(Busy)
+        }
+    }
+
+    /// Before a fetch: the croutine in hand, which is READY, waits for a message again.
+    pub fn ask(&self, pass: &mut Pass, hold: &mut Hold)
+        requires { CanAsk self.now pass.old hold.old }
+        ensures same { Stays self.now pass.old pass.new }
+        ensures seat { seat_of pass.new ≡ asking (seat_of pass.old) (in_hand (seat_of pass.old)) }
+        ensures holds { Holds self.now pass.new hold.new × IsStepped hold.new }
+    {
+        laws::state_stores();
+        let c = hold.component as usize;
+        hold.routine.ask();
+        let shared = &self.table.shared;
+        shared.store::<Ask>(&mut pass.seat, 4 * c + 5, 1);
+    }
+
+    /// After a fetch, and where one was called after the step: stores what the croutine in hand is
+    /// to do next.
+    pub fn yield_as(&self, pass: &mut Pass, hold: &mut Hold, state: State)
+        requires { CanYield self.now pass.old hold.old state }
+        ensures same { Stays self.now pass.old pass.new }
+        ensures seat { seat_of pass.new
+            ≡ yielding (seat_of pass.old) (in_hand (seat_of pass.old)) }
+        ensures holds { Holds self.now pass.new hold.new × IsStepped hold.new }
+    {
+        laws::state_stores();
+        let c = hold.component as usize;
+        let number = number_of(state);
+        hold.routine.yielded(state);
+        let shared = &self.table.shared;
+        shared.store::<Yield>(&mut pass.seat, 4 * c + 5, number);
+    }
+
+    /// Gives the croutine in hand back, after it yielded or without a resume.
+    pub fn release(&self, pass: &mut Pass, hold: Hold)
+        requires { CanRelease self.now pass.old hold }
+        ensures same { Stays self.now pass.old pass.new }
+        ensures seat { seat_of pass.new ≡ releasing (seat_of pass.old) }
+        ensures free { HasNoHold pass.new }
+    {
+        laws::hold_stores();
+        let Hold {
+            component,
+            routine,
+            found: _,
+        } = hold;
+        let c = component as usize;
+        let shared = &self.table.shared;
+        let left = shared.exchange(&mut pass.seat, 2 * c + 1, Part::Routine(routine));
+        let Part::Away = left else { unreachable!() };
+        shared.store::<Release>(&mut pass.seat, 4 * c + 4, 0);
+    }
+}
+
+// The number of a state in its word.
+fn number_of(state: State) -> u64
+    ensures { result ≡ number_for state }
+{
+    match state {
+        State::Ready => 0,
+        State::DataWait => 1,
+        State::Sleep { .. } => 2,
+        State::Finished => 3,
+    }
+}
