@@ -13,3 +13,5 @@ pub mod Leaving
 pub mod Lying
 pub mod Allowing
 pub mod Slots
+pub mod Words
+pub mod Updating

@@ -1,8 +1,12 @@
 -- What each call of the table needs of the thread's pass, and what it leaves.
-use Rattle.std.specs.Prelude.{ℕ, ◌≡◌, ◌≢◌, ◌<◌, List, [], ◌∷◌, length, Option, Some, None}
+use Rattle.std.specs.Prelude.{Bool, true, false, ◌&&◌, not, if◌then◌else◌}
+use Rattle.std.specs.Prelude.{ℕ, ◌≡◌, ◌≢◌, ◌≤◌, ◌<◌, List, [], ◌∷◌, length, Option, Some, None}
 use Rattle.cy_comp.specs.Routine.{RoutineView, taken}
-use Rattle.wake_core.specs.Plain.{Plain}
+use Rattle.wake_core.specs.Plain.{Plain, to_play_from}
 use Rattle.wake_core.specs.WorldOf.{plain_of}
+use Rattle.wake_core.specs.declared.phase.Phase.TheVariants.{Fresh}
+use Rattle.wake_core.specs.Events.{is_waiting}
+use Rattle.wake_core.specs.Turns.{is_due}
 use Rattle.cy_table.specs.declared.part.Part.{Part}
 use Rattle.cy_table.specs.declared.part.Part.TheVariants as part
 use Rattle.cy_table.specs.declared.pass.Pass.{Pass}
@@ -11,9 +15,11 @@ use Rattle.cy_table.specs.declared.pass.Hold.{Hold}
 use Rattle.cy_table.specs.declared.table.FlagTable.{FlagTable}
 use Rattle.cy_table.specs.Layout.{routine_slot}
 use Rattle.cy_table.specs.Seats.{Seat, Grip}
+use Rattle.cy_table.specs.Rule.{IsEmpty}
 use Rattle.cy_comp.specs.declared.state.State.{State}
+use Rattle.cy_table.specs.Steps.{MayReady, readying, MaySpend, spending, seeing}
 use Rattle.cy_table.specs.Steps.{acquiring, failing, MayAsk, MayYield, next_state, MayRelease}
-use Rattle.cy_table.specs.Plays.{Thread, in_hand, HasSeen}
+use Rattle.cy_table.specs.Plays.{Thread, in_hand, HasSeen, but_first}
 
 -- The world that a table was made of.
 abbrev pub made_of : FlagTable → Plain
@@ -28,6 +34,10 @@ seat_of p = p.seat.me.0
 
 abbrev pub number_of : Pass → ℕ
 number_of p = p.seat.id
+
+-- What a pass knows, with the slots that it took before.
+abbrev pub knowing : Pass → Seat → Thread
+knowing p v = (v, p.seat.me.1)
 
 -- The routine of a croutine in hand, with the call on a tuple that a fetch found, though the
 -- component was not stepped on it yet.
@@ -102,3 +112,74 @@ pub record CanRelease (t : FlagTable) (p : Pass) (h : Hold) : Type 0 where
   pub holds : Holds t p h
   pub stepped : IsStepped h
   pub may : MayRelease (in_hand (seat_of p))
+
+-- The events Tick and Close, by the player; and a look at the first of the news, when all readers
+-- are filled.
+pub record CanTick (t : FlagTable) (p : Pass) (time : ℕ) : Type 0 where
+  pub at : IsAt t p
+  pub player : number_of p ≡ 0
+  pub later : (seat_of p).clock ≤ time
+
+pub record CanClose (t : FlagTable) (p : Pass) : Type 0 where
+  pub at : IsAt t p
+  pub player : number_of p ≡ 0
+  pub all : length (seat_of p).played ≡ to_play_from (seat_of p).routes 0 (seat_of p).counts
+
+pub record CanLook (t : FlagTable) (p : Pass) (c : ℕ) : Type 0 where
+  pub at : IsAt t p
+  pub filled : (seat_of p).fills ≡ []
+  pub news : (seat_of p).news ≡ c ∷ but_first (seat_of p).news
+  pub inside : c < length (made_of t).routes
+
+abbrev pub after_look : Seat → Seat
+after_look v = record v { news = but_first v.news }
+
+-- The player's pass, and a pass with nothing in hand and nothing owed that is joined into it.
+pub record IsPlayer (t : FlagTable) (p : Pass) : Type 0 where
+  pub at : IsAt t p
+  pub player : number_of p ≡ 0
+
+pub record CanJoin (t : FlagTable) (p other : Pass) : Type 0 where
+  pub mine : IsPlayer t p
+  pub at : IsAt t other
+  pub here : (seat_of other).live ≡ 1
+  pub empty : IsEmpty (seat_of other)
+  pub out : (thread_of other).1 ≡ []
+
+-- An update of a croutine that was just taken: the clock is seen once; the croutine is made READY
+-- where it is due at that time; else its flag is spent, and it is made READY where that woke it.
+pub record CanUpdate (t : FlagTable) (p : Pass) (h : Hold) : Type 0 where
+  pub at : IsAt t p
+  pub holds : Holds t p h
+  pub stepped : IsStepped h
+  pub fresh : (in_hand (seat_of p)).phase ≡ Fresh
+
+pub record CanReady (t : FlagTable) (p : Pass) (h : Hold) : Type 0 where
+  pub at : IsAt t p
+  pub holds : Holds t p h
+  pub stepped : IsStepped h
+  pub may : MayReady (seat_of p) (in_hand (seat_of p))
+
+pub record CanSpend (t : FlagTable) (p : Pass) (h : Hold) : Type 0 where
+  pub at : IsAt t p
+  pub holds : Holds t p h
+  pub stepped : IsStepped h
+  pub may : MaySpend (seat_of p) (in_hand (seat_of p))
+
+abbrev pub state_of : Seat → State
+state_of v = (in_hand v).routine.state
+
+abbrev pub ready_if : Bool → Seat → Seat
+ready_if woken v = if woken then readying v (in_hand v) else v
+
+abbrev pub after_spend : Seat → (was_spent : Bool) → Seat
+after_spend v was_spent =
+    ready_if (is_waiting (state_of v) && not was_spent) (spending v (in_hand v) was_spent)
+
+pub record Updated (v : Seat) (state : State) (u : Seat) : Type 0 where
+  pub later : v.clock ≤ u.clock
+  pub due : is_due (state_of v) u.clock ≡ true
+      → u ≡ readying (seeing v u.clock) (in_hand v)
+  pub not_due : is_due (state_of v) u.clock ≡ false
+      → (was_spent : Bool) × (u ≡ after_spend (seeing v u.clock) was_spent)
+  pub answer : state ≡ state_of u

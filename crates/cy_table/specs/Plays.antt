@@ -1,6 +1,7 @@
 -- The rule for a world that a table is made of, and what each step tells the thread that makes it:
 -- its seat, and the slots that it took, after the step.
-use Rattle.std.specs.Prelude.{ℕ, ◌≡◌, ◌≢◌, ◌==◌, List, [], ◌∷◌, length, take, Option, Some, None}
+use Rattle.std.specs.Prelude.{ℕ, ◌≡◌, ◌≢◌, ◌≤◌, ◌==◌, true, List, [], ◌∷◌, length, take, Option}
+use Rattle.std.specs.Prelude.{Some, None}
 use Rattle.atomic_table.specs.Table.{State as Table, Me, Step, rest}
 use Rattle.cy_comp.specs.declared.kind.Kind.TheVariants.{Pass}
 use Rattle.cy_comp.specs.declared.call.Call.{Call}
@@ -12,9 +13,11 @@ use Rattle.wake_core.specs.WorldOf.{plain_of}
 use Rattle.cy_table.specs.declared.part.Part.{Part}
 use Rattle.cy_table.specs.declared.part.Part.TheVariants as part
 use Rattle.cy_table.specs.Layout.{hold_word, routine_slot}
-use Rattle.cy_table.specs.Seats.{Seat, Seen, Grip}
+use Rattle.cy_table.specs.Seats.{Seat, Seen, Grip, no_seat}
 use Rattle.cy_table.specs.Rule.{Ruled}
 use Rattle.cy_table.specs.Steps.{acquiring, failing, releasing, asking, yielding, first_seat}
+use Rattle.cy_table.specs.Steps.{readying, spending, seeing, ticking, heeding, closing_all, looking, clearing_but}
+use Rattle.cy_table.specs.Steps.{splitting, split_off, joining}
 
 -- The calls of the first components of a world, the last component first.
 abbrev pub calls_from : Plain → ℕ → List Seen
@@ -66,3 +69,49 @@ asked step m found n = n ≡ (asking m.0 (in_hand m.0), m.1)
 
 abbrev pub yielded : Step Part → Thread → ℕ → Thread → Type 0
 yielded step m found n = n ≡ (yielding m.0 (in_hand m.0), m.1)
+
+-- The load and the stores of the clock and of the word that says whether the run is closing.
+pub record SeeTells (m : Thread) (found : ℕ) (n : Thread) : Type 0 where
+  pub thread : n ≡ (seeing m.0 found, m.1)
+  pub past : m.0.clock ≤ found
+
+abbrev pub saw : Step Part → Thread → ℕ → Thread → Type 0
+saw step m found n = SeeTells m found n
+
+abbrev pub ticked : Step Part → Thread → ℕ → Thread → Type 0
+ticked step m found n = n ≡ (ticking m.0 found, m.1)
+
+pub record HeedTells (m : Thread) (found : ℕ) (n : Thread) : Type 0 where
+  pub thread : n ≡ (heeding m.0 (found == 1), m.1)
+  pub stays : m.0.closing ≡ true → (found == 1) ≡ true
+
+abbrev pub heeded : Step Part → Thread → ℕ → Thread → Type 0
+heeded step m found n = HeedTells m found n
+
+abbrev pub closed : Step Part → Thread → ℕ → Thread → Type 0
+closed step m found n = n ≡ (closing_all m.0, m.1)
+
+-- The load of the state of the first of the news, and the store of the last flag that is to be
+-- cleared.
+abbrev pub but_first : List ℕ → List ℕ
+but_first [] = []
+but_first (c ∷ rest) = rest
+
+abbrev pub but_last : List ℕ → List ℕ
+but_last [] = []
+but_last (c ∷ []) = []
+but_last (c ∷ d ∷ rest) = c ∷ but_last (d ∷ rest)
+
+abbrev pub looked : Step Part → Thread → ℕ → Thread → Type 0
+looked step m found n = (c : ℕ) → m.0.news ≡ c ∷ but_first m.0.news
+    → n ≡ (looking m.0 c (but_first m.0.news) (found == 1), m.1)
+
+abbrev pub cleared : Step Part → Thread → ℕ → Thread → Type 0
+cleared step m found n = n ≡ (clearing_but m.0 (but_last m.0.clearing), m.1)
+
+-- The store of READY, and the swap of a flag.
+abbrev pub readied : Step Part → Thread → ℕ → Thread → Type 0
+readied step m found n = n ≡ (readying m.0 (in_hand m.0), m.1)
+
+abbrev pub spent : Step Part → Thread → ℕ → Thread → Type 0
+spent step m found n = n ≡ (spending m.0 (in_hand m.0) (found == 1), m.1)

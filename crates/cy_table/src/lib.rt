@@ -15,5 +15,5 @@ mod table;
 mod view;
 
 pub use part::{Part, Tape};
-pub use pass::{Busy, Hold, Pass};
+pub use pass::{Busy, Hold, Pass, TableError};
 pub use table::FlagTable;

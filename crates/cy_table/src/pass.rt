@@ -32,6 +32,13 @@ pub struct Hold {
     ghost fits: { ForSome found (λ f. MayTake routine f.tuple f.position) },
 }
 
+/// There was no memory.
+#[derive(Clone, Copy, Debug, PartialEq, Eq)]
+pub enum TableError {
+    /// There was no memory.
+    Memory,
+}
+
 /// Another thread has the croutine in hand.
 #[derive(Clone, Copy, Debug, PartialEq, Eq)]
 pub struct Busy;

@@ -1,9 +1,13 @@
 // The rule of the table as a type, and what each of its steps tells the thread that makes it.
 ghost use Rattle.cy_table.specs.Plays.{rule_for, seat_for, acquired, released, asked, yielded};
+ghost use Rattle.cy_table.specs.Plays.{saw, ticked, heeded, closed, looked, cleared};
+ghost use Rattle.cy_table.specs.Plays.{readied, spent};
+ghost use Rattle.cy_table.specs.Steps.{splitting, split_off, joining};
+ghost use Rattle.cy_table.specs.Seats.{no_seat};
 
 use crate::part::Part;
 use crate::view::View;
-use atomic_table::{Play, TableRule};
+use atomic_table::{Join, Play, Split, TableRule};
 use std::snapshot::Snapshot;
 use wake_core::World;
 
@@ -42,4 +46,78 @@ pub struct Yield;
 
 impl Play<Part, View> for Yield {
     ghost then = { yielded };
+}
+
+// The load of the clock.
+pub struct See;
+
+impl Play<Part, View> for See {
+    ghost then = { saw };
+}
+
+// The player's store of the clock.
+pub struct Tick;
+
+impl Play<Part, View> for Tick {
+    ghost then = { ticked };
+}
+
+// The load of the word that says whether the run is closing.
+pub struct Heed;
+
+impl Play<Part, View> for Heed {
+    ghost then = { heeded };
+}
+
+// The player's store of that word.
+pub struct Close;
+
+impl Play<Part, View> for Close {
+    ghost then = { closed };
+}
+
+// The load of a state by who filled the component's visitor.
+pub struct Look;
+
+impl Play<Part, View> for Look {
+    ghost then = { looked };
+}
+
+// The store of a flag.
+pub struct Clear;
+
+impl Play<Part, View> for Clear {
+    ghost then = { cleared };
+}
+
+// A seat is split off the player's.
+pub struct Off;
+
+impl Split<View> for Off {
+    ghost left = { splitting };
+
+    ghost right = { split_off };
+}
+
+// A seat is joined into the player's.
+pub struct Into;
+
+impl Join<View> for Into {
+    ghost both = { joining };
+
+    ghost spent = { no_seat };
+}
+
+// The store of READY.
+pub struct Ready;
+
+impl Play<Part, View> for Ready {
+    ghost then = { readied };
+}
+
+// The swap of a flag.
+pub struct Spend;
+
+impl Play<Part, View> for Spend {
+    ghost then = { spent };
 }

@@ -11,7 +11,10 @@ use std::alloc::Global;
 use std::snapshot::Snapshot;
 use wake_core::World;
 
+mod bench;
 mod hold;
+mod update;
+mod words;
 
 /// The world of a run as words and slots, which many threads change at once, each with a pass of
 /// its own. Contracts see the world that it was made of by `made_of`.

@@ -1,0 +1,12 @@
+-- The store of a flag.
+use Rattle.std.proofs.Common.{arith}
+use Rattle.wake_core.specs.WorldOf.{plain_of}
+use Rattle.cy_table.proofs.Words.{clears}
+use Rattle.cy_table.proofs.table.FlagTable.clear.Goals as goal
+
+pub store-requires : goal.store-requires
+store-requires c =
+    let table = c.args.self.now.table.shared in
+    let made = plain_of table.key.value in
+    let seat = c.args.pass.now.seat in
+    (c.requires.at.table, omega (arith, c.args.self.now.words, c.requires.inside), clears c.flag_stores.ensures made.routes made.counts table.table_id.slots seat.id c.args.component seat.me c.requires.at.live c.requires.last c.requires.inside)

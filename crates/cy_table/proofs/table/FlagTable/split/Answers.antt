@@ -1,0 +1,12 @@
+-- A seat is split off the player's.
+use Rattle.std.proofs.Common.{arith}
+use Rattle.wake_core.specs.WorldOf.{plain_of}
+use Rattle.cy_table.proofs.Words.{splits}
+use Rattle.cy_table.proofs.table.FlagTable.split.Goals as goal
+
+pub split_seat-seat-requires : goal.split_seat-seat-requires
+split_seat-seat-requires c =
+    let table = c.args.self.now.table.shared in
+    let made = plain_of table.key.value in
+    let seat = c.args.pass.now.seat in
+    (c.requires.at.table, omega (arith, c.args.self.now.words), splits c.bench_steps.ensures made.routes made.counts seat.id seat.me.0 c.requires.at.live c.requires.player)

@@ -1,0 +1,12 @@
+-- The player's store of the clock.
+use Rattle.std.proofs.Common.{arith}
+use Rattle.wake_core.specs.WorldOf.{plain_of}
+use Rattle.cy_table.proofs.Words.{ticks}
+use Rattle.cy_table.proofs.table.FlagTable.tick.Goals as goal
+
+pub store-requires : goal.store-requires
+store-requires c =
+    let table = c.args.self.now.table.shared in
+    let made = plain_of table.key.value in
+    let seat = c.args.pass.now.seat in
+    (c.requires.at.table, omega (arith, c.args.self.now.words), ticks c.clock_steps.ensures made.routes made.counts table.table_id.slots seat.id c.args.time seat.me c.requires.at.live c.requires.player c.requires.later)

@@ -1,0 +1,41 @@
+// Threads come to the table and leave it.
+use crate::laws;
+use crate::pass::{Pass, TableError};
+use crate::rule::{Into, Off};
+use crate::table::FlagTable;
+
+impl FlagTable {
+    ghost use Rattle.std.specs.Prelude.{◌≡◌, [], IfOk, IfErr};
+    ghost use Rattle.cy_table.specs.Steps.{splitting, split_off, joining};
+    ghost use Rattle.cy_table.specs.Calls.{seat_of, thread_of, knowing, IsAt, Stays, IsPlayer};
+    ghost use Rattle.cy_table.specs.Calls.{CanJoin};
+
+    /// A pass for one thread more, split off the player's. It has nothing in hand, owes nothing and
+    /// has seen no calls. Its only error is `Memory`, and then the player's pass is as it was.
+    pub fn split(&self, pass: &mut Pass) -> Result<Pass, TableError>
+        requires { IsPlayer self.now pass.old }
+        ensures same { Stays self.now pass.old pass.new }
+        ensures split { IfOk result (λ q. IsAt self.now q
+            × (thread_of q ≡ (split_off (seat_of pass.old), []))
+            × (thread_of pass.new ≡ knowing pass.old (splitting (seat_of pass.old)))) }
+        ensures refused { IfErr result (λ _. thread_of pass.new ≡ thread_of pass.old) }
+    {
+        laws::bench_steps();
+        let shared = &self.table.shared;
+        let seat = shared.split_seat::<Off>(&mut pass.seat);
+        Ok(Pass { seat })
+    }
+
+    /// Takes a pass in that was split off, with the calls that it has seen.
+    pub fn join(&self, pass: &mut Pass, other: Pass)
+        requires { CanJoin self.now pass.old other }
+        ensures same { Stays self.now pass.old pass.new }
+        ensures thread { thread_of pass.new
+            ≡ knowing pass.old (joining (seat_of pass.old) (seat_of other)) }
+    {
+        laws::bench_steps();
+        let Pass { seat } = other;
+        let shared = &self.table.shared;
+        shared.join_seat::<Into>(&mut pass.seat, seat);
+    }
+}
