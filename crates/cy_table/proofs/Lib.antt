@@ -15,3 +15,4 @@ pub mod Allowing
 pub mod Slots
 pub mod Words
 pub mod Updating
+pub mod Visits

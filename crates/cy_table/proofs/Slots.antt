@@ -1,6 +1,7 @@
 -- A slot that a thread took last, read and written between two of its steps.
 use Rattle.std.proofs.Common.{ℕ, ◌≡◌, List, ◌∷◌, sym, ◌∙◌, ap}
 use Rattle.atomic_table.specs.Table.{rest}
+use Rattle.cy_fuse.specs.Visitor.{VisitorView}
 use Rattle.cy_comp.specs.Routine.{RoutineView}
 use Rattle.cy_table.specs.declared.part.Part.{Part}
 use Rattle.cy_table.specs.declared.part.Part.TheVariants as part
@@ -14,6 +15,10 @@ part_or d (x ∷ xs) = x.1
 abbrev pub routine_or : RoutineView → Part → RoutineView
 routine_or d (part.Routine x) = x
 routine_or d _ = d
+
+abbrev pub visitor_or : VisitorView → Part → VisitorView
+visitor_or d (part.Visitor x) = x
+visitor_or d _ = d
 
 -- After a swap that took the slot: it is the first that is out, and what was in it was read.
 pub in_front : (n : Thread) (v : Seat) (slot : ℕ) (y : Part) (more : List (ℕ × Part)) → n ≡ (v, (slot, y) ∷ more) → (old : Part) × (n.1 ≡ (slot, old) ∷ rest n.1)

@@ -2,6 +2,7 @@
 use Rattle.std.specs.Prelude.{Bool, true, false, ◌&&◌, not, if◌then◌else◌}
 use Rattle.std.specs.Prelude.{ℕ, ◌≡◌, ◌≢◌, ◌≤◌, ◌<◌, List, [], ◌∷◌, length, Option, Some, None}
 use Rattle.cy_comp.specs.Routine.{RoutineView, taken}
+use Rattle.cy_fuse.specs.Visitor.{VisitorView}
 use Rattle.wake_core.specs.Plain.{Plain, to_play_from}
 use Rattle.wake_core.specs.WorldOf.{plain_of}
 use Rattle.wake_core.specs.declared.phase.Phase.TheVariants.{Fresh}
@@ -13,13 +14,15 @@ use Rattle.cy_table.specs.declared.pass.Pass.{Pass}
 use Rattle.cy_table.specs.declared.pass.Found.{Found}
 use Rattle.cy_table.specs.declared.pass.Hold.{Hold}
 use Rattle.cy_table.specs.declared.table.FlagTable.{FlagTable}
-use Rattle.cy_table.specs.Layout.{routine_slot}
+use Rattle.cy_table.specs.Layout.{routine_slot, visitor_slot}
 use Rattle.cy_table.specs.Seats.{Seat, Grip}
-use Rattle.cy_table.specs.Rule.{IsEmpty}
+use Rattle.cy_table.specs.Rule.{IsEmpty, roles_at}
 use Rattle.cy_comp.specs.declared.state.State.{State}
+use Rattle.cy_table.specs.Steps.{visiting}
 use Rattle.cy_table.specs.Steps.{MayReady, readying, MaySpend, spending, seeing}
 use Rattle.cy_table.specs.Steps.{acquiring, failing, MayAsk, MayYield, next_state, MayRelease}
-use Rattle.cy_table.specs.Plays.{Thread, in_hand, HasSeen, but_first}
+use Rattle.cy_table.specs.Plays.{Thread, in_hand, HasSeen, but_first, later_fills}
+use Rattle.cy_msg.specs.declared.token.Token.{Token}
 
 -- The world that a table was made of.
 abbrev pub made_of : FlagTable → Plain
@@ -183,3 +186,23 @@ pub record Updated (v : Seat) (state : State) (u : Seat) : Type 0 where
   pub not_due : is_due (state_of v) u.clock ≡ false
       → (was_spent : Bool) × (u ≡ after_spend (seeing v u.clock) was_spent)
   pub answer : state ≡ state_of u
+
+-- A visit of a component; and a fill of a reader of it, the first of those that are owed.
+pub record CanVisit (t : FlagTable) (p : Pass) (c : ℕ) : Type 0 where
+  pub at : IsAt t p
+  pub bare : (seat_of p).visit ≡ None
+  pub inside : c < length (made_of t).routes
+
+pub record CanFill (t : FlagTable) (p : Pass) (c role : ℕ) (token : Token) : Type 0 where
+  pub visit : CanVisit t p c
+  pub owes : (seat_of p).fills ≡ (c, role) ∷ later_fills (seat_of p).fills
+  pub message : token ≡ (seat_of p).token
+  pub reader : role < roles_at (seat_of p).routes c
+
+-- A thread that took a visitor, which has as many readers as its component, and room where it is to
+-- be filled.
+pub record Visiting (p : Pass) (c : ℕ) (x : VisitorView) (q : Pass) : Type 0 where
+  pub thread : thread_of q
+      ≡ (visiting (seat_of p) c x, (visitor_slot c, part.Away) ∷ (thread_of p).1)
+  pub roles : x.roles ≡ roles_at (seat_of p).routes c
+  pub room : (j : ℕ) (later : List (ℕ × ℕ)) → (seat_of p).fills ≡ (c, j) ∷ later → 1 ≤ x.spare

@@ -12,10 +12,12 @@ use Rattle.wake_core.specs.Plain.{Plain}
 use Rattle.wake_core.specs.WorldOf.{plain_of}
 use Rattle.cy_table.specs.declared.part.Part.{Part}
 use Rattle.cy_table.specs.declared.part.Part.TheVariants as part
-use Rattle.cy_table.specs.Layout.{hold_word, routine_slot}
+use Rattle.cy_table.specs.Layout.{hold_word, routine_slot, visitor_door, visitor_slot}
 use Rattle.cy_table.specs.Seats.{Seat, Seen, Grip, no_seat}
-use Rattle.cy_table.specs.Rule.{Ruled}
+use Rattle.cy_table.specs.Rule.{Ruled, roles_at}
 use Rattle.cy_table.specs.Steps.{acquiring, failing, releasing, asking, yielding, first_seat}
+use Rattle.cy_fuse.specs.Visitor.{VisitorView}
+use Rattle.cy_table.specs.Steps.{visiting, filling}
 use Rattle.cy_table.specs.Steps.{readying, spending, seeing, ticking, heeding, closing_all, looking, clearing_but}
 use Rattle.cy_table.specs.Steps.{splitting, split_off, joining}
 
@@ -115,3 +117,28 @@ readied step m found n = n ≡ (readying m.0 (in_hand m.0), m.1)
 
 abbrev pub spent : Step Part → Thread → ℕ → Thread → Type 0
 spent step m found n = n ≡ (spending m.0 (in_hand m.0) (found == 1), m.1)
+
+-- The swap of a visitor's door: the visitor is in hand, with as many readers as its component has,
+-- and with room where it is to be filled; or another thread is behind the door.
+pub record VisitTells (c : ℕ) (m : Thread) (found : ℕ) (n : Thread) : Type 0 where
+  pub open_door : found ≡ 0 → (x : VisitorView)
+      × (n ≡ (visiting m.0 c x, (visitor_slot c, part.Visitor x) ∷ m.1))
+      × (x.roles ≡ roles_at m.0.routes c)
+      × ((j : ℕ) (later : List (ℕ × ℕ)) → m.0.fills ≡ (c, j) ∷ later → 1 ≤ x.spare)
+  pub shut_door : found ≢ 0 → n ≡ m
+
+abbrev pub visited : Step Part → Thread → ℕ → Thread → Type 0
+visited step m found n = (c : ℕ) → step.word ≡ visitor_door c → VisitTells c m found n
+
+-- The store of a visitor's door after a fill, of the first of the readers.
+abbrev pub first_fill : List (ℕ × ℕ) → ℕ × ℕ
+first_fill [] = (0, 0)
+first_fill (x ∷ rest) = x
+
+abbrev pub later_fills : List (ℕ × ℕ) → List (ℕ × ℕ)
+later_fills [] = []
+later_fills (x ∷ rest) = rest
+
+abbrev pub filled : Step Part → Thread → ℕ → Thread → Type 0
+filled step m found n = n ≡ (filling m.0 (first_fill m.0.fills).0 (first_fill m.0.fills).1
+    (later_fills m.0.fills), rest m.1)

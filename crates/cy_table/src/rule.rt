@@ -1,7 +1,7 @@
 // The rule of the table as a type, and what each of its steps tells the thread that makes it.
 ghost use Rattle.cy_table.specs.Plays.{rule_for, seat_for, acquired, released, asked, yielded};
 ghost use Rattle.cy_table.specs.Plays.{saw, ticked, heeded, closed, looked, cleared};
-ghost use Rattle.cy_table.specs.Plays.{readied, spent};
+ghost use Rattle.cy_table.specs.Plays.{readied, spent, visited, filled};
 ghost use Rattle.cy_table.specs.Steps.{splitting, split_off, joining};
 ghost use Rattle.cy_table.specs.Seats.{no_seat};
 
@@ -120,4 +120,18 @@ pub struct Spend;
 
 impl Play<Part, View> for Spend {
     ghost then = { spent };
+}
+
+// The swap of a visitor's door.
+pub struct Visit;
+
+impl Play<Part, View> for Visit {
+    ghost then = { visited };
+}
+
+// The store of a visitor's door after a fill.
+pub struct Fill;
+
+impl Play<Part, View> for Fill {
+    ghost then = { filled };
 }

@@ -14,6 +14,7 @@ use wake_core::World;
 mod bench;
 mod hold;
 mod update;
+mod visits;
 mod words;
 
 /// The world of a run as words and slots, which many threads change at once, each with a pass of

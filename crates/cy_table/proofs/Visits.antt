@@ -1,0 +1,49 @@
+-- What the steps of a visitor's door may do, by their laws.
+use Rattle.std.proofs.Common.{ℕ, ◌+◌, ◌*◌, ◌-◌, ◌≡◌, ◌≢◌, ◌≤◌, ◌<◌, refl, sym, ◌∙◌, ap, subst, inl, inr, List, [], ◌∷◌, length, slice_index, None, arith}
+use mathlib.Core.Option.{none}
+use Rattle.atomic_table.specs.Table.{Allows, step, keeps, takes, gives}
+use Rattle.cy_fuse.specs.Visitor.{VisitorView, arrived}
+use Rattle.wake_core.specs.declared.route.Route.{Route}
+use Rattle.cy_table.specs.declared.part.Part.{Part}
+use Rattle.cy_table.specs.declared.part.Part.TheVariants as part
+use Rattle.cy_table.specs.Seats.{Seat, Visit}
+use Rattle.cy_table.specs.Rule.{Ruled, roles_at}
+use Rattle.cy_table.specs.Steps.{Sits, visiting, filling}
+use Rattle.cy_table.specs.Laws.{VisitorDoorSwaps, FillStores, RoomsLeft}
+use Rattle.cy_table.specs.Plays.{Thread, VisitTells, visited, first_fill, later_fills, filled}
+use Rattle.cy_table.proofs.Places.{place}
+use Rattle.cy_table.proofs.Allowing.{ruled_then, ruled_still}
+
+room_left : (x room have : ℕ) → x ≡ room - have → have < room → 1 ≤ x
+room_left x room have e less = omega (arith, e, less)
+
+pub visits : VisitorDoorSwaps → RoomsLeft → (routes : List Route) (counts : List ℕ) (slots id c : ℕ) (m : Thread) → m.0.live ≢ 0 → m.0.visit ≡ None → c < length routes
+    → Allows (Ruled routes counts) slots id m (4 * c + 7) (λ _. 1) (visited (step slots (4 * c + 7) 1 0 none) m)
+visits law rooms routes counts slots id c m live bare less s k deep at bound =
+    let inside : c < length k.world.routes = subst (λ (l : List Route). c < length l) (sym k.components) less in
+    let sits : Sits k.rooms k.world s id m.0 = record { rules = k.rules; at = at; live = live } in
+    let tell = λ (found : ℕ) (n : Thread) (a : VisitTells c m found n). λ (d : ℕ) (e : 4 * c + 7 ≡ 4 * d + 7). subst (λ j. VisitTells j m found n) (let h : c ≡ d = omega arith in h) a in
+    elim (place (slice_index s.words (4 * c + 7)) 0) [
+      | inl free ↦ let a = law.open_door k.rooms k.world s id c m.0 m.1 sits inside bare free in
+          let roles = ap (λ (y : VisitorView). y.roles) a.2 ∙ ap (λ (l : List Route). roles_at l c) (sym ((k.rules.knows id m.0 at).made live).0) in
+          let spare = ap (λ (y : VisitorView). y.spare) a.2 in
+          (visiting m.0 c a.0, takes (2 * c + 2) (part.Visitor a.0), a.1, ruled_still k a.3,
+          tell (slice_index s.words (4 * c + 7)) (visiting m.0 c a.0, (2 * c + 2, part.Visitor a.0) ∷ m.1) record {
+            open_door = λ z. (a.0, refl, roles, λ j later e. room_left a.0.spare (k.rooms.arrivals c) (length (k.world.arrivals c)) spare (rooms.fill k.rooms k.world s id m.0 c j later sits e inside));
+            shut_door = λ ne. absurd (ne free);
+          })
+      | inr shut ↦ (m.0, keeps, tt, ruled_still k (law.shut_door k.rooms k.world s id c m.0 m.1 sits inside shut),
+          tell (slice_index s.words (4 * c + 7)) m record { open_door = λ z. absurd (shut z); shut_door = λ ne. refl })
+    ]
+
+pub fills : FillStores → (routes : List Route) (counts : List ℕ) (slots id c j : ℕ) (x : VisitorView) (v : Seat) (more : List (ℕ × Part)) (m : Thread) → v.live ≢ 0 → v.fills ≡ (c, j) ∷ later_fills v.fills → c < length routes
+    → m ≡ (visiting v c x, (2 * c + 2, part.Visitor (arrived x j v.token)) ∷ more)
+    → Allows (Ruled routes counts) slots id m (4 * c + 7) (λ _. 0) (λ _. filled (step slots (4 * c + 7) 0 0 none) m 0)
+fills law routes counts slots id c j x v more m live owes less is = subst (λ z. Allows (Ruled routes counts) slots id z (4 * c + 7) (λ _. 0) (λ _. filled (step slots (4 * c + 7) 0 0 none) z 0)) (sym is)
+    (λ s k deep at bound.
+    let u = visiting v c x in
+    let a : Visit = record { component = c; visitor = x } in
+    let inside : c < length k.world.routes = subst (λ (l : List Route). c < length l) (sym k.components) less in
+    let sits : Sits k.rooms k.world s id u = record { rules = k.rules; at = at; live = live } in
+    (filling u c j (later_fills v.fills), gives, tt, ruled_then k (law.fill k.rooms k.world s id u a j (later_fills v.fills) more sits refl owes inside),
+    ap (λ (l : List (ℕ × ℕ)). let n : Thread = (filling u (first_fill l).0 (first_fill l).1 (later_fills l), more) in n) (sym owes)))

@@ -1,0 +1,68 @@
+-- The swap of a visitor's door, and the read of the slot that it took.
+use Rattle.std.proofs.Common.{ℕ, ◌≡◌, ◌≤◌, ◌+◌, ◌*◌, List, ◌∷◌, refl, sym, ap, ◌∙◌, subst, arith}
+use Rattle.cy_fuse.specs.Visitor.{VisitorView}
+use Rattle.wake_core.specs.WorldOf.{plain_of}
+use Rattle.cy_table.specs.declared.part.Part.TheVariants as part
+use Rattle.cy_table.specs.Rule.{roles_at}
+use Rattle.cy_table.specs.Steps.{visiting}
+use Rattle.cy_table.specs.Plays.{Thread}
+use Rattle.cy_table.proofs.Visits.{visits}
+use Rattle.cy_table.proofs.Slots.{in_front, exchanged, visitor_or}
+use Rattle.cy_table.proofs.table.FlagTable.visit.Goals as goal
+
+pub swap-found-requires : goal.swap-found-requires
+swap-found-requires c =
+    let table = c.args.self.now.table.shared in
+    let made = plain_of table.key.value in
+    let seat = c.args.pass.now.seat in
+    (c.requires.at.table, omega (arith, c.args.self.now.words, c.requires.inside), visits c.visitor_door_swaps.ensures c.rooms_left.ensures made.routes made.counts table.table_id.slots seat.id c.args.component seat.me c.requires.at.live c.requires.bare c.requires.inside)
+
+pub exchange-taken-requires : goal.exchange-taken-requires
+exchange-taken-requires c =
+    let t = (c.swap-found.ensures.2 c.args.component refl).open_door c.if-found-eq0.true in
+    (c.swap-found.ensures.0 ∙ c.requires.at.table, in_front _ _ _ _ _ t.1)
+
+pub unreachable-requires : goal.unreachable-requires
+unreachable-requires c =
+    let t = (c.swap-found.ensures.2 c.args.component refl).open_door c.if-found-eq0.true in
+    let e = exchanged _ c.exchange-taken.new.seat.me _ _ _ _ _ _ t.1 c.exchange-taken.ensures.2 c.exchange-taken.ensures.3 in
+    c.in_default.not-Visitor t.0 (sym e.0)
+
+pub returns-in-Visitor-clause-same : goal.returns-in-Visitor-clause-same
+returns-in-Visitor-clause-same c =
+    let t = (c.swap-found.ensures.2 c.args.component refl).open_door c.if-found-eq0.true in
+    let e = exchanged _ c.exchange-taken.new.seat.me _ _ _ _ _ _ t.1 c.exchange-taken.ensures.2 c.exchange-taken.ensures.3 in
+    record {
+      at = record {
+        table = c.exchange-taken.ensures.0 ∙ (c.swap-found.ensures.0 ∙ c.requires.at.table);
+        live = λ z. c.requires.at.live (sym (ap (λ (m : Thread). m.0.live) e.1) ∙ z);
+      };
+      number = c.exchange-taken.ensures.1 ∙ c.swap-found.ensures.1;
+    }
+
+pub returns-in-Visitor-clause-visiting : goal.returns-in-Visitor-clause-visiting
+returns-in-Visitor-clause-visiting c =
+    let t = (c.swap-found.ensures.2 c.args.component refl).open_door c.if-found-eq0.true in
+    let e = exchanged _ c.exchange-taken.new.seat.me _ _ _ _ _ _ t.1 c.exchange-taken.ensures.2 c.exchange-taken.ensures.3 in
+    let b : t.0 ≡ c.in-Visitor.visitor = ap (visitor_or t.0) (e.0 ∙ c.in-Visitor.is) in
+    let old = c.args.pass.now.seat.me in
+    let i = c.args.component in
+    record {
+      thread = e.1 ∙ ap (λ x. let n : Thread = (visiting old.0 i x, (2 * i + 2, part.Away) ∷ old.1) in n) b;
+      roles = subst (λ (x : VisitorView). x.roles ≡ roles_at old.0.routes i) b t.2;
+      room = subst (λ (x : VisitorView). (j : ℕ) (later : List (ℕ × ℕ)) → old.0.fills ≡ (i, j) ∷ later → 1 ≤ x.spare) b t.3;
+    }
+
+pub returns-else-found-eq0-clause-same : goal.returns-else-found-eq0-clause-same
+returns-else-found-eq0-clause-same c =
+    let t = (c.swap-found.ensures.2 c.args.component refl).shut_door c.if-found-eq0.false in
+    record {
+      at = record {
+        table = c.swap-found.ensures.0 ∙ c.requires.at.table;
+        live = λ z. c.requires.at.live (sym (ap (λ (m : Thread). m.0.live) t) ∙ z);
+      };
+      number = c.swap-found.ensures.1;
+    }
+
+pub returns-else-found-eq0-clause-shut : goal.returns-else-found-eq0-clause-shut
+returns-else-found-eq0-clause-shut c = (c.swap-found.ensures.2 c.args.component refl).shut_door c.if-found-eq0.false
