@@ -16,3 +16,4 @@ pub mod Slots
 pub mod Words
 pub mod Updating
 pub mod Visits
+pub mod Taping

@@ -5,7 +5,7 @@ use Rattle.cy_fuse.specs.Visitor.{VisitorView}
 use Rattle.cy_comp.specs.Routine.{RoutineView}
 use Rattle.cy_table.specs.declared.part.Part.{Part}
 use Rattle.cy_table.specs.declared.part.Part.TheVariants as part
-use Rattle.cy_table.specs.Seats.{Seat}
+use Rattle.cy_table.specs.Seats.{Seat, TapeView}
 use Rattle.cy_table.specs.Plays.{Thread}
 
 abbrev pub part_or : Part → List (ℕ × Part) → Part
@@ -19,6 +19,10 @@ routine_or d _ = d
 abbrev pub visitor_or : VisitorView → Part → VisitorView
 visitor_or d (part.Visitor x) = x
 visitor_or d _ = d
+
+abbrev pub tape_or : TapeView → Part → TapeView
+tape_or d (part.Tape x) = x
+tape_or d _ = d
 
 -- After a swap that took the slot: it is the first that is out, and what was in it was read.
 pub in_front : (n : Thread) (v : Seat) (slot : ℕ) (y : Part) (more : List (ℕ × Part)) → n ≡ (v, (slot, y) ∷ more) → (old : Part) × (n.1 ≡ (slot, old) ∷ rest n.1)

@@ -14,11 +14,11 @@ use Rattle.cy_table.specs.declared.pass.Pass.{Pass}
 use Rattle.cy_table.specs.declared.pass.Found.{Found}
 use Rattle.cy_table.specs.declared.pass.Hold.{Hold}
 use Rattle.cy_table.specs.declared.table.FlagTable.{FlagTable}
-use Rattle.cy_table.specs.Layout.{routine_slot, visitor_slot}
-use Rattle.cy_table.specs.Seats.{Seat, Grip}
+use Rattle.cy_table.specs.Layout.{routine_slot, visitor_slot, tape_slot}
+use Rattle.cy_table.specs.Seats.{Seat, Grip, TapeView}
 use Rattle.cy_table.specs.Rule.{IsEmpty, roles_at}
 use Rattle.cy_comp.specs.declared.state.State.{State}
-use Rattle.cy_table.specs.Steps.{visiting}
+use Rattle.cy_table.specs.Steps.{visiting, entering, MayTape}
 use Rattle.cy_table.specs.Steps.{MayReady, readying, MaySpend, spending, seeing}
 use Rattle.cy_table.specs.Steps.{acquiring, failing, MayAsk, MayYield, next_state, MayRelease}
 use Rattle.cy_table.specs.Plays.{Thread, in_hand, HasSeen, but_first, later_fills}
@@ -206,3 +206,15 @@ pub record Visiting (p : Pass) (c : ℕ) (x : VisitorView) (q : Pass) : Type 0 w
       ≡ (visiting (seat_of p) c x, (visitor_slot c, part.Away) ∷ (thread_of p).1)
   pub roles : x.roles ≡ roles_at (seat_of p).routes c
   pub room : (j : ℕ) (later : List (ℕ × ℕ)) → (seat_of p).fills ≡ (c, j) ∷ later → 1 ≤ x.spare
+
+-- The player's way to the tape, for a message that is the next one of its channel.
+pub record CanTape (t : FlagTable) (p : Pass) (token : Token) : Type 0 where
+  pub at : IsAt t p
+  pub player : number_of p ≡ 0
+  pub bare : (seat_of p).tape ≡ None
+  pub may : MayTape (seat_of p) token
+
+-- A thread that took the tape, which has room for a message.
+pub record Entered (p : Pass) (x : TapeView) (q : Pass) : Type 0 where
+  pub thread : thread_of q ≡ (entering (seat_of p) x, (tape_slot, part.Away) ∷ (thread_of p).1)
+  pub room : length x.messages < x.room

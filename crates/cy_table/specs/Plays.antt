@@ -1,6 +1,6 @@
 -- The rule for a world that a table is made of, and what each step tells the thread that makes it:
 -- its seat, and the slots that it took, after the step.
-use Rattle.std.specs.Prelude.{ℕ, ◌≡◌, ◌≢◌, ◌≤◌, ◌==◌, true, List, [], ◌∷◌, length, take, Option}
+use Rattle.std.specs.Prelude.{ℕ, ◌≡◌, ◌≢◌, ◌≤◌, ◌<◌, ◌==◌, true, List, [], ◌∷◌, length, take, Option}
 use Rattle.std.specs.Prelude.{Some, None}
 use Rattle.atomic_table.specs.Table.{State as Table, Me, Step, rest}
 use Rattle.cy_comp.specs.declared.kind.Kind.TheVariants.{Pass}
@@ -8,16 +8,18 @@ use Rattle.cy_comp.specs.declared.call.Call.{Call}
 use Rattle.cy_comp.specs.Routine.{RoutineView, new_routine}
 use Rattle.wake_core.specs.declared.phase.Phase.TheVariants.{Done}
 use Rattle.wake_core.specs.declared.world.World.{World}
-use Rattle.wake_core.specs.Plain.{Plain}
+use Rattle.wake_core.specs.Plain.{Plain, blank}
 use Rattle.wake_core.specs.WorldOf.{plain_of}
 use Rattle.cy_table.specs.declared.part.Part.{Part}
 use Rattle.cy_table.specs.declared.part.Part.TheVariants as part
 use Rattle.cy_table.specs.Layout.{hold_word, routine_slot, visitor_door, visitor_slot}
-use Rattle.cy_table.specs.Seats.{Seat, Seen, Grip, no_seat}
+use Rattle.cy_table.specs.Layout.{tape_slot}
+use Rattle.cy_table.specs.Seats.{Seat, Seen, Grip, TapeView, no_seat}
 use Rattle.cy_table.specs.Rule.{Ruled, roles_at}
 use Rattle.cy_table.specs.Steps.{acquiring, failing, releasing, asking, yielding, first_seat}
 use Rattle.cy_fuse.specs.Visitor.{VisitorView}
-use Rattle.cy_table.specs.Steps.{visiting, filling}
+use Rattle.cy_table.specs.Steps.{visiting, filling, entering, taping}
+use Rattle.cy_msg.specs.declared.token.Token.{Token}
 use Rattle.cy_table.specs.Steps.{readying, spending, seeing, ticking, heeding, closing_all, looking, clearing_but}
 use Rattle.cy_table.specs.Steps.{splitting, split_off, joining}
 
@@ -142,3 +144,33 @@ later_fills (x ∷ rest) = rest
 abbrev pub filled : Step Part → Thread → ℕ → Thread → Type 0
 filled step m found n = n ≡ (filling m.0 (first_fill m.0.fills).0 (first_fill m.0.fills).1
     (later_fills m.0.fills), rest m.1)
+
+-- The swap of the tape's door: the tape is in hand, with room for a message; or another thread is
+-- behind the door.
+pub record EnterTells (m : Thread) (found : ℕ) (n : Thread) : Type 0 where
+  pub open_door : found ≡ 0 → (x : TapeView)
+      × (n ≡ (entering m.0 x, (tape_slot, part.Tape x) ∷ m.1))
+      × (length x.messages < x.room)
+  pub shut_door : found ≢ 0 → n ≡ m
+
+abbrev pub entered : Step Part → Thread → ℕ → Thread → Type 0
+entered step m found n = EnterTells m found n
+
+-- The store of the tape's door by the player, of the last message in the slot.
+abbrev pub last_token : List Token → Token
+last_token [] = blank
+last_token (t ∷ []) = t
+last_token (t ∷ u ∷ rest) = last_token (u ∷ rest)
+
+abbrev pub last_in : Part → Token
+last_in part.Away = blank
+last_in (part.Routine x) = blank
+last_in (part.Visitor x) = blank
+last_in (part.Tape x) = last_token x.messages
+
+abbrev pub last_put : List (ℕ × Part) → Token
+last_put [] = blank
+last_put (x ∷ rest) = last_in x.1
+
+abbrev pub taped : Step Part → Thread → ℕ → Thread → Type 0
+taped step m found n = n ≡ (taping m.0 (last_put m.1), rest m.1)

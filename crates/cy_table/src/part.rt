@@ -31,3 +31,16 @@ impl Model for Tape {
 
     ghost view = { λ t. record { messages = t.messages.items; room = vec_capacity t.messages } };
 }
+
+impl Tape {
+    ghost use Rattle.std.specs.Prelude.{◌≡◌, ◌<◌, length};
+    ghost use Rattle.cy_table.specs.Steps.{with_message};
+
+    // A message comes onto the tape.
+    pub(crate) fn put(&mut self, token: Token)
+        requires { length self.old.messages < self.old.room }
+        ensures { self.new ≡ with_message self.old token }
+    {
+        self.messages.push_reserved(token);
+    }
+}

@@ -42,3 +42,15 @@ pub enum TableError {
 /// Another thread has the croutine in hand.
 #[derive(Clone, Copy, Debug, PartialEq, Eq)]
 pub struct Busy;
+
+impl Hold {
+    ghost use Rattle.std.specs.Prelude.{◌≡◌};
+    ghost use Rattle.cy_table.specs.Calls.{component_of};
+
+    /// The number of its component.
+    pub fn component(&self) -> u32
+        ensures { result ≡ component_of self.now }
+    {
+        self.component
+    }
+}

@@ -1,7 +1,7 @@
 // The rule of the table as a type, and what each of its steps tells the thread that makes it.
 ghost use Rattle.cy_table.specs.Plays.{rule_for, seat_for, acquired, released, asked, yielded};
 ghost use Rattle.cy_table.specs.Plays.{saw, ticked, heeded, closed, looked, cleared};
-ghost use Rattle.cy_table.specs.Plays.{readied, spent, visited, filled};
+ghost use Rattle.cy_table.specs.Plays.{readied, spent, visited, filled, entered, taped};
 ghost use Rattle.cy_table.specs.Steps.{splitting, split_off, joining};
 ghost use Rattle.cy_table.specs.Seats.{no_seat};
 
@@ -134,4 +134,18 @@ pub struct Fill;
 
 impl Play<Part, View> for Fill {
     ghost then = { filled };
+}
+
+// The swap of the tape's door.
+pub struct Enter;
+
+impl Play<Part, View> for Enter {
+    ghost then = { entered };
+}
+
+// The player's store of the tape's door.
+pub struct Played;
+
+impl Play<Part, View> for Played {
+    ghost then = { taped };
 }

@@ -13,6 +13,7 @@ use wake_core::World;
 
 mod bench;
 mod hold;
+mod tape;
 mod update;
 mod visits;
 mod words;
