@@ -1,8 +1,8 @@
 -- What the steps of the tape's door may do, by their laws.
-use Rattle.std.proofs.Common.{ℕ, ◌≡◌, ◌≢◌, ◌<◌, refl, sym, ◌∙◌, ap, subst, inl, inr, List, [], ◌∷◌, ◌++◌, length, slice_index, None, arith}
+use Rattle.std.proofs.Common.{ℕ, ◌≡◌, ◌≢◌, refl, sym, ap, subst, inl, inr, List, [], ◌∷◌, ◌++◌, length, slice_index, None, arith}
 use mathlib.Core.Option.{none, some}
 use lib.ListN.{get_elem?}
-use Rattle.atomic_table.specs.Table.{State as Table, Allows, step, keeps, takes, gives}
+use Rattle.atomic_table.specs.Table.{Allows, step, keeps, takes, gives}
 use Rattle.cy_msg.specs.declared.token.Token.{Token}
 use Rattle.wake_core.specs.declared.route.Route.{Route}
 use Rattle.cy_table.specs.declared.part.Part.{Part}
@@ -11,7 +11,7 @@ use Rattle.cy_table.specs.Seats.{Seat, TapeView}
 use Rattle.cy_table.specs.Rule.{Ruled}
 use Rattle.cy_table.specs.Steps.{Sits, entering, MayTape, with_message, taping}
 use Rattle.cy_table.specs.Laws.{TapeDoorSwaps, TapeStores, RoomsLeft}
-use Rattle.cy_table.specs.Plays.{Thread, EnterTells, entered, last_token, last_put, taped}
+use Rattle.cy_table.specs.Plays.{Thread, entered, last_token, last_put, taped}
 use Rattle.cy_table.proofs.Places.{place}
 use Rattle.cy_table.proofs.Allowing.{ruled_then, ruled_still}
 

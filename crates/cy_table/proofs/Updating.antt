@@ -1,5 +1,5 @@
 -- What the steps of an update may do, by their laws.
-use Rattle.std.proofs.Common.{ℕ, ◌+◌, ◌*◌, ◌==◌, ◌≡◌, ◌≢◌, ◌<◌, ◌&&◌, not, cond, Bool, true, false, refl, sym, ◌∙◌, ap, subst, List, Some, inl, inr, slice_index, arith}
+use Rattle.std.proofs.Common.{ℕ, ◌+◌, ◌*◌, ◌==◌, ◌≡◌, ◌≢◌, ◌&&◌, not, cond, Bool, true, false, refl, ap, subst, List, Some, slice_index, arith}
 use Rattle.std.proofs.lemmas.Bool.Decides.{nat_tests}
 use mathlib.Core.Option.{none}
 use Rattle.atomic_table.specs.Table.{Allows, step, keeps}

@@ -1,5 +1,5 @@
 -- What the steps of a visitor's door may do, by their laws.
-use Rattle.std.proofs.Common.{ℕ, ◌+◌, ◌*◌, ◌-◌, ◌≡◌, ◌≢◌, ◌≤◌, ◌<◌, refl, sym, ◌∙◌, ap, subst, inl, inr, List, [], ◌∷◌, length, slice_index, None, arith}
+use Rattle.std.proofs.Common.{ℕ, ◌+◌, ◌*◌, ◌-◌, ◌≡◌, ◌≢◌, ◌≤◌, ◌<◌, refl, sym, ◌∙◌, ap, subst, inl, inr, List, ◌∷◌, length, slice_index, None, arith}
 use mathlib.Core.Option.{none}
 use Rattle.atomic_table.specs.Table.{Allows, step, keeps, takes, gives}
 use Rattle.cy_fuse.specs.Visitor.{VisitorView, arrived}

@@ -1,5 +1,5 @@
 -- What the steps of the clock, of the closing word, of news and of the bench may do, by their laws.
-use Rattle.std.proofs.Common.{ℕ, ◌+◌, ◌*◌, ◌==◌, ◌≡◌, ◌≢◌, ◌≤◌, ◌<◌, true, refl, sym, ◌∙◌, ap, subst, List, [], ◌∷◌, ◌++◌, length, slice_index}
+use Rattle.std.proofs.Common.{ℕ, ◌+◌, ◌*◌, ◌==◌, ◌≡◌, ◌≢◌, ◌≤◌, ◌<◌, refl, sym, ◌∙◌, ap, subst, List, [], ◌∷◌, ◌++◌, length, slice_index}
 use mathlib.Core.Option.{none}
 use Rattle.atomic_table.specs.Table.{State as Table, Allows, Splits, Joins, step, keeps}
 use Rattle.atomic_table.proofs.Lists.{set_else}
@@ -8,7 +8,7 @@ use Rattle.wake_core.specs.Plain.{blank, to_play_from}
 use Rattle.wake_core.specs.Laws.{with_idle}
 use Rattle.cy_table.specs.declared.part.Part.{Part}
 use Rattle.cy_table.specs.Seats.{Seat, no_seat}
-use Rattle.cy_table.specs.Rule.{Rules, Ruled, IsEmpty}
+use Rattle.cy_table.specs.Rule.{Ruled, IsEmpty}
 use Rattle.cy_table.specs.Steps.{Sits, seeing, ticking, heeding, closing_all, looking, clearing_but, splitting, split_off, joining}
 use Rattle.cy_table.specs.Laws.{ClockSteps, ClosingSteps, StateLoads, FlagStores, BenchSteps}
 use Rattle.cy_table.specs.Plays.{Thread, but_first, but_last, saw, ticked, heeded, closed, looked, cleared}

@@ -8,14 +8,13 @@ use Rattle.wake_core.specs.WorldOf.{plain_of}
 use Rattle.wake_core.specs.declared.phase.Phase.TheVariants.{Fresh}
 use Rattle.wake_core.specs.Events.{is_waiting}
 use Rattle.wake_core.specs.Turns.{is_due}
-use Rattle.cy_table.specs.declared.part.Part.{Part}
 use Rattle.cy_table.specs.declared.part.Part.TheVariants as part
 use Rattle.cy_table.specs.declared.pass.Pass.{Pass}
 use Rattle.cy_table.specs.declared.pass.Found.{Found}
 use Rattle.cy_table.specs.declared.pass.Hold.{Hold}
 use Rattle.cy_table.specs.declared.table.FlagTable.{FlagTable}
 use Rattle.cy_table.specs.Layout.{routine_slot, visitor_slot, tape_slot}
-use Rattle.cy_table.specs.Seats.{Seat, Grip, TapeView}
+use Rattle.cy_table.specs.Seats.{Seat, TapeView}
 use Rattle.cy_table.specs.Rule.{IsEmpty, roles_at}
 use Rattle.cy_comp.specs.declared.state.State.{State}
 use Rattle.cy_table.specs.Steps.{visiting, entering, MayTape}

@@ -14,14 +14,13 @@ use Rattle.cy_table.specs.declared.part.Part.{Part}
 use Rattle.cy_table.specs.declared.part.Part.TheVariants as part
 use Rattle.cy_table.specs.Layout.{hold_word, routine_slot, visitor_door, visitor_slot}
 use Rattle.cy_table.specs.Layout.{tape_slot}
-use Rattle.cy_table.specs.Seats.{Seat, Seen, Grip, TapeView, no_seat}
+use Rattle.cy_table.specs.Seats.{Seat, Seen, Grip, TapeView}
 use Rattle.cy_table.specs.Rule.{Ruled, roles_at}
 use Rattle.cy_table.specs.Steps.{acquiring, failing, releasing, asking, yielding, first_seat}
 use Rattle.cy_fuse.specs.Visitor.{VisitorView}
 use Rattle.cy_table.specs.Steps.{visiting, filling, entering, taping}
 use Rattle.cy_msg.specs.declared.token.Token.{Token}
 use Rattle.cy_table.specs.Steps.{readying, spending, seeing, ticking, heeding, closing_all, looking, clearing_but}
-use Rattle.cy_table.specs.Steps.{splitting, split_off, joining}
 
 -- The calls of the first components of a world, the last component first.
 abbrev pub calls_from : Plain → ℕ → List Seen

@@ -1,10 +1,10 @@
 -- The visitor goes back to its slot with one arrival more, and the store of its door gives it home.
-use Rattle.std.proofs.Common.{◌≡◌, ◌+◌, ◌*◌, ◌∷◌, refl, sym, ap, ◌∙◌, subst, arith}
+use Rattle.std.proofs.Common.{◌+◌, ◌*◌, ◌∷◌, ap, ◌∙◌, arith}
 use Rattle.cy_fuse.specs.Visitor.{VisitorView, arrived}
 use Rattle.wake_core.specs.WorldOf.{plain_of}
 use Rattle.cy_table.specs.declared.part.Part.TheVariants as part
-use Rattle.cy_table.specs.Steps.{visiting, filling}
-use Rattle.cy_table.specs.Plays.{Thread, later_fills, first_fill}
+use Rattle.cy_table.specs.Steps.{visiting}
+use Rattle.cy_table.specs.Plays.{Thread}
 use Rattle.cy_table.proofs.Visits.{fills}
 use Rattle.cy_table.proofs.Slots.{exchanged}
 use Rattle.cy_table.proofs.table.FlagTable.fill.Goals as goal

@@ -1,5 +1,5 @@
 -- What a look found to wait is the last whose flag is to be cleared.
-use Rattle.std.proofs.Common.{◌≡◌, ◌++◌, ◌∷◌, [], if◌then◌else◌, true, sym, ap, ◌∙◌}
+use Rattle.std.proofs.Common.{◌++◌, ◌∷◌, [], if◌then◌else◌, true, sym, ap, ◌∙◌}
 use Rattle.cy_table.specs.Steps.{looking, clearing_but}
 use Rattle.cy_table.specs.Plays.{Thread, but_first, but_last}
 use Rattle.cy_table.proofs.Words.{but_last_is}

@@ -1,5 +1,5 @@
 -- The routine goes back to its slot, and the store of the hold word gives it home.
-use Rattle.std.proofs.Common.{◌≡◌, ◌+◌, ◌*◌, [], ◌∷◌, sym, ap, ◌∙◌, arith}
+use Rattle.std.proofs.Common.{ap, ◌∙◌, arith}
 use Rattle.wake_core.specs.WorldOf.{plain_of}
 use Rattle.cy_table.specs.Plays.{in_hand}
 use Rattle.cy_table.specs.Calls.{with_found}

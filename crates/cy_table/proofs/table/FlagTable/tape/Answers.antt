@@ -1,10 +1,10 @@
 -- The tape goes back to its slot with one message more, and the store of its door gives it home.
-use Rattle.std.proofs.Common.{◌≡◌, ◌∷◌, sym, ap, ◌∙◌, arith}
+use Rattle.std.proofs.Common.{◌∷◌, ap, ◌∙◌, arith}
 use Rattle.atomic_table.specs.Table.{rest}
 use Rattle.wake_core.specs.WorldOf.{plain_of}
 use Rattle.cy_table.specs.declared.part.Part.TheVariants as part
 use Rattle.cy_table.specs.Seats.{TapeView}
-use Rattle.cy_table.specs.Steps.{entering, taping, with_message}
+use Rattle.cy_table.specs.Steps.{entering, taping}
 use Rattle.cy_table.specs.Plays.{Thread, last_put}
 use Rattle.cy_table.proofs.Taping.{tapes, last_here}
 use Rattle.cy_table.proofs.Slots.{exchanged}
