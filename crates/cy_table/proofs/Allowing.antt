@@ -38,11 +38,20 @@ acquires law routes counts slots id c m live idle less s k deep at bound =
     let tell = λ (found : ℕ) (n : Thread) (a : AcquireTells c m found n). λ (d : ℕ) (e : 4 * c + 4 ≡ 4 * d + 4). subst (λ j. AcquireTells j m found n) (let h : c ≡ d = omega arith in h) a in
     elim (place (slice_index s.words (4 * c + 4)) 0) [
       | inl free ↦ let a = law.free k.rooms k.world s id c m.0 m.1 sits idle inside free in
-          let seen = subst (λ l. HasSeen c l m.0.seen) (ap (λ (y : RoutineView). y.calls) (sym a.2)) (seen_of k.world.calls c m.0.seen (k.rules.knows id m.0 at).calls) in
-          (acquiring m.0 c a.0, takes (2 * c + 1) (part.Routine a.0), a.1, ruled_then k a.3,
-          tell (slice_index s.words (4 * c + 4)) (acquiring m.0 c a.0, (2 * c + 1, part.Routine a.0) ∷ m.1) record { free = λ z. (a.0, refl, seen); held = λ ne. absurd (ne free) })
-      | inr held ↦ (failing m.0 c, keeps, tt, ruled_still k (law.held k.rooms k.world s id c m.0 m.1 sits inside held),
-          tell (slice_index s.words (4 * c + 4)) (failing m.0 c, m.1) record { free = λ z. absurd (held z); held = λ ne. refl })
+          let seen = subst (λ l. HasSeen c l m.0.seen) (ap (λ (y : RoutineView). y.calls) (sym a.2)) (seen_of k.world.calls c m.0.seen (k.rules.knows id m.0 at).calls) in (
+            acquiring m.0 c a.0,
+            takes (2 * c + 1) (part.Routine a.0),
+            a.1,
+            ruled_then k a.3,
+            tell (slice_index s.words (4 * c + 4)) (acquiring m.0 c a.0, (2 * c + 1, part.Routine a.0) ∷ m.1) record { free = λ z. (a.0, refl, seen); held = λ ne. absurd (ne free) },
+          )
+      | inr held ↦ (
+        failing m.0 c,
+        keeps,
+        tt,
+        ruled_still k (law.held k.rooms k.world s id c m.0 m.1 sits inside held),
+        tell (slice_index s.words (4 * c + 4)) (failing m.0 c, m.1) record { free = λ z. absurd (held z); held = λ ne. refl },
+      )
     ]
 
 -- The store of a hold word, when the slot has the routine that is in hand.

@@ -23,8 +23,13 @@ readies law routes counts slots id c m live has same may = subst (λ d. Allows (
 pub spends : FlagSwaps → (routes : List Route) (counts : List ℕ) (slots id c : ℕ) (m : Thread) → m.0.live ≢ 0 → m.0.hand ≡ Some (in_hand m.0) → (in_hand m.0).croutine ≡ c → MaySpend m.0 (in_hand m.0)
     → Allows (Ruled routes counts) slots id m (4 * c + 6) (λ _. 1) (spent (step slots (4 * c + 6) 1 0 none) m)
 spends law routes counts slots id c m live has same may = subst (λ d. Allows (Ruled routes counts) slots id m (4 * d + 6) (λ _. 1) (spent (step slots (4 * d + 6) 1 0 none) m)) same
-    (λ s k deep at bound. (spending m.0 (in_hand m.0) (slice_index s.words (4 * (in_hand m.0).croutine + 6) == 1), keeps, tt,
-    ruled_then k (law.spend k.rooms k.world s id m.0 (in_hand m.0) m.1 record { rules = k.rules; at = at; live = live } has may), refl))
+    (λ s k deep at bound. (
+      spending m.0 (in_hand m.0) (slice_index s.words (4 * (in_hand m.0).croutine + 6) == 1),
+      keeps,
+      tt,
+      ruled_then k (law.spend k.rooms k.world s id m.0 (in_hand m.0) m.1 record { rules = k.rules; at = at; live = live } has may),
+      refl,
+    ))
 
 -- A croutine is due where the judgement says so.
 pub due_is : (st : State) (time : ℕ) → is_due st time ≡ true → IsDue st time

@@ -26,14 +26,23 @@ visits law rooms routes counts slots id c m live bare less s k deep at bound =
     elim (place (slice_index s.words (4 * c + 7)) 0) [
       | inl free ↦ let a = law.open_door k.rooms k.world s id c m.0 m.1 sits inside bare free in
           let roles = ap (λ (y : VisitorView). y.roles) a.2 ∙ ap (λ (l : List Route). roles_at l c) (sym ((k.rules.knows id m.0 at).made live).0) in
-          let spare = ap (λ (y : VisitorView). y.spare) a.2 in
-          (visiting m.0 c a.0, takes (2 * c + 2) (part.Visitor a.0), a.1, ruled_still k a.3,
-          tell (slice_index s.words (4 * c + 7)) (visiting m.0 c a.0, (2 * c + 2, part.Visitor a.0) ∷ m.1) record {
-            open_door = λ z. (a.0, refl, roles, λ j later e. room_left a.0.spare (k.rooms.arrivals c) (length (k.world.arrivals c)) spare (rooms.fill k.rooms k.world s id m.0 c j later sits e inside));
-            shut_door = λ ne. absurd (ne free);
-          })
-      | inr shut ↦ (m.0, keeps, tt, ruled_still k (law.shut_door k.rooms k.world s id c m.0 m.1 sits inside shut),
-          tell (slice_index s.words (4 * c + 7)) m record { open_door = λ z. absurd (shut z); shut_door = λ ne. refl })
+          let spare = ap (λ (y : VisitorView). y.spare) a.2 in (
+            visiting m.0 c a.0,
+            takes (2 * c + 2) (part.Visitor a.0),
+            a.1,
+            ruled_still k a.3,
+            tell (slice_index s.words (4 * c + 7)) (visiting m.0 c a.0, (2 * c + 2, part.Visitor a.0) ∷ m.1) record {
+              open_door = λ z. (a.0, refl, roles, λ j later e. room_left a.0.spare (k.rooms.arrivals c) (length (k.world.arrivals c)) spare (rooms.fill k.rooms k.world s id m.0 c j later sits e inside));
+              shut_door = λ ne. absurd (ne free);
+            },
+          )
+      | inr shut ↦ (
+        m.0,
+        keeps,
+        tt,
+        ruled_still k (law.shut_door k.rooms k.world s id c m.0 m.1 sits inside shut),
+        tell (slice_index s.words (4 * c + 7)) m record { open_door = λ z. absurd (shut z); shut_door = λ ne. refl },
+      )
     ]
 
 pub fills : FillStores → (routes : List Route) (counts : List ℕ) (slots id c j : ℕ) (x : VisitorView) (v : Seat) (more : List (ℕ × Part)) (m : Thread) → v.live ≢ 0 → v.fills ≡ (c, j) ∷ later_fills v.fills → c < length routes
@@ -44,6 +53,10 @@ fills law routes counts slots id c j x v more m live owes less is = subst (λ z.
     let u = visiting v c x in
     let a : Visit = record { component = c; visitor = x } in
     let inside : c < length k.world.routes = subst (λ (l : List Route). c < length l) (sym k.components) less in
-    let sits : Sits k.rooms k.world s id u = record { rules = k.rules; at = at; live = live } in
-    (filling u c j (later_fills v.fills), gives, tt, ruled_then k (law.fill k.rooms k.world s id u a j (later_fills v.fills) more sits refl owes inside),
-    ap (λ (l : List (ℕ × ℕ)). let n : Thread = (filling u (first_fill l).0 (first_fill l).1 (later_fills l), more) in n) (sym owes)))
+    let sits : Sits k.rooms k.world s id u = record { rules = k.rules; at = at; live = live } in (
+      filling u c j (later_fills v.fills),
+      gives,
+      tt,
+      ruled_then k (law.fill k.rooms k.world s id u a j (later_fills v.fills) more sits refl owes inside),
+      ap (λ (l : List (ℕ × ℕ)). let n : Thread = (filling u (first_fill l).0 (first_fill l).1 (later_fills l), more) in n) (sym owes),
+    ))

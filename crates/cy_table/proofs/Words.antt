@@ -28,9 +28,13 @@ ticks law routes counts slots id time m live player later = subst (λ j. Allows 
 
 pub heeds : ClosingSteps → (routes : List Route) (counts : List ℕ) (slots id : ℕ) (m : Thread) → m.0.live ≢ 0 → Allows (Ruled routes counts) slots id m 2 (λ n. n) (heeded (step slots 2 0 0 none) m)
 heeds law routes counts slots id m live s k deep at bound =
-    let sits = sits_at k id m.0 at live in
-    (heeding m.0 (slice_index s.words 2 == 1), keeps, tt, ruled_still k (law.load k.rooms k.world s id m.0 m.1 sits),
-    record { thread = refl; stays = λ e. law.is_true k.rooms k.world s id m.0 sits ∙ (k.rules.knows id m.0 at).closes e })
+    let sits = sits_at k id m.0 at live in (
+      heeding m.0 (slice_index s.words 2 == 1),
+      keeps,
+      tt,
+      ruled_still k (law.load k.rooms k.world s id m.0 m.1 sits),
+      record { thread = refl; stays = λ e. law.is_true k.rooms k.world s id m.0 sits ∙ (k.rules.knows id m.0 at).closes e },
+    )
 
 pub closes : ClosingSteps → (routes : List Route) (counts : List ℕ) (slots id : ℕ) (m : Thread) → m.0.live ≢ 0 → id ≡ 0 → length m.0.played ≡ to_play_from m.0.routes 0 m.0.counts
     → Allows (Ruled routes counts) slots id m 2 (λ _. 1) (λ _. closed (step slots 2 1 0 none) m 1)
@@ -49,9 +53,13 @@ pub looks : StateLoads → (routes : List Route) (counts : List ℕ) (slots id c
     → Allows (Ruled routes counts) slots id m (4 * c + 5) (λ n. n) (looked (step slots (4 * c + 5) 0 0 none) m)
 looks law routes counts slots id c m live filled news less s k deep at bound =
     let inside : c < length k.world.routes = subst (λ (l : List Route). c < length l) (sym k.components) less in
-    let found = slice_index s.words (4 * c + 5) in
-    (looking m.0 c (but_first m.0.news) (found == 1), keeps, tt, ruled_then k (law.look k.rooms k.world s id m.0 c (but_first m.0.news) m.1 (sits_at k id m.0 at live) filled news inside),
-    λ d e. ap (λ j. let n : Thread = (looking m.0 j (but_first m.0.news) (found == 1), m.1) in n) (same_first c d (but_first m.0.news) (but_first m.0.news) (sym news ∙ e)))
+    let found = slice_index s.words (4 * c + 5) in (
+      looking m.0 c (but_first m.0.news) (found == 1),
+      keeps,
+      tt,
+      ruled_then k (law.look k.rooms k.world s id m.0 c (but_first m.0.news) m.1 (sits_at k id m.0 at live) filled news inside),
+      λ d e. ap (λ j. let n : Thread = (looking m.0 j (but_first m.0.news) (found == 1), m.1) in n) (same_first c d (but_first m.0.news) (but_first m.0.news) (sym news ∙ e)),
+    )
 
 pub but_last_is : (xs : List ℕ) (c : ℕ) → but_last (xs ++ c ∷ []) ≡ xs
 but_last_is [] c = refl
@@ -62,9 +70,13 @@ pub clears : FlagStores → (routes : List Route) (counts : List ℕ) (slots id 
     → Allows (Ruled routes counts) slots id m (4 * c + 6) (λ _. 0) (λ _. cleared (step slots (4 * c + 6) 0 0 none) m 0)
 clears law routes counts slots id c m live last less s k deep at bound =
     let inside : c < length k.world.routes = subst (λ (l : List Route). c < length l) (sym k.components) less in
-    let kept = but_last m.0.clearing in
-    (clearing_but m.0 kept, keeps, tt,
-    subst (λ l. Ruled routes counts (Rattle.atomic_table.specs.Table.stepped s (4 * c + 6) 0 id m.1 (clearing_but m.0 l) keeps)) (nothing_after kept) (ruled_then k (law.clear k.rooms k.world s id m.0 c kept [] m.1 (sits_at k id m.0 at live) last inside)), refl)
+    let kept = but_last m.0.clearing in (
+      clearing_but m.0 kept,
+      keeps,
+      tt,
+      subst (λ l. Ruled routes counts (Rattle.atomic_table.specs.Table.stepped s (4 * c + 6) 0 id m.1 (clearing_but m.0 l) keeps)) (nothing_after kept) (ruled_then k (law.clear k.rooms k.world s id m.0 c kept [] m.1 (sits_at k id m.0 at live) last inside)),
+      refl,
+    )
   where
     nothing_after : (xs : List ℕ) → xs ++ [] ≡ xs
     nothing_after [] = refl

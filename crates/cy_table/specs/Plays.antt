@@ -1,8 +1,10 @@
 -- The rule for a world that a table is made of, and what each step tells the thread that makes it:
 -- its seat, and the slots that it took, after the step.
-use Rattle.std.specs.Prelude.{ℕ, ◌≡◌, ◌≢◌, ◌≤◌, ◌<◌, ◌==◌, true, List, [], ◌∷◌, length, take, Option}
-use Rattle.std.specs.Prelude.{Some, None}
+use Rattle.std.specs.Prelude.{ℕ, ◌≡◌, ◌≢◌, ◌≤◌, ◌<◌, ◌==◌, true, List, [], ◌∷◌, length, take}
+use Rattle.std.specs.Prelude.{Option, Some, None}
 use Rattle.atomic_table.specs.Table.{State as Table, Me, Step, rest}
+use Rattle.cy_msg.specs.declared.token.Token.{Token}
+use Rattle.cy_fuse.specs.Visitor.{VisitorView}
 use Rattle.cy_comp.specs.declared.kind.Kind.TheVariants.{Pass}
 use Rattle.cy_comp.specs.declared.call.Call.{Call}
 use Rattle.cy_comp.specs.Routine.{RoutineView, new_routine}
@@ -17,10 +19,8 @@ use Rattle.cy_table.specs.Layout.{tape_slot}
 use Rattle.cy_table.specs.Seats.{Seat, Seen, Grip, TapeView}
 use Rattle.cy_table.specs.Rule.{Ruled, roles_at}
 use Rattle.cy_table.specs.Steps.{acquiring, failing, releasing, asking, yielding, first_seat}
-use Rattle.cy_fuse.specs.Visitor.{VisitorView}
-use Rattle.cy_table.specs.Steps.{visiting, filling, entering, taping}
-use Rattle.cy_msg.specs.declared.token.Token.{Token}
-use Rattle.cy_table.specs.Steps.{readying, spending, seeing, ticking, heeding, closing_all, looking, clearing_but}
+use Rattle.cy_table.specs.Steps.{visiting, filling, entering, taping, readying, spending, seeing}
+use Rattle.cy_table.specs.Steps.{ticking, heeding, closing_all, looking, clearing_but}
 
 -- The calls of the first components of a world, the last component first.
 abbrev pub calls_from : Plain → ℕ → List Seen
@@ -141,8 +141,10 @@ later_fills [] = []
 later_fills (x ∷ rest) = rest
 
 abbrev pub filled : Step Part → Thread → ℕ → Thread → Type 0
-filled step m found n = n ≡ (filling m.0 (first_fill m.0.fills).0 (first_fill m.0.fills).1
-    (later_fills m.0.fills), rest m.1)
+filled step m found n = n ≡ (
+  filling m.0 (first_fill m.0.fills).0 (first_fill m.0.fills).1 (later_fills m.0.fills),
+  rest m.1,
+)
 
 -- The swap of the tape's door: the tape is in hand, with room for a message; or another thread is
 -- behind the door.
