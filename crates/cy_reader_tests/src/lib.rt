@@ -6,3 +6,5 @@
 mod info;
 #[cfg(test)]
 mod loading;
+#[cfg(test)]
+mod play;
