@@ -1,0 +1,90 @@
+// Each call of the store fails in turn, and what stands then.
+use crate::ran::{Ran, chain_store, play};
+use crate::samples::{TRACE, open_record, out_record};
+use cy_store::MemSink;
+use cyber_cli::Status;
+use std::alloc::Global;
+use std::process::Abort;
+use std::test::Fail;
+
+/// The calls that make the files of the chain.
+const CALLS_BEFORE: u64 = 8;
+
+/// A size and a read of each of four files, the making of the record, its eight pieces, the making
+/// of the trace and its piece.
+const CALLS: usize = 19;
+
+/// The first call that puts a piece of the record.
+const FIRST_PUT: usize = 10;
+
+/// Where the pieces before each piece of the record end; the last one is put over the first.
+const ENDS: [usize; 8] = [0, 2064, 2088, 2112, 2136, 2160, 2212, 2318];
+
+// The run where this call of the program fails after it kept so many bytes.
+fn failing_at(alloc: Global, call: usize, keep: usize) -> Result<Ran, Fail> {
+    let mut store = chain_store(alloc)?;
+    store.fail_at(CALLS_BEFORE.saturating_add(call as u64), keep)?;
+    play(alloc, store, MemSink::new(alloc))
+}
+
+// The line that tells of the failure of this call.
+fn line_of(call: usize) -> &'static [u8] {
+    match call {
+        1 | 2 => b"cyber: d.dag: the store failed\n".as_slice(),
+        3 | 4 => b"cyber: p.conf: the store failed\n".as_slice(),
+        5 | 6 => b"cyber: r.conf: the store failed\n".as_slice(),
+        7 | 8 => b"cyber: a.rec: the store failed\n".as_slice(),
+        9..=17 => b"cyber: out.rec: the store failed\n".as_slice(),
+        _ => b"cyber: t.txt: the store failed\n".as_slice(),
+    }
+}
+
+// The record where this piece kept so many bytes: those before it are whole, under the header of a
+// record that is being written.
+fn record_at(alloc: Global, piece: usize, keep: usize) -> Result<Vec<u8>, Fail> {
+    let mut bytes = open_record(alloc)?;
+    let end = ENDS.get(piece).copied().unwrap_or(bytes.len());
+    if piece.saturating_add(1) == ENDS.len() {
+        let whole = out_record(alloc)?;
+        for (byte, new) in bytes.iter_mut().zip(whole.iter()).take(keep) {
+            *byte = *new;
+        }
+    } else {
+        bytes.truncate(end.saturating_add(keep).min(bytes.len()));
+    }
+    Ok(bytes)
+}
+
+// What stands after a call that failed and kept so many bytes.
+fn stands(rt: &impl Abort, alloc: Global, call: usize, keep: usize) -> Result<(), Fail> {
+    let ran = failing_at(alloc, call, keep)?;
+    assert_eq!(rt; ran.status, Status::StoreFault, "{call}");
+    assert_eq!(rt; ran.err.bytes(), line_of(call), "{call}");
+    assert_eq!(rt; ran.out.bytes(), b"".as_slice(), "{call}");
+    let record = match call {
+        1..=9 => None,
+        10..=17 => Some(record_at(alloc, call.saturating_sub(FIRST_PUT), keep)?),
+        _ => Some(out_record(alloc)?),
+    };
+    let want = record.as_ref().map(|bytes| bytes.as_slice());
+    assert!(rt; ran.store.file("out.rec") == want, "{call} {keep}");
+    let want = if call < CALLS {
+        None
+    } else {
+        Some(&TRACE[..keep.min(TRACE.len())])
+    };
+    assert_eq!(rt; ran.store.file("t.txt"), want, "{call} {keep}");
+    Ok(())
+}
+
+#[test]
+fn fails_each_call_in_turn(rt: HostRuntime) -> Result<(), Fail> {
+    let alloc = rt.alloc();
+    for call in 1..=CALLS {
+        stands(&rt, alloc, call, 0)?;
+        stands(&rt, alloc, call, 9)?;
+    }
+    let done = failing_at(alloc, CALLS + 1, 0)?;
+    assert_eq!(rt; done.status, Status::Done);
+    Ok(())
+}
