@@ -1,5 +1,8 @@
 # For the measuring scripts here.
 
+# As the launcher has it: large pages for the room that a run reserves.
+export GLIBC_TUNABLES=${GLIBC_TUNABLES:-glibc.malloc.hugetlb=1}
+
 # Enters a repository of its own, in the folder `work`, for a program that is measured, over copies of these crates.
 repository() { # the folder of this repository, the program, and the crates
   local top=$1 program=$2 crate
