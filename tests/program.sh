@@ -364,6 +364,13 @@ plays_at_random() { # how many records
   count $? "$name: $(head -n 1 report)"
 }
 
+# Worked and random lists of the events of a world, which no clause runs.
+drives_events() {
+  begin 'drives a world by its events'
+  "$top/tests/events.sh" >report 2>&1
+  count $? "$name: $(grep -m 1 FAILED report || tail -n 1 report)"
+}
+
 # Five components read /a, on which more messages are played than may be planned for all of them.
 plans_too_many() {
   begin 'refuses to plan more entries than a run keeps'
@@ -565,6 +572,8 @@ tells_of_standard_output 'is closed' '>&-'
 tells_of_standard_output 'cannot be written' '</dev/null >&0'
 fails_without_standard_error 'is full' '2>/dev/full'
 fails_without_standard_error 'is closed' '2>&-'
+
+drives_events
 
 echo "$passed passed, $failed failed"
 [ "$failed" -eq 0 ]
