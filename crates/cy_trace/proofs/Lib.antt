@@ -11,3 +11,4 @@ pub mod Readers
 pub mod RunFits
 pub mod RunTexts
 pub mod StepSuits
+pub mod Starts

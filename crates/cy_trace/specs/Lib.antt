@@ -6,3 +6,4 @@ pub mod Numerals
 pub mod TraceForm
 pub mod TraceOfRun
 pub mod TraceText
+pub mod TapeLines

@@ -1,77 +1,117 @@
 // The lines of a trace, each added to a text.
-ghost use Rattle.std.specs.Prelude.{◌≡◌, ◌<◌, ◌+◌, ◌++◌, ◌^◌, ℕ, length, slice_get, Some, OnOk};
+ghost use Rattle.std.specs.Prelude.{◌≡◌, ◌<◌, ◌+◌, ◌++◌, ◌^◌, ℕ, length, map, slice_get, Some, OnOk};
+ghost use Rattle.std.specs.Prelude.{IfOk, codes};
 ghost use Rattle.std.specs.List.{flat_map};
+ghost use Rattle.std.specs.Fmt.{decimal};
 ghost use Rattle.cy_msg.specs.declared.token.Token.{Token};
 ghost use Rattle.cy_fuse.specs.Fusion.{Arrival};
 ghost use Rattle.cy_comp.specs.Calls.{last_outcome, is_last, cursor_after};
 ghost use Rattle.cy_trace.specs.TraceText.{title, played_line, roles_text, value_text, out_text};
 ghost use Rattle.cy_trace.specs.TraceText.{seqs_text, call_line, call_lines, end_line};
 ghost use Rattle.cy_trace.specs.TraceText.{component_text, tape_line};
+ghost use Rattle.cy_trace.specs.TapeLines.{tape_start, started_line};
 
 use cy_comp::{Call, Kind, Out, Plan, is_finished, next_cursor};
-use cy_msg::{Names, Token, Tuple, push_quoted};
-use std::io;
-use std::io::Write;
+use cy_msg::{Bytes, Names, Token, Tuple, push_quoted};
+use itoa::{Buffer, Integer};
+use std::alloc::{AllocError, Global};
+
+// A number in decimal.
+fn push_number<I: Integer>(to: &mut Vec<u8>, number: I) -> Result<(), AllocError>
+    ensures { OnOk result (to.new.items ≡ to.old.items ++ I.text number) }
+{
+    to.extend_from_slice(Buffer::new().format(number).as_bytes())
+}
 
 // The title, and how many messages were played and shadowed.
-pub(crate) fn push_head(to: &mut Vec<u8>, played: u32, shadowed: u32) -> io::Result<()>
+pub(crate) fn push_head(to: &mut Vec<u8>, played: u32, shadowed: u32) -> Result<(), AllocError>
     ensures { OnOk result (to.new.items ≡ to.old.items ++ (title ++ played_line played shadowed)) }
 {
-    writeln!(to, "cyber-trace 1\nplayed {played} shadowed {shadowed}")
+    to.extend_from_slice(b"cyber-trace 1\nplayed ")?;
+    push_number(to, played)?;
+    to.extend_from_slice(b" shadowed ")?;
+    push_number(to, shadowed)?;
+    to.extend_from_slice(b"\n")
 }
 
 // A value, where there is one.
-fn push_value(to: &mut Vec<u8>, value: Option<i64>) -> io::Result<()>
+fn push_value(to: &mut Vec<u8>, value: Option<i64>) -> Result<(), AllocError>
     ensures { OnOk result (to.new.items ≡ to.old.items ++ value_text value) }
 {
     match value {
         None => Ok(()),
-        Some(value) => write!(to, "={value}"),
+        Some(value) => {
+            to.extend_from_slice(b"=")?;
+            push_number(to, value)
+        }
     }
 }
 
 // What a call put out, behind so many earlier outputs.
-fn push_out(to: &mut Vec<u8>, before: usize, out: &Option<Out>) -> io::Result<()>
+fn push_out(to: &mut Vec<u8>, before: usize, out: &Option<Out>) -> Result<(), AllocError>
     requires { before + 1 < 2 ^ 64 }
     ensures { OnOk result (to.new.items ≡ to.old.items ++ out_text before out.now) }
 {
     match out {
-        None => write!(to, "-"),
+        None => to.extend_from_slice(b"-"),
         Some(out) => {
-            let seq = before + 1;
-            let time = out.time;
-            write!(to, "{seq}@{time}")?;
+            push_number(to, before + 1)?;
+            to.extend_from_slice(b"@")?;
+            push_number(to, out.time)?;
             push_value(to, out.whole)
         }
     }
 }
 
+// The number of a message of a tuple.
+fn push_seq(to: &mut Vec<u8>, message: &Token) -> Result<(), AllocError>
+    ensures { OnOk result (to.new.items ≡ to.old.items ++ codes " " ++ decimal message.now.seq) }
+{
+    to.extend_from_slice(b" ")?;
+    push_number(to, message.seq)
+}
+
 // The numbers of the messages of a tuple.
-fn push_seqs(to: &mut Vec<u8>, tuple: &Tuple) -> io::Result<()>
+fn push_seqs(to: &mut Vec<u8>, tuple: &Tuple) -> Result<(), AllocError>
     ensures { OnOk result (to.new.items ≡ to.old.items ++ seqs_text tuple.now) }
 {
     match tuple {
-        Tuple::One(a) => write!(to, " {}", a.seq),
-        Tuple::Two(a, b) => write!(to, " {} {}", a.seq, b.seq),
-        Tuple::Three(a, b, c) => write!(to, " {} {} {}", a.seq, b.seq, c.seq),
-        Tuple::Four(a, b, c, d) => write!(to, " {} {} {} {}", a.seq, b.seq, c.seq, d.seq),
+        Tuple::One(a) => push_seq(to, a),
+        Tuple::Two(a, b) => {
+            push_seq(to, a)?;
+            push_seq(to, b)
+        }
+        Tuple::Three(a, b, c) => {
+            push_seq(to, a)?;
+            push_seq(to, b)?;
+            push_seq(to, c)
+        }
+        Tuple::Four(a, b, c, d) => {
+            push_seq(to, a)?;
+            push_seq(to, b)?;
+            push_seq(to, c)?;
+            push_seq(to, d)
+        }
     }
 }
 
 // A call, behind so many outputs of earlier calls.
-fn push_call_line(to: &mut Vec<u8>, before: usize, call: &Call) -> io::Result<()>
+fn push_call_line(to: &mut Vec<u8>, before: usize, call: &Call) -> Result<(), AllocError>
     requires { before + 1 < 2 ^ 64 }
     ensures { OnOk result (to.new.items ≡ to.old.items ++ call_line before call.now) }
 {
-    write!(to, "call {}/{}", call.position, call.tail)?;
+    to.extend_from_slice(b"call ")?;
+    push_number(to, call.position)?;
+    to.extend_from_slice(b"/")?;
+    push_number(to, call.tail)?;
     push_seqs(to, &call.tuple)?;
-    write!(to, " ")?;
+    to.extend_from_slice(b" ")?;
     push_out(to, before, &call.out)?;
-    writeln!(to, "")
+    to.extend_from_slice(b"\n")
 }
 
 // Calls, from a component's first one on.
-fn push_call_lines(to: &mut Vec<u8>, calls: &[Call]) -> io::Result<()>
+fn push_call_lines(to: &mut Vec<u8>, calls: &[Call]) -> Result<(), AllocError>
     ensures { OnOk result (to.new.items ≡ to.old.items ++ call_lines 0 calls.now) }
 {
     let mut before = 0;
@@ -85,13 +125,14 @@ fn push_call_lines(to: &mut Vec<u8>, calls: &[Call]) -> io::Result<()>
 }
 
 // A digit for each arrival, its role.
-fn push_roles(to: &mut Vec<u8>, arrivals: &[(u8, Token)]) -> io::Result<()>
+fn push_roles(to: &mut Vec<u8>, arrivals: &[(u8, Token)]) -> Result<(), AllocError>
     requires { (n : ℕ) (a : Arrival) → slice_get arrivals.now n ≡ Some a → a.0 < 10 }
     ensures { OnOk result (to.new.items ≡ to.old.items ++ roles_text arrivals.now) }
 {
     if arrivals.is_empty() {
-        return write!(to, "-");
+        return to.extend_from_slice(b"-");
     }
+    to.reserve(arrivals.len())?;
     for (role, _) in arrivals {
         to.push(b'0' + *role)?;
     }
@@ -99,7 +140,7 @@ fn push_roles(to: &mut Vec<u8>, arrivals: &[(u8, Token)]) -> io::Result<()>
 }
 
 // Whether a component has ended, and where its next fetch would begin.
-fn push_end_line(to: &mut Vec<u8>, kind: &Kind, calls: &[Call]) -> io::Result<()>
+fn push_end_line(to: &mut Vec<u8>, kind: &Kind, calls: &[Call]) -> Result<(), AllocError>
     ensures { OnOk result (to.new.items ≡ to.old.items
         ++ end_line (is_last (last_outcome kind.now calls.now)) (cursor_after calls.now)) }
 {
@@ -108,8 +149,11 @@ fn push_end_line(to: &mut Vec<u8>, kind: &Kind, calls: &[Call]) -> io::Result<()
     } else {
         "DATA_WAIT"
     };
-    let next = next_cursor(calls);
-    writeln!(to, "end {state} next {next}")
+    to.extend_from_slice(b"end ")?;
+    to.extend_from_slice(state.as_bytes())?;
+    to.extend_from_slice(b" next ")?;
+    push_number(to, next_cursor(calls))?;
+    to.extend_from_slice(b"\n")
 }
 
 // A component: its name, what arrived, its calls, and its end.
@@ -118,37 +162,64 @@ pub(crate) fn push_component(
     plan: &Plan,
     arrivals: &[(u8, Token)],
     calls: &[Call],
-) -> io::Result<()>
+) -> Result<(), AllocError>
     requires { (n : ℕ) (a : Arrival) → slice_get arrivals.now n ≡ Some a → a.0 < 10 }
     ensures { OnOk result (to.new.items ≡ to.old.items
         ++ component_text plan.now arrivals.now calls.now) }
 {
-    write!(to, "component ")?;
+    to.extend_from_slice(b"component ")?;
     push_quoted(to, plan.name.as_str().as_bytes(), true)?;
-    write!(to, "\nroles ")?;
+    to.extend_from_slice(b"\nroles ")?;
     push_roles(to, arrivals)?;
-    writeln!(to, "")?;
+    to.extend_from_slice(b"\n")?;
     push_call_lines(to, calls)?;
     push_end_line(to, &plan.kind, calls)
 }
 
-// A message of the tape.
-fn push_tape_line(to: &mut Vec<u8>, names: &Names, token: &Token) -> io::Result<()>
-    requires { token.now.channel < length names.now }
-    ensures { OnOk result (to.new.items ≡ to.old.items ++ tape_line names.now token.now) }
+// What the lines of a channel's messages begin with.
+fn line_start(alloc: Global, name: &str) -> Result<Bytes, AllocError>
+    ensures { IfOk result (λ b. b ≡ tape_start name.now) }
 {
-    write!(to, "tape ")?;
-    push_quoted(to, names.name(token.channel).as_bytes(), true)?;
-    writeln!(to, " {}", token.seq)
+    let mut start = Vec::from_slice(alloc, b"tape ")?;
+    push_quoted(&mut start, name.as_bytes(), true)?;
+    start.extend_from_slice(b" ")?;
+    Ok(Bytes::from_vec(start))
+}
+
+// The same of each channel, in the order of their numbers.
+fn line_starts(alloc: Global, names: &Names) -> Result<Vec<Bytes>, AllocError>
+    ensures { IfOk result (λ v. v.items ≡ map tape_start names.now) }
+{
+    let mut starts = Vec::with_capacity(alloc, names.count() as usize)?;
+    for channel in 0..names.count() {
+        starts.push(line_start(alloc, names.name(channel))?)?;
+    }
+    Ok(starts)
+}
+
+// A message of the tape, where the lines of each channel begin so.
+fn push_tape_line(to: &mut Vec<u8>, starts: &[Bytes], token: &Token) -> Result<(), AllocError>
+    requires { token.now.channel < length starts.now }
+    ensures { OnOk result (to.new.items ≡ to.old.items ++ started_line starts.now token.now) }
+{
+    to.extend_from_slice(starts[token.channel as usize].as_slice())?;
+    push_number(to, token.seq)?;
+    to.extend_from_slice(b"\n")
 }
 
 // The messages of the tape.
-pub(crate) fn push_tape_lines(to: &mut Vec<u8>, names: &Names, tape: &[Token]) -> io::Result<()>
+pub(crate) fn push_tape_lines(
+    alloc: Global,
+    to: &mut Vec<u8>,
+    names: &Names,
+    tape: &[Token],
+) -> Result<(), AllocError>
     requires { (n : ℕ) (t : Token) → slice_get tape.now n ≡ Some t → t.channel < length names.now }
     ensures { OnOk result (to.new.items ≡ to.old.items ++ flat_map (tape_line names.now) tape.now) }
 {
+    let starts = line_starts(alloc, names)?;
     for token in tape {
-        push_tape_line(to, names, token)?;
+        push_tape_line(to, &starts, token)?;
     }
     Ok(())
 }

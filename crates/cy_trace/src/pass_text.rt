@@ -8,8 +8,7 @@ use crate::TraceError;
 use crate::lines::{push_component, push_head, push_tape_lines};
 use cy_comp::{Plan, Wiring};
 use cy_msg::Bytes;
-use std::alloc::Global;
-use std::io;
+use std::alloc::{AllocError, Global};
 use wake_core::PassWorld;
 
 /// The trace of a world of one component that passes messages on, made for this wiring: what was
@@ -28,16 +27,19 @@ pub fn pass_trace_text(
     ensures memory { IfErr result (λ e. e ≡ TraceError.Memory) }
 {
     let mut to = Vec::new(alloc);
-    match push_trace(&mut to, world, wiring, shadowed) {
-        Ok(()) => Ok(Bytes::from_vec(to)),
-        // A write to a `Vec` fails for want of memory alone.
-        Err(_) => Err(TraceError::Memory),
-    }
+    push_trace(alloc, &mut to, world, wiring, shadowed)?;
+    Ok(Bytes::from_vec(to))
 }
 
 // The same, added to a text.
 #[tactic(auto, unfolding(crate::specs::TraceText::trace_text))]
-fn push_trace(to: &mut Vec<u8>, world: &PassWorld, wiring: &Wiring, shadowed: u32) -> io::Result<()>
+fn push_trace(
+    alloc: Global,
+    to: &mut Vec<u8>,
+    world: &PassWorld,
+    wiring: &Wiring,
+    shadowed: u32,
+) -> Result<(), AllocError>
     requires routes { (world_of world.now).routes ≡ routes_of wiring.now.plans }
     requires channels { (world_of world.now).channels ≡ length wiring.now.names }
     ensures { OnOk result (to.new.items ≡ to.old.items
@@ -45,11 +47,11 @@ fn push_trace(to: &mut Vec<u8>, world: &PassWorld, wiring: &Wiring, shadowed: u3
 {
     push_head(to, world.played(), shadowed)?;
     push_components(to, world, wiring.plans.as_slice())?;
-    push_tape_lines(to, &wiring.names, world.tape_list())
+    push_tape_lines(alloc, to, &wiring.names, world.tape_list())
 }
 
 // The components, from the first one on.
-fn push_components(to: &mut Vec<u8>, world: &PassWorld, plans: &[Plan]) -> io::Result<()>
+fn push_components(to: &mut Vec<u8>, world: &PassWorld, plans: &[Plan]) -> Result<(), AllocError>
     requires routes { (world_of world.now).routes ≡ routes_of plans.now }
     requires few { length plans.now ≤ 64 }
     ensures { OnOk result (to.new.items ≡ to.old.items ++ components_text

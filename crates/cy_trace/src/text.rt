@@ -10,8 +10,7 @@ use crate::TraceError;
 use crate::lines::{push_component, push_head, push_tape_lines};
 use cy_comp::{Call, Plan, Wiring};
 use cy_msg::Bytes;
-use std::alloc::Global;
-use std::io;
+use std::alloc::{AllocError, Global};
 use wake_core::World;
 
 /// The trace of a world that was made for this wiring and whose run has come to its end: what was
@@ -31,16 +30,19 @@ pub fn trace_text(
     ensures memory { IfErr result (λ e. e ≡ TraceError.Memory) }
 {
     let mut to = Vec::new(alloc);
-    match push_trace(&mut to, world, wiring, shadowed) {
-        Ok(()) => Ok(Bytes::from_vec(to)),
-        // A write to a `Vec` fails for want of memory alone.
-        Err(_) => Err(TraceError::Memory),
-    }
+    push_trace(alloc, &mut to, world, wiring, shadowed)?;
+    Ok(Bytes::from_vec(to))
 }
 
 // The same, added to a text.
 #[tactic(auto, unfolding(crate::specs::TraceText::trace_text))]
-fn push_trace(to: &mut Vec<u8>, world: &World, wiring: &Wiring, shadowed: u32) -> io::Result<()>
+fn push_trace(
+    alloc: Global,
+    to: &mut Vec<u8>,
+    world: &World,
+    wiring: &Wiring,
+    shadowed: u32,
+) -> Result<(), AllocError>
     requires quiet { Quiet (plain_of world.now) }
     requires routes { (plain_of world.now).routes ≡ routes_of wiring.now.plans }
     requires channels { length (plain_of world.now).counts ≡ length wiring.now.names }
@@ -49,11 +51,11 @@ fn push_trace(to: &mut Vec<u8>, world: &World, wiring: &Wiring, shadowed: u32) -
 {
     push_head(to, world.played(), shadowed)?;
     push_components(to, world, wiring.plans.as_slice())?;
-    push_tape_lines(to, &wiring.names, world.tape_list())
+    push_tape_lines(alloc, to, &wiring.names, world.tape_list())
 }
 
 // The components, from the first one on.
-fn push_components(to: &mut Vec<u8>, world: &World, plans: &[Plan]) -> io::Result<()>
+fn push_components(to: &mut Vec<u8>, world: &World, plans: &[Plan]) -> Result<(), AllocError>
     requires quiet { Quiet (plain_of world.now) }
     requires routes { (plain_of world.now).routes ≡ routes_of plans.now }
     requires few { length plans.now ≤ 64 }

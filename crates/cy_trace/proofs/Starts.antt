@@ -1,0 +1,57 @@
+-- What the lines of each channel begin with.
+use Rattle.std.proofs.Common.{ℕ, zero, suc, ◌+◌, ◌<◌, ◌≤◌, ◌≡◌, ◌∙◌, ap, List, [], ◌∷◌, ◌++◌, length, map, flat_map, take, slice_get, get_or, sym, Some, codes, refl, arith}
+use Rattle.std.proofs.lemmas.List.{take_all, length-map}
+use Rattle.std.proofs.lemmas.Option.{slice_get-get_or}
+use Rattle.std.specs.Fmt.{decimal}
+use Rattle.cy_msg.specs.Names.{channel_name}
+use Rattle.cy_msg.specs.declared.token.Token.{Token}
+use Rattle.cy_trace.specs.TapeLines.{tape_start, started_line}
+use Rattle.cy_trace.specs.TraceText.{tape_line}
+
+suc_more : (names : List (List ℕ)) (i : ℕ) (name : List ℕ) → slice_get names i ≡ Some name → map tape_start (take (suc i) names) ≡ map tape_start (take i names) ++ tape_start name ∷ []
+suc_more [] i name e = cc
+suc_more (x ∷ rest) zero name e = cc
+suc_more (x ∷ rest) (suc i) name e = ap (λ (l : List (List ℕ)). tape_start x ∷ l) (suc_more rest i name e)
+
+-- One more name.
+pub start_more : (names : List (List ℕ)) (i : ℕ) (name : List ℕ) → slice_get names i ≡ Some name → map tape_start (take (i + 1) names) ≡ map tape_start (take i names) ++ tape_start name ∷ []
+start_more names i name e =
+    let more : i + 1 ≡ suc i = omega arith in
+    ap (λ k. map tape_start (take k names)) more ∙ suc_more names i name e
+
+-- The start of a channel's lines is that of its name.
+start_is : (names : List (List ℕ)) (channel : ℕ) → channel < length names → channel_name (map tape_start names) channel ≡ tape_start (channel_name names channel)
+start_is [] channel low = absurd (omega (arith, low))
+start_is (x ∷ rest) zero low = refl
+start_is (x ∷ rest) (suc channel) low = start_is rest channel (omega (arith, low))
+
+-- A line is its start and the number.
+line_is : (names : List (List ℕ)) (t : Token) → t.channel < length names → started_line (map tape_start names) t ≡ tape_line names t
+line_is names t low = ap (λ (s : List ℕ). s ++ decimal t.seq ++ codes "\n") (start_is names t.channel low)
+
+-- What is read at a place is what stands there.
+pub start_read : (starts : List (List ℕ)) (channel : ℕ) (start : List ℕ) → channel < length starts → start ≡ get_or starts channel start → channel_name starts channel ≡ start
+start_read [] channel start low is = absurd (omega (arith, low))
+start_read (x ∷ rest) zero start low is = sym is
+start_read (x ∷ rest) (suc channel) start low is = start_read rest channel start (omega (arith, low)) is
+
+-- The lines of messages on channels that have names.
+pub lines_are : (names : List (List ℕ)) (tape : List Token) → ((n : ℕ) (t : Token) → slice_get tape n ≡ Some t → t.channel < length names) → flat_map (started_line (map tape_start names)) tape ≡ flat_map (tape_line names) tape
+lines_are names [] known = refl
+lines_are names (t ∷ rest) known =
+    ap (λ (s : List ℕ). s ++ flat_map (started_line (map tape_start names)) rest) (line_is names t (known 0 t refl))
+    ∙ ap (λ (s : List ℕ). tape_line names t ++ s) (lines_are names rest (λ n u e. known (suc n) u e))
+
+-- The channel of a message of the tape has a start.
+pub known_start : (names : List (List ℕ)) (tape : List Token) (i : ℕ) (d : Token) (starts : List (List ℕ)) → i < length tape → starts ≡ map tape_start names → ((n : ℕ) (t : Token) → slice_get tape n ≡ Some t → t.channel < length names) → (get_or tape i d).channel < length starts
+known_start names tape i d starts low is known =
+    let few : (get_or tape i d).channel < length names = known i (get_or tape i d) (slice_get-get_or tape i d low) in
+    let same : length starts ≡ length names = ap (λ (l : List (List ℕ)). length l) is ∙ length-map names tape_start in
+    omega (arith, few, same)
+
+-- After the last message all lines are there.
+pub lines_end : (names : List (List ℕ)) (tape : List Token) (i : ℕ) (starts : List (List ℕ)) (old new : List ℕ) → length tape ≤ i → starts ≡ map tape_start names → new ≡ old ++ flat_map (started_line starts) (take i tape) → ((n : ℕ) (t : Token) → slice_get tape n ≡ Some t → t.channel < length names) → new ≡ old ++ flat_map (tape_line names) tape
+lines_end names tape i starts old new past is so known =
+    so ∙ ap (λ (s : List (List ℕ)). old ++ flat_map (started_line s) (take i tape)) is
+    ∙ ap (λ (l : List Token). old ++ flat_map (started_line (map tape_start names)) l) (take_all i tape past)
+    ∙ ap (λ (s : List ℕ). old ++ s) (lines_are names tape known)

@@ -1,0 +1,14 @@
+-- A line of the tape in two parts: what the lines of its channel begin with, and its number.
+use Rattle.std.specs.Prelude.{ℕ, true, List, ◌++◌, codes}
+use Rattle.std.specs.Fmt.{decimal}
+use Rattle.cy_msg.specs.Names.{channel_name}
+use Rattle.cy_msg.specs.Quoted.{quoted}
+use Rattle.cy_msg.specs.declared.token.Token.{Token}
+
+-- What the lines of a channel's messages begin with.
+abbrev pub tape_start : (name : List ℕ) → List ℕ
+tape_start name = codes "tape " ++ quoted true name ++ codes " "
+
+-- The line of a message, where the lines of each channel begin so.
+abbrev pub started_line : (starts : List (List ℕ)) → Token → List ℕ
+started_line starts t = channel_name starts t.channel ++ decimal t.seq ++ codes "\n"
