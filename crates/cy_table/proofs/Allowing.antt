@@ -1,9 +1,10 @@
 -- What a step of the table may do, by the law of its kind.
-use Rattle.std.proofs.Common.{ℕ, ◌+◌, ◌*◌, ◌≡◌, ◌≢◌, ◌<◌, refl, sym, ◌∙◌, ap, subst, inl, inr, List, [], ◌∷◌, length, take, slice_index, Some, None, arith}
+use Rattle.std.proofs.Common.{ℕ, ◌+◌, ◌*◌, ◌≡◌, ◌≢◌, ◌≤◌, ◌<◌, refl, sym, ◌∙◌, ap, subst, inl, inr, List, [], ◌∷◌, length, take, slice_index, Some, None, arith}
 use mathlib.Core.Option.{none}
 use Rattle.atomic_table.specs.Table.{State as Table, Allows, step, keeps, takes, gives}
 use Rattle.cy_comp.specs.declared.call.Call.{Call}
 use Rattle.cy_comp.specs.Routine.{RoutineView}
+use Rattle.wake_core.specs.declared.entries.TheConstants.{MOST_PLANNED}
 use Rattle.wake_core.specs.declared.route.Route.{Route}
 use Rattle.wake_core.specs.Plain.{Plain}
 use Rattle.cy_table.specs.declared.part.Part.{Part}
@@ -13,7 +14,7 @@ use Rattle.cy_table.specs.Seats.{Seat, Seen, Grip}
 use Rattle.cy_table.specs.Rule.{Rules, Ruled, AreSeen}
 use Rattle.cy_table.specs.Steps.{Sits, Becomes, acquiring, failing, releasing, MayRelease, asking, MayAsk, yielding, MayYield, next_state}
 use Rattle.cy_table.specs.Plays.{Thread, in_hand, HasSeen, AcquireTells, acquired, released, asked, yielded}
-use Rattle.cy_table.specs.Laws.{HoldSwaps, HoldStores, StateStores}
+use Rattle.cy_table.specs.Laws.{HoldSwaps, HoldStores, StateStores, RoomsLeft}
 use Rattle.cy_table.proofs.Places.{place}
 
 -- The rule after an event, and after a step that is none.
@@ -30,20 +31,21 @@ seen_of calls c [] all = tt
 seen_of calls c (x ∷ xs) all = ((λ e. subst (λ k. take (length x.calls) (calls k) ≡ x.calls) e all.0), seen_of calls c xs all.1)
 
 -- The swap of a hold word.
-pub acquires : HoldSwaps → (routes : List Route) (counts : List ℕ) (slots id c : ℕ) (m : Thread) → m.0.live ≢ 0 → m.0.hand ≡ None → c < length routes
+pub acquires : HoldSwaps → RoomsLeft → (routes : List Route) (counts : List ℕ) (slots id c : ℕ) (m : Thread) → m.0.live ≢ 0 → m.0.hand ≡ None → c < length routes
     → Allows (Ruled routes counts) slots id m (4 * c + 4) (λ _. 1) (acquired (step slots (4 * c + 4) 1 0 none) m)
-acquires law routes counts slots id c m live idle less s k deep at bound =
+acquires law rooms routes counts slots id c m live idle less s k deep at bound =
     let inside : c < length k.world.routes = subst (λ (l : List Route). c < length l) (sym k.components) less in
     let sits : Sits k.rooms k.world s id m.0 = record { rules = k.rules; at = at; live = live } in
     let tell = λ (found : ℕ) (n : Thread) (a : AcquireTells c m found n). λ (d : ℕ) (e : 4 * c + 4 ≡ 4 * d + 4). subst (λ j. AcquireTells j m found n) (let h : c ≡ d = omega arith in h) a in
     elim (place (slice_index s.words (4 * c + 4)) 0) [
       | inl free ↦ let a = law.free k.rooms k.world s id c m.0 m.1 sits idle inside free in
-          let seen = subst (λ l. HasSeen c l m.0.seen) (ap (λ (y : RoutineView). y.calls) (sym a.2)) (seen_of k.world.calls c m.0.seen (k.rules.knows id m.0 at).calls) in (
+          let seen = subst (λ l. HasSeen c l m.0.seen) (ap (λ (y : RoutineView). y.calls) (sym a.2)) (seen_of k.world.calls c m.0.seen (k.rules.knows id m.0 at).calls) in
+          let few = subst (λ (l : List Call). length l ≤ MOST_PLANNED) (ap (λ (y : RoutineView). y.calls) (sym a.2)) (rooms.calls k.rooms k.world s c k.rules inside) in (
             acquiring m.0 c a.0,
             takes (2 * c + 1) (part.Routine a.0),
             a.1,
             ruled_then k a.3,
-            tell (slice_index s.words (4 * c + 4)) (acquiring m.0 c a.0, (2 * c + 1, part.Routine a.0) ∷ m.1) record { free = λ z. (a.0, refl, seen); held = λ ne. absurd (ne free) },
+            tell (slice_index s.words (4 * c + 4)) (acquiring m.0 c a.0, (2 * c + 1, part.Routine a.0) ∷ m.1) record { free = λ z. (a.0, refl, seen, few); held = λ ne. absurd (ne free) },
           )
       | inr held ↦ (
         failing m.0 c,

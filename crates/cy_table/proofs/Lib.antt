@@ -11,8 +11,13 @@ pub mod Fetching
 pub mod Benching
 pub mod Leaving
 pub mod Lying
+pub mod Laying
+pub mod Unpacking
 pub mod Allowing
 pub mod Slots
+pub mod Counting
+pub mod Resuming
+pub mod Channels
 pub mod Words
 pub mod Updating
 pub mod Visits

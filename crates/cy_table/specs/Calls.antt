@@ -1,27 +1,32 @@
 -- What each call of the table needs of the thread's pass, and what it leaves.
 use Rattle.std.specs.Prelude.{Bool, true, false, ◌&&◌, not, if◌then◌else◌}
-use Rattle.std.specs.Prelude.{ℕ, ◌≡◌, ◌≢◌, ◌≤◌, ◌<◌, List, [], ◌∷◌, length, Option, Some, None}
-use Rattle.cy_comp.specs.Routine.{RoutineView, taken}
-use Rattle.cy_fuse.specs.Visitor.{VisitorView}
+use Rattle.std.specs.Prelude.{ℕ, ◌≡◌, ◌≢◌, ◌≤◌, ◌<◌, ◌↔◌, List, [], ◌∷◌, length, Option, Some, None}
+use Rattle.std.specs.Prelude.{IsNone, option_map}
+use Rattle.cy_msg.specs.declared.token.Token.{Token}
+use Rattle.cy_msg.specs.declared.token.Tuple.{Tuple}
+use Rattle.cy_comp.specs.Calls.{cursor_after, outs, output}
+use Rattle.cy_comp.specs.Routine.{RoutineView}
+use Rattle.cy_fuse.specs.Fetch.{fetch}
+use Rattle.cy_fuse.specs.Visitor.{VisitorView, visited}
 use Rattle.wake_core.specs.Plain.{Plain, to_play_from}
 use Rattle.wake_core.specs.WorldOf.{plain_of}
-use Rattle.wake_core.specs.declared.phase.Phase.TheVariants.{Fresh}
+use Rattle.wake_core.specs.declared.phase.Phase.TheVariants.{Fresh, Asked}
 use Rattle.wake_core.specs.Events.{is_waiting}
 use Rattle.wake_core.specs.Turns.{is_due}
 use Rattle.cy_table.specs.declared.part.Part.TheVariants as part
 use Rattle.cy_table.specs.declared.pass.Pass.{Pass}
-use Rattle.cy_table.specs.declared.pass.Found.{Found}
-use Rattle.cy_table.specs.declared.pass.Hold.{Hold}
+use Rattle.cy_table.specs.declared.hold.Found.{Found}
+use Rattle.cy_table.specs.declared.hold.Hold.{Hold}
 use Rattle.cy_table.specs.declared.table.FlagTable.{FlagTable}
 use Rattle.cy_table.specs.Layout.{routine_slot, visitor_slot, tape_slot}
 use Rattle.cy_table.specs.Seats.{Seat, TapeView}
-use Rattle.cy_table.specs.Rule.{IsEmpty, roles_at}
+use Rattle.cy_table.specs.Rule.{IsEmpty, roles_at, queue_at}
 use Rattle.cy_comp.specs.declared.state.State.{State}
-use Rattle.cy_table.specs.Steps.{visiting, entering, MayTape}
+use Rattle.cy_table.specs.Steps.{visiting, entering, fetching, MayTape, MaySend, sending, out_at}
 use Rattle.cy_table.specs.Steps.{MayReady, readying, MaySpend, spending, seeing}
 use Rattle.cy_table.specs.Steps.{acquiring, failing, MayAsk, MayYield, next_state, MayRelease}
-use Rattle.cy_table.specs.Plays.{Thread, in_hand, HasSeen, but_first, later_fills}
-use Rattle.cy_msg.specs.declared.token.Token.{Token}
+use Rattle.cy_table.specs.Plays.{Thread, in_hand, HasSeen, but_first, later_fills, MayPut}
+use Rattle.cy_table.specs.Hold.{with_found}
 
 -- The world that a table was made of.
 abbrev pub made_of : FlagTable → Plain
@@ -41,17 +46,25 @@ number_of p = p.seat.id
 abbrev pub knowing : Pass → Seat → Thread
 knowing p v = (v, p.seat.me.1)
 
--- The routine of a croutine in hand, with the call on a tuple that a fetch found, though the
--- component was not stepped on it yet.
-abbrev pub with_found : RoutineView → Option Found → RoutineView
-with_found x None = x
-with_found x (Some f) = taken x f.tuple f.position f.tail
-
+-- A croutine in hand: its component, the channel that this writes, its routine with the call that
+-- a fetch made, and the tuple on which the component is still to be stepped.
 abbrev pub component_of : Hold → ℕ
 component_of h = h.component
 
+abbrev pub channel_of : Hold → ℕ
+channel_of h = h.channel
+
 abbrev pub routine_of : Hold → RoutineView
 routine_of h = with_found h.routine h.found
+
+abbrev pub to_step : Hold → Option Tuple
+to_step h = option_map (λ (f : Found). f.tuple) h.found
+
+-- The output that is to be sent: the last of what its calls put out, where it waits.
+abbrev pub token_of : Hold → Option Token
+token_of h = option_map
+    (output (channel_of h) (length (outs (channel_of h) (routine_of h).calls)))
+    (routine_of h).pending
 
 -- A pass of a table, not joined; and one that is so after a call, with its number.
 pub record IsAt (t : FlagTable) (p : Pass) : Type 0 where
@@ -66,6 +79,12 @@ pub record Stays (t : FlagTable) (p q : Pass) : Type 0 where
 abbrev pub IsStepped : Hold → Type 0
 IsStepped h = h.found ≡ None
 
+-- A croutine in hand shows what it did before, whether its component was stepped or not.
+pub record ShowsTheSame (h k : Hold) : Type 0 where
+  pub component : component_of k ≡ component_of h
+  pub channel : channel_of k ≡ channel_of h
+  pub routine : routine_of k ≡ routine_of h
+
 -- A pass with no croutine in hand, and one that has this croutine in hand.
 pub record HasNoHold (p : Pass) : Type 0 where
   pub hand : (seat_of p).hand ≡ None
@@ -74,6 +93,7 @@ pub record HasNoHold (p : Pass) : Type 0 where
 pub record Holds (t : FlagTable) (p : Pass) (h : Hold) : Type 0 where
   pub hand : (seat_of p).hand ≡ Some (in_hand (seat_of p))
   pub croutine : (in_hand (seat_of p)).croutine ≡ component_of h
+  pub channel : channel_of h ≡ out_at (made_of t).routes (component_of h)
   pub routine : (in_hand (seat_of p)).routine ≡ routine_of h
   pub out : (thread_of p).1 ≡ (routine_slot (component_of h), part.Away) ∷ []
   pub inside : component_of h < length (made_of t).routes
@@ -141,6 +161,11 @@ pub record IsPlayer (t : FlagTable) (p : Pass) : Type 0 where
   pub at : IsAt t p
   pub player : number_of p ≡ 0
 
+-- .. of which so many seats were split off that one more may be.
+pub record CanSplit (t : FlagTable) (p : Pass) : Type 0 where
+  pub mine : IsPlayer t p
+  pub few : (seat_of p).split < 64
+
 pub record CanJoin (t : FlagTable) (p other : Pass) : Type 0 where
   pub mine : IsPlayer t p
   pub at : IsAt t other
@@ -198,20 +223,68 @@ pub record CanFill (t : FlagTable) (p : Pass) (c role : ℕ) (token : Token) : T
   pub message : token ≡ (seat_of p).token
   pub reader : role < roles_at (seat_of p).routes c
 
--- A thread that took a visitor, which has as many readers as its component, and room where it is to
--- be filled.
+-- A thread that took a visitor, which keeps as many tuples and has as many readers as its component
+-- needs, and room where it is to be filled.
 pub record Visiting (p : Pass) (c : ℕ) (x : VisitorView) (q : Pass) : Type 0 where
   pub thread : thread_of q
       ≡ (visiting (seat_of p) c x, (visitor_slot c, part.Away) ∷ (thread_of p).1)
+  pub queue : x.queue ≡ queue_at (seat_of p).routes (seat_of p).counts c
   pub roles : x.roles ≡ roles_at (seat_of p).routes c
   pub room : (j : ℕ) (later : List (ℕ × ℕ)) → (seat_of p).fills ≡ (c, j) ∷ later → 1 ≤ x.spare
 
--- The player's way to the tape, for a message that is the next one of its channel.
+-- The event Fetch, of the croutine in hand, which asked. What it finds is what the fetch rule gives
+-- at the visitor, as it was while its door was held; `tail` of the seat says how many tuples there
+-- were.
+pub record CanFetch (t : FlagTable) (p : Pass) (h : Hold) : Type 0 where
+  pub visit : CanVisit t p (component_of h)
+  pub holds : Holds t p h
+  pub stepped : IsStepped h
+  pub asked : (in_hand (seat_of p)).phase ≡ Asked
+
+abbrev pub fetched_at : Hold → VisitorView → Option (Tuple × ℕ × ℕ)
+fetched_at h x = visited (cursor_after (routine_of h).calls) x
+
+pub record Fetched (t : FlagTable) (p : Pass) (h : Hold) (answer : Option Tuple) (q : Pass)
+    (k : Hold) : Type 0 where
+  pub visitor : VisitorView
+  pub queue : visitor.queue ≡ queue_at (seat_of p).routes (seat_of p).counts (component_of h)
+  pub roles : visitor.roles ≡ roles_at (seat_of p).routes (component_of h)
+  pub found : answer ≡ option_map (λ f. f.0) (fetched_at h visitor)
+  pub none : IsNone answer
+      ↔ IsNone (fetch (cursor_after (routine_of h).calls) (seat_of q).tail visitor.queue)
+  pub seat : seat_of q
+      ≡ fetching (seat_of p) (in_hand (seat_of p)) visitor (fetched_at h visitor)
+  pub holds : Holds t q k
+  pub to_step : to_step k ≡ answer
+
+-- The way to the tape, of one that has something to put there.
+pub record CanEnter (t : FlagTable) (p : Pass) : Type 0 where
+  pub at : IsAt t p
+  pub bare : (seat_of p).tape ≡ None
+  pub may : MayPut (number_of p) (seat_of p)
+
+-- The event Tape by the player.
 pub record CanTape (t : FlagTable) (p : Pass) (token : Token) : Type 0 where
   pub at : IsAt t p
   pub player : number_of p ≡ 0
   pub bare : (seat_of p).tape ≡ None
   pub may : MayTape (seat_of p) token
+
+-- .. and by the holder of a component, of the output that waits.
+pub record CanSend (t : FlagTable) (p : Pass) (h : Hold) : Type 0 where
+  pub at : IsAt t p
+  pub holds : Holds t p h
+  pub stepped : IsStepped h
+  pub waits : (routine_of h).pending ≢ None
+  pub bare : (seat_of p).tape ≡ None
+  pub may : MaySend (seat_of p) (in_hand (seat_of p))
+
+pub record Sent (t : FlagTable) (p : Pass) (h : Hold) (token : Token) (q : Pass) (k : Hold)
+    : Type 0 where
+  pub waited : token_of h ≡ Some token
+  pub seat : seat_of q ≡ sending (seat_of p) (in_hand (seat_of p)) token
+  pub holds : Holds t q k
+  pub stepped : IsStepped k
 
 -- A thread that took the tape, which has room for a message.
 pub record Entered (p : Pass) (x : TapeView) (q : Pass) : Type 0 where

@@ -13,7 +13,8 @@ use Rattle.cy_msg.specs.Tokens.{on_channel}
 use Rattle.cy_fuse.specs.Visitor.{VisitorView, arrived, visited}
 use Rattle.cy_comp.specs.declared.call.Out.{Out}
 use Rattle.cy_comp.specs.Calls.{cursor_after, outs}
-use Rattle.cy_comp.specs.Routine.{RoutineView}
+use Rattle.cy_comp.specs.Routine.{RoutineView, MayTake}
+use Rattle.wake_core.specs.declared.entries.TheConstants.{MOST_PLANNED}
 use Rattle.wake_core.specs.declared.phase.Phase.TheVariants.{Asked}
 use Rattle.wake_core.specs.Plain.{Plain, blank, to_play_from}
 use Rattle.wake_core.specs.Events.{Acquires, Spends, Readies, Asks, Fills, Looks, Clears}
@@ -209,7 +210,8 @@ pub record BenchSteps : Type 0 where
       }
 
 -- What a seat shows leaves room for what it is to put: an output that waits, or the next message,
--- on the tape; a fill at its reader; a call that a fetch makes among the component's calls.
+-- on the tape; a fill at its reader; a call that a fetch makes among the component's calls, of
+-- which there are no more than a world keeps.
 pub record RoomsLeft : Type 0 where
   pub send : (r : Rooms) (w : Plain) (s : Table Part Seat) (id : ℕ) (v : Seat) (g : Grip) (o : Out)
       → Sits r w s id v → v.hand ≡ Some g → g.routine.pending ≡ Some o → length w.tape < r.tape
@@ -218,11 +220,14 @@ pub record RoomsLeft : Type 0 where
   pub fill : (r : Rooms) (w : Plain) (s : Table Part Seat) (id : ℕ) (v : Seat) (c j : ℕ)
       (later : List (ℕ × ℕ)) → Sits r w s id v → v.fills ≡ (c, j) ∷ later → c < length w.routes
       → length (w.arrivals c) < r.arrivals c
+  pub calls : (r : Rooms) (w : Plain) (s : Table Part Seat) (c : ℕ) → Rules r w s
+      → c < length w.routes → length (w.calls c) ≤ MOST_PLANNED
+  -- .. and the tuple that a fetch finds may be taken.
   pub fetch : (r : Rooms) (w : Plain) (s : Table Part Seat) (id : ℕ) (v : Seat) (g : Grip)
       (a : Visit) (f : Tuple × ℕ × ℕ) → Sits r w s id v → v.hand ≡ Some g → g.phase ≡ Asked
       → v.visit ≡ Some a → a.component ≡ g.croutine
       → visited (cursor_after g.routine.calls) a.visitor ≡ Some f
-      → length (w.calls g.croutine) < r.calls g.croutine
+      → MayTake g.routine f.0 f.1 × (length g.routine.calls < MOST_PLANNED)
 
 -- A table that lies open, with the player's seat alone, shows a world at rest. And where the player
 -- has and owes nothing, and no seat is split off, nobody has or owes anything, and the table lies

@@ -4,4 +4,6 @@ pub mod Rule
 pub mod Steps
 pub mod Laws
 pub mod Plays
+pub mod Hold
 pub mod Calls
+pub mod Ends

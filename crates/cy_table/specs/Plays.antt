@@ -1,13 +1,17 @@
 -- The rule for a world that a table is made of, and what each step tells the thread that makes it:
 -- its seat, and the slots that it took, after the step.
-use Rattle.std.specs.Prelude.{ℕ, ◌≡◌, ◌≢◌, ◌≤◌, ◌<◌, ◌==◌, true, List, [], ◌∷◌, length, take}
-use Rattle.std.specs.Prelude.{Option, Some, None}
+use Rattle.std.specs.Prelude.{ℕ, ◌≡◌, ◌≢◌, ◌≤◌, ◌<◌, ◌⊎◌, ◌==◌, true, List, [], ◌∷◌, length}
+use Rattle.std.specs.Prelude.{take, Option, Some, None}
 use Rattle.atomic_table.specs.Table.{State as Table, Me, Step, rest}
 use Rattle.cy_msg.specs.declared.token.Token.{Token}
-use Rattle.cy_fuse.specs.Visitor.{VisitorView}
+use Rattle.cy_msg.specs.declared.token.Tuple.{Tuple}
+use Rattle.cy_fuse.specs.Visitor.{VisitorView, prepared, visited as found_at}
 use Rattle.cy_comp.specs.declared.kind.Kind.TheVariants.{Pass}
 use Rattle.cy_comp.specs.declared.call.Call.{Call}
-use Rattle.cy_comp.specs.Routine.{RoutineView, new_routine}
+use Rattle.cy_comp.specs.declared.call.Out.{Out}
+use Rattle.cy_comp.specs.Calls.{cursor_after}
+use Rattle.cy_comp.specs.Routine.{RoutineView, new_routine, MayTake}
+use Rattle.wake_core.specs.declared.entries.TheConstants.{MOST_PLANNED}
 use Rattle.wake_core.specs.declared.phase.Phase.TheVariants.{Done}
 use Rattle.wake_core.specs.declared.world.World.{World}
 use Rattle.wake_core.specs.Plain.{Plain, blank}
@@ -16,10 +20,11 @@ use Rattle.cy_table.specs.declared.part.Part.{Part}
 use Rattle.cy_table.specs.declared.part.Part.TheVariants as part
 use Rattle.cy_table.specs.Layout.{hold_word, routine_slot, visitor_door, visitor_slot}
 use Rattle.cy_table.specs.Layout.{tape_slot}
-use Rattle.cy_table.specs.Seats.{Seat, Seen, Grip, TapeView}
-use Rattle.cy_table.specs.Rule.{Ruled, roles_at}
+use Rattle.cy_table.specs.Seats.{Seat, Seen, Grip, Visit, TapeView}
+use Rattle.cy_table.specs.Rule.{Ruled, roles_at, queue_at}
 use Rattle.cy_table.specs.Steps.{acquiring, failing, releasing, asking, yielding, first_seat}
-use Rattle.cy_table.specs.Steps.{visiting, filling, entering, taping, readying, spending, seeing}
+use Rattle.cy_table.specs.Steps.{visiting, filling, called, fetching, entering, MayTape, taping}
+use Rattle.cy_table.specs.Steps.{sending, readying, spending, seeing}
 use Rattle.cy_table.specs.Steps.{ticking, heeding, closing_all, looking, clearing_but}
 
 -- The calls of the first components of a world, the last component first.
@@ -52,12 +57,13 @@ HasSeen c calls [] = Unit {0}
 HasSeen c calls (x ∷ rest) =
     (x.component ≡ c → take (length x.calls) calls ≡ x.calls) × HasSeen c calls rest
 
--- The swap of a hold word: the routine that was at home is in hand, with all calls that were seen;
--- or the croutine was held.
+-- The swap of a hold word: the routine that was at home is in hand, with all calls that were seen,
+-- and no more than a world keeps; or the croutine was held.
 pub record AcquireTells (c : ℕ) (m : Thread) (found : ℕ) (n : Thread) : Type 0 where
   pub free : found ≡ 0 → (x : RoutineView)
       × (n ≡ (acquiring m.0 c x, (routine_slot c, part.Routine x) ∷ m.1))
       × HasSeen c x.calls m.0.seen
+      × (length x.calls ≤ MOST_PLANNED)
   pub held : found ≢ 0 → n ≡ (failing m.0 c, m.1)
 
 abbrev pub acquired : Step Part → Thread → ℕ → Thread → Type 0
@@ -119,11 +125,13 @@ readied step m found n = n ≡ (readying m.0 (in_hand m.0), m.1)
 abbrev pub spent : Step Part → Thread → ℕ → Thread → Type 0
 spent step m found n = n ≡ (spending m.0 (in_hand m.0) (found == 1), m.1)
 
--- The swap of a visitor's door: the visitor is in hand, with as many readers as its component has,
--- and with room where it is to be filled; or another thread is behind the door.
+-- The swap of a visitor's door: the visitor is in hand, which keeps as many tuples and has as many
+-- readers as its component needs, and has room where it is to be filled; or another thread is
+-- behind the door.
 pub record VisitTells (c : ℕ) (m : Thread) (found : ℕ) (n : Thread) : Type 0 where
   pub open_door : found ≡ 0 → (x : VisitorView)
       × (n ≡ (visiting m.0 c x, (visitor_slot c, part.Visitor x) ∷ m.1))
+      × (x.queue ≡ queue_at m.0.routes m.0.counts c)
       × (x.roles ≡ roles_at m.0.routes c)
       × ((j : ℕ) (later : List (ℕ × ℕ)) → m.0.fills ≡ (c, j) ∷ later → 1 ≤ x.spare)
   pub shut_door : found ≢ 0 → n ≡ m
@@ -146,6 +154,34 @@ filled step m found n = n ≡ (
   rest m.1,
 )
 
+-- What a fetch by the croutine in hand finds at the visitor behind whose door the thread is.
+abbrev pub visit_or_none : Option Visit → Visit
+visit_or_none None = record { component = 0; visitor = prepared 1 1 0 }
+visit_or_none (Some a) = a
+
+abbrev pub visitor_of : Seat → VisitorView
+visitor_of v = (visit_or_none v.visit).visitor
+
+abbrev pub finding : Seat → Option (Tuple × ℕ × ℕ)
+finding v = found_at (cursor_after (in_hand v).routine.calls) (visitor_of v)
+
+-- The store of a visitor's door after a fetch: a tuple that was found may be taken, and the calls
+-- are no more than a world keeps.
+pub record FetchTells (m n : Thread) : Type 0 where
+  pub thread : n ≡ (fetching m.0 (in_hand m.0) (visitor_of m.0) (finding m.0), rest m.1)
+  pub fits : (f : Tuple × ℕ × ℕ) → finding m.0 ≡ Some f → MayTake (in_hand m.0).routine f.0 f.1
+  pub few : length (called (in_hand m.0) (finding m.0)).routine.calls ≤ MOST_PLANNED
+
+abbrev pub fetched : Step Part → Thread → ℕ → Thread → Type 0
+fetched step m found n = FetchTells m n
+
+-- Who comes to the tape: the player, for a message that is the next one of its channel; or the
+-- holder of a component whose output waits.
+abbrev pub MayPut : (id : ℕ) → Seat → Type 0
+MayPut id v =
+    ((t : Token) × (id ≡ 0) × MayTape v t)
+    ⊎ ((o : Out) × (v.hand ≡ Some (in_hand v)) × ((in_hand v).routine.pending ≡ Some o))
+
 -- The swap of the tape's door: the tape is in hand, with room for a message; or another thread is
 -- behind the door.
 pub record EnterTells (m : Thread) (found : ℕ) (n : Thread) : Type 0 where
@@ -157,7 +193,7 @@ pub record EnterTells (m : Thread) (found : ℕ) (n : Thread) : Type 0 where
 abbrev pub entered : Step Part → Thread → ℕ → Thread → Type 0
 entered step m found n = EnterTells m found n
 
--- The store of the tape's door by the player, of the last message in the slot.
+-- The stores of the tape's door, of the last message in the slot: by the player ..
 abbrev pub last_token : List Token → Token
 last_token [] = blank
 last_token (t ∷ []) = t
@@ -175,3 +211,7 @@ last_put (x ∷ rest) = last_in x.1
 
 abbrev pub taped : Step Part → Thread → ℕ → Thread → Type 0
 taped step m found n = n ≡ (taping m.0 (last_put m.1), rest m.1)
+
+-- .. and by the holder of a component.
+abbrev pub sent : Step Part → Thread → ℕ → Thread → Type 0
+sent step m found n = n ≡ (sending m.0 (in_hand m.0) (last_put m.1), rest m.1)

@@ -17,7 +17,8 @@ use Rattle.wake_core.specs.declared.route.Route.{Route}
 use Rattle.wake_core.specs.Run.{readers_of, writes_from, played_of}
 use Rattle.cy_comp.specs.declared.state.State.{State}
 use Rattle.cy_comp.specs.declared.state.State.TheVariants.{Ready, DataWait}
-use Rattle.wake_core.specs.Plain.{Plain, blank}
+use Rattle.wake_core.specs.Plain.{Plain}
+pub use Rattle.wake_core.specs.Rest.{at_rest}
 use Rattle.wake_core.specs.declared.phase.Phase.{Phase}
 use Rattle.wake_core.specs.declared.phase.Phase.TheVariants.{Fresh, Woken, Known, Asked, Empty}
 use Rattle.wake_core.specs.declared.phase.Phase.TheVariants.{Running, Sending, Done}
@@ -249,20 +250,10 @@ split_off v = idle_seat v.routes v.counts [] 1
 abbrev pub joining : Seat → Seat → Seat
 joining v o = record v { seen = o.seen ++ v.seen; split = v.split - 1 }
 
--- The player's seat at the start, which has seen some calls; and a world in which no thread has or
--- owes anything, whatever they had.
+-- The player's seat at the start, which has seen some calls.
 abbrev pub first_seat : Plain → List Seen → Seat
 first_seat w seen = record (idle_seat w.routes w.counts seen 1) {
   played = played_of w.routes w.tape;
   clock = w.clock;
   closing = w.closing;
-}
-
-abbrev pub at_rest : Plain → Plain
-at_rest w = record w {
-  hands = λ p. None;
-  fills = λ p. [];
-  news = λ p. [];
-  clearing = λ p. [];
-  tokens = λ p. blank;
 }

@@ -111,6 +111,7 @@ pub fn rooms_left()
     ensures { RoomsLeft }
 {
     laws::room();
+    laws::found();
 }
 
 /// At its start a table shows the world that it is made of, and at its end one that is at rest.

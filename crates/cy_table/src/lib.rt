@@ -7,6 +7,8 @@
 //! are the contracts of [`laws`].
 #![tactic(auto)]
 
+mod counted_routine;
+mod hold;
 pub mod laws;
 mod part;
 mod pass;
@@ -14,6 +16,7 @@ mod rule;
 mod table;
 mod view;
 
+pub use hold::Hold;
 pub use part::{Part, Tape};
-pub use pass::{Busy, Hold, Pass, TableError};
+pub use pass::{Busy, Pass, TableError};
 pub use table::FlagTable;

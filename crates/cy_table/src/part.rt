@@ -1,5 +1,5 @@
 // What the slots of the table hold.
-use cy_comp::Routine;
+use crate::counted_routine::CountedRoutine;
 use cy_fuse::Visitor;
 use cy_msg::Token;
 use std::marker::Model;
@@ -10,7 +10,7 @@ pub enum Part {
     /// What belongs here is with the thread that took it.
     Away,
     /// The routine of a component.
-    Routine(Routine),
+    Routine(CountedRoutine),
     /// The visitor of a component.
     Visitor(Visitor),
     /// The messages that were sent.
@@ -33,8 +33,24 @@ impl Model for Tape {
 }
 
 impl Tape {
-    ghost use Rattle.std.specs.Prelude.{◌≡◌, ◌<◌, length};
+    ghost use Rattle.std.specs.Prelude.{◌≡◌, ◌<◌, length, vec_capacity};
     ghost use Rattle.cy_table.specs.Steps.{with_message};
+
+    // The tape of these messages, with room for as many as they have.
+    pub(crate) fn new(messages: Vec<Token>) -> Self
+        ensures { result
+            ≡ record { messages = messages.items; room = vec_capacity messages } }
+    {
+        Tape { messages }
+    }
+
+    // Its messages, with their room.
+    pub(crate) fn into_messages(self) -> Vec<Token>
+        ensures { self ≡ record { messages = result.items; room = vec_capacity result } }
+    {
+        let Tape { messages } = self;
+        messages
+    }
 
     // A message comes onto the tape.
     pub(crate) fn put(&mut self, token: Token)

@@ -1,7 +1,8 @@
 // The rule of the table as a type, and what each of its steps tells the thread that makes it.
 ghost use Rattle.cy_table.specs.Plays.{rule_for, seat_for, acquired, released, asked, yielded};
 ghost use Rattle.cy_table.specs.Plays.{saw, ticked, heeded, closed, looked, cleared};
-ghost use Rattle.cy_table.specs.Plays.{readied, spent, visited, filled, entered, taped};
+ghost use Rattle.cy_table.specs.Plays.{readied, spent, visited, filled, fetched, entered, taped};
+ghost use Rattle.cy_table.specs.Plays.{sent};
 ghost use Rattle.cy_table.specs.Steps.{splitting, split_off, joining};
 ghost use Rattle.cy_table.specs.Seats.{no_seat};
 
@@ -136,6 +137,13 @@ impl Play<Part, View> for Fill {
     ghost then = { filled };
 }
 
+// The store of a visitor's door after a fetch.
+pub struct Find;
+
+impl Play<Part, View> for Find {
+    ghost then = { fetched };
+}
+
 // The swap of the tape's door.
 pub struct Enter;
 
@@ -148,4 +156,11 @@ pub struct Played;
 
 impl Play<Part, View> for Played {
     ghost then = { taped };
+}
+
+// A holder's store of the tape's door.
+pub struct Output;
+
+impl Play<Part, View> for Output {
+    ghost then = { sent };
 }

@@ -1,6 +1,6 @@
 // The table, whose calls are the events of a run.
 ghost use Rattle.std.specs.Prelude.{◌≡◌, ◌<◌, ◌^◌, length};
-ghost use Rattle.wake_core.specs.WorldOf.{plain_of};
+ghost use Rattle.wake_core.specs.WorldOf.{plain_of, routes_in, counts_in};
 ghost use Rattle.cy_table.specs.Layout.{words_for, slots_for};
 
 use crate::part::Part;
@@ -9,9 +9,10 @@ use crate::view::View;
 use atomic_table::Table;
 use std::alloc::Global;
 use std::snapshot::Snapshot;
-use wake_core::World;
+use wake_core::{Fixed, World};
 
 mod bench;
+mod ends;
 mod hold;
 mod tape;
 mod update;
@@ -23,8 +24,11 @@ mod words;
 #[derive(Drop)]
 pub struct FlagTable {
     table: Table<Part, View, Snapshot<World>, Flags, Global>,
+    fixed: Fixed,
     ghost words: { table.shared.table_id.words
         ≡ words_for (length (plain_of table.shared.key.value).routes) },
     ghost slots: { table.shared.table_id.slots
         ≡ slots_for (length (plain_of table.shared.key.value).routes) },
+    ghost made: { routes_in fixed ≡ (plain_of table.shared.key.value).routes },
+    ghost counted: { counts_in fixed ≡ (plain_of table.shared.key.value).counts },
 }

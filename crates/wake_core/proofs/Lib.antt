@@ -39,6 +39,7 @@ pub mod Acquiring
 pub mod Holding
 pub mod Arriving
 pub mod Fetched
+pub mod FoundBounds
 pub mod Shown
 pub mod FetchedWorld
 pub mod Joining
@@ -69,3 +70,5 @@ pub mod Listed
 pub mod Handing
 pub mod Scanning
 pub mod Acting
+pub mod Parting
+pub mod Outside

@@ -132,6 +132,10 @@ module _ (routes : List Route) (counts : List ℕ) where
       let all = tape_total 0 (length counts) (tape ++ t ∷ []) (λ n s e. let l = room.channels n s e in (omega arith, omega arith)) room.taped in
       omega (arith, all, length-append tape (t ∷ []))
 
+-- The tape has no more messages than are planned.
+pub tape_planned : (w : Plain) → Consistent w → length w.tape ≤ counts_from w.routes w.counts 0 (length w.counts)
+tape_planned w s = tape_total w.routes w.counts 0 (length w.counts) w.tape (λ n t e. let l = s.room.channels n t e in (omega arith, omega arith)) s.room.taped
+
 pub output_room : (w : Plain) (c : ℕ) (t : Token) → unsent_of w c ≡ Some t → Consistent w → length w.tape < counts_from w.routes w.counts 0 (length w.counts)
 output_room w c t is s = room_total w.routes w.counts w.tape t (send_room w c t is s)
 

@@ -2,13 +2,15 @@
 -- causes and room beside them (`consistent`), and all that holds of a world (`sound`); and each
 -- component keeps the calls that it had (`calls`). The first two ask only for the conditions that
 -- they need.
-use Rattle.std.specs.Prelude.{ℕ, ◌≡◌, ◌≢◌, ◌⊎◌, ◌<◌, true, List, [], ◌∷◌, ◌++◌, length, take, map}
-use Rattle.std.specs.Prelude.{sum, Some, None, slice_get}
+use Rattle.std.specs.Prelude.{ℕ, ◌≡◌, ◌≢◌, ◌⊎◌, ◌≤◌, ◌<◌, true, List, [], ◌∷◌, ◌++◌, length, take}
+use Rattle.std.specs.Prelude.{map, sum, Some, None, slice_get}
 use Rattle.cy_msg.specs.declared.token.Token.{Token}
+use Rattle.cy_msg.specs.Tuple.{messages_of}
 use Rattle.cy_fuse.specs.Fusion.{Arrival}
 use Rattle.cy_comp.specs.declared.call.Call.{Call}
 use Rattle.cy_comp.specs.declared.plan.Plan.{Plan}
 use Rattle.cy_comp.specs.Wiring.{IsWiring}
+use Rattle.wake_core.specs.declared.entries.TheConstants.{MOST_PLANNED}
 use Rattle.wake_core.specs.Run.{Route, routes_of, set_at, writes_from}
 use Rattle.wake_core.specs.Planned.{planned_count, first_reader, counts_from}
 use Rattle.wake_core.specs.Plain.{Plain, hand, State, Ready, Finished, Phase, Fresh, Woken, Known}
@@ -20,6 +22,7 @@ use Rattle.wake_core.specs.Events.{after_yield, after_release, Acquires, Spends,
 use Rattle.wake_core.specs.Events.{Fetches, Tapes, Sends, Fills, Looks, Clears, Yields, Releases}
 use Rattle.wake_core.specs.Events.{Ticks, Closes}
 use Rattle.wake_core.specs.Sound.{IsWired, StandsOn, HeldIn, Consistent, Sound}
+use Rattle.wake_core.specs.Fields.{IsFixed}
 use Rattle.wake_core.specs.LawfulRun.{Lost}
 
 -- An event keeps all that holds of a world.
@@ -224,6 +227,30 @@ pub record ThreadLaws : Type 0 where
       }
       → Sound w → Sound v
 
+-- Two worlds are the same, but perhaps for what they say of numbers that are no component's.
+pub record AgreesWithin (w v : Plain) : Type 0 where
+  pub same : v ≡ record w {
+    states = v.states;
+    spent = v.spent;
+    cursors = v.cursors;
+    calls = v.calls;
+    arrivals = v.arrivals;
+  }
+  pub states : (c : ℕ) → c < length w.routes → v.states c ≡ w.states c
+  pub spent : (c : ℕ) → c < length w.routes → v.spent c ≡ w.spent c
+  pub cursors : (c : ℕ) → c < length w.routes → v.cursors c ≡ w.cursors c
+  pub calls : (c : ℕ) → c < length w.routes → v.calls c ≡ w.calls c
+  pub arrivals : (c : ℕ) → c < length w.routes → v.arrivals c ≡ w.arrivals c
+
+-- Numbers from this one on are READY, and nothing arrived there.
+pub record SaysNothing (from : ℕ) (w : Plain) : Type 0 where
+  pub states : (c : ℕ) → from ≤ c → w.states c ≡ Ready
+  pub arrivals : (c : ℕ) → from ≤ c → w.arrivals c ≡ []
+
+-- What a world says of numbers that are no component's is nothing to what holds of it.
+pub record OutsideLaws : Type 0 where
+  pub sound : (w v : Plain) → AgreesWithin w v → SaysNothing (length w.routes) v → Sound w → Sound v
+
 -- What is not spoken of by the parts without flags and time may change; and news may be fewer.
 pub record FewerLaws : Type 0 where
   pub flags : (w v : Plain) → v ≡ record w { spent = v.spent; clock = v.clock; closing = v.closing }
@@ -247,6 +274,23 @@ pub record RoomLaws : Type 0 where
       → next_call w c ≡ Some call
       → slice_get w.routes c ≡ Some x → Consistent w
       → length (w.calls c) < planned_count w.routes w.counts (first_reader x)
+
+-- The tape has no more messages than a world keeps.
+pub record LimitLaws : Type 0 where
+  pub tape : (w : Plain) → Consistent w → IsFixed w.routes w.counts → length w.tape ≤ MOST_PLANNED
+
+-- What a fetch finds: a tuple with one message of each reader, at a position that is no more than
+-- what is planned for the component; and that is no more than a world keeps.
+pub record FoundLaws : Type 0 where
+  pub messages : (w : Plain) (c : ℕ) (x : Route) (call : Call) → next_call w c ≡ Some call
+      → slice_get w.routes c ≡ Some x → IsFixed w.routes w.counts
+      → length (messages_of call.tuple) ≡ length x.readers
+  pub position : (w : Plain) (c : ℕ) (x : Route) (call : Call) → next_call w c ≡ Some call
+      → slice_get w.routes c ≡ Some x → Consistent w
+      → call.position ≤ planned_count w.routes w.counts (first_reader x)
+  pub planned : (routes : List Route) (counts : List ℕ) (c : ℕ) (x : Route)
+      → slice_get routes c ≡ Some x → IsFixed routes counts
+      → planned_count routes counts (first_reader x) ≤ MOST_PLANNED
 
 -- A wiring's components are wired, whatever is played.
 pub record WiringLaws : Type 0 where

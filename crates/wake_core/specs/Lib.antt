@@ -18,3 +18,5 @@ pub mod Owing
 pub mod Opening
 pub mod WorldCalls
 pub mod WorldOf
+pub mod Parts
+pub mod Sent

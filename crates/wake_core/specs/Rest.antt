@@ -1,17 +1,28 @@
 -- Worlds at rest: what they show of a run, and what a serial run needs of the world that it begins
 -- with.
 use Rattle.std.specs.Prelude.{ℕ, ◌≡◌, ◌<◌, true, List, length, slice_get, slice_index, Some, None}
-use Rattle.std.specs.Prelude.{is_some}
+use Rattle.std.specs.Prelude.{is_some, []}
 use Rattle.cy_msg.specs.declared.token.Token.{Token}
 use Rattle.cy_msg.specs.Tokens.{on_channel}
 use Rattle.wake_core.specs.Run.{Run, writes_from, played_of}
 use Rattle.wake_core.specs.Serial.{last_clock}
-use Rattle.wake_core.specs.Plain.{Plain, lists, opening_world, unsent_of, played_count, to_play}
+use Rattle.wake_core.specs.Plain.{Plain, blank, lists, opening_world, unsent_of, played_count}
+use Rattle.wake_core.specs.Plain.{to_play}
 use Rattle.wake_core.specs.Laws.{IsIdle}
 
 -- Nobody holds a croutine, and nobody owes anything.
 abbrev pub IsAtRest : Plain → Type 0
 IsAtRest w = (p : ℕ) → IsIdle p w
+
+-- The same world with nobody that holds or owes anything, whatever they did.
+abbrev pub at_rest : Plain → Plain
+at_rest w = record w {
+  hands = λ p. None;
+  fills = λ p. [];
+  news = λ p. [];
+  clearing = λ p. [];
+  tokens = λ p. blank;
+}
 
 -- What a world shows of its run: no flags, states, cursors or threads.
 abbrev pub run_shown : Plain → Run

@@ -6,27 +6,46 @@ ghost use Rattle.wake_core.specs.Fields.{IsFixed, IsTable, HaveFew};
 
 use crate::{CoreError, Route};
 use cy_comp::{Plan, Wiring};
-use cy_msg::Items;
+use cy_msg::{Items, Token};
 use std::alloc::Global;
 
 /// What a world keeps of its wiring: the components, how many messages are played on each channel,
-/// and the readers of each channel, so that nothing is looked up while a run goes on.
+/// and the readers of each channel, so that nothing is looked up while a run goes on. Contracts see
+/// the components by `routes_in`, and the numbers of messages by `counts_in`.
 #[derive(Drop)]
 pub struct Fixed {
     routes: Vec<Route>,
     counts: Vec<u32>,
     readers: Vec<Items<(u32, u8)>>,
-    ghost lawful: { IsFixed routes.items counts.items },
+    pub ghost lawful: { IsFixed routes.items counts.items },
     ghost table: { IsTable routes.items (length counts.items) readers.items },
 }
 
 impl Fixed {
     ghost use Rattle.std.specs.Prelude.{◌≡◌, ◌≤◌, ◌<◌, ℕ, Some, length, slice_get, IfOk, IfErr};
+    ghost use Rattle.std.specs.Prelude.{is_some};
     ghost use Rattle.wake_core.specs.declared.error.CoreError.TheVariants as CoreError;
     ghost use Rattle.wake_core.specs.declared.entries.TheConstants.{MOST_PLANNED};
-    ghost use Rattle.wake_core.specs.Run.{Route, routes_of, readers_of};
+    ghost use Rattle.wake_core.specs.Run.{Route, routes_of, readers_of, played_of, writes_from};
     ghost use Rattle.wake_core.specs.Planned.{planned};
     ghost use Rattle.wake_core.specs.Fields.{IsFixed, IsTable};
+    ghost use Rattle.wake_core.specs.WorldOf.{routes_in};
+
+    /// How many of these messages were played: they stand on channels that no component writes.
+    pub fn played_in(&self, tape: &[Token]) -> usize
+        ensures { result ≡ length (played_of (routes_in self.now) tape.now) }
+    {
+        tape.iter()
+            .filter(|token| !self.is_written(token.channel))
+            .count()
+    }
+
+    // Whether a component writes a channel.
+    fn is_written(&self, channel: u32) -> bool
+        ensures { result ≡ is_some (writes_from 0 self.now.routes.items channel) }
+    {
+        self.routes.iter().any(|route| route.out == channel)
+    }
 
     /// What is kept of a wiring for which so many messages are played on each channel.
     pub(crate) fn new(alloc: Global, wiring: &Wiring, counts: &[u32]) -> Result<Self, CoreError>
@@ -55,9 +74,9 @@ impl Fixed {
     }
 
     /// The channel that a component writes.
-    pub(crate) fn out(&self, component: usize) -> u32
-        requires { component < length self.now.routes.items }
-        ensures { (x : Route) → slice_get self.now.routes.items component ≡ Some x
+    pub fn out(&self, component: usize) -> u32
+        requires { component < length (routes_in self.now) }
+        ensures { (x : Route) → slice_get (routes_in self.now) component ≡ Some x
             → result ≡ x.out }
     {
         self.routes[component].out

@@ -5,7 +5,8 @@
 ghost use Rattle.wake_core.specs.Laws.{AcquireLaws, SpendLaws, ReadyLaws, AskLaws, FetchLaws};
 ghost use Rattle.wake_core.specs.Laws.{TapeLaws, SendLaws, FillLaws, LookLaws, ClearLaws};
 ghost use Rattle.wake_core.specs.Laws.{YieldLaws, ReleaseLaws, TickLaws, CloseLaws, RunLaws};
-ghost use Rattle.wake_core.specs.Laws.{TapedLaws, ThreadLaws, FewerLaws, RoomLaws, WiringLaws};
+ghost use Rattle.wake_core.specs.Laws.{TapedLaws, ThreadLaws, FewerLaws, RoomLaws, FoundLaws};
+ghost use Rattle.wake_core.specs.Laws.{OutsideLaws, LimitLaws, WiringLaws};
 
 /// Taking a croutine that is free keeps what holds of a world.
 pub fn acquire()
@@ -93,6 +94,11 @@ pub fn threads()
     ensures { ThreadLaws }
 {}
 
+/// What is said of numbers that are no component's tells nothing of a world.
+pub fn outside()
+    ensures { OutsideLaws }
+{}
+
 /// Flags, the clock and closing are nothing to calls and deliveries, and news may be fewer.
 pub fn fewer()
     ensures { FewerLaws }
@@ -101,6 +107,16 @@ pub fn fewer()
 /// What is to be sent, played, filled or called leaves room for itself.
 pub fn room()
     ensures { RoomLaws }
+{}
+
+/// The tape has no more messages than a world keeps.
+pub fn limits()
+    ensures { LimitLaws }
+{}
+
+/// A fetch finds one message of each reader, at a position within what is planned.
+pub fn found()
+    ensures { FoundLaws }
 {}
 
 /// The components of a wiring are wired: following triggers comes to a channel that no component

@@ -8,7 +8,7 @@
 //! `specs/Plain` has the plain world, with flags, states and threads; `specs/Events` the thirteen
 //! events between two of them; `specs/Sound` what holds of every one that events reach;
 //! `specs/LawfulRun` how a run ends. The laws of the events (`specs/Laws`) are the contracts of
-//! [`laws`].
+//! [`laws`]. `specs/Parts` says what the parts show into which a world is taken apart.
 #![tactic(auto)]
 
 mod entries;
@@ -17,6 +17,7 @@ mod fixed;
 mod found;
 pub mod laws;
 mod owed;
+mod parts;
 mod pass_run;
 mod pass_world;
 mod phase;
@@ -26,6 +27,8 @@ mod world;
 
 pub use entries::{MOST_PLANNED, planned};
 pub use error::CoreError;
+pub use fixed::Fixed;
+pub use parts::Parts;
 pub use pass_run::pass_serial;
 pub use pass_world::PassWorld;
 pub use phase::{Hand, Phase};

@@ -15,6 +15,7 @@ use cy_comp::Routine;
 use cy_fuse::Visitor;
 use cy_msg::Token;
 
+mod apart;
 mod clock;
 mod hold;
 mod opening;

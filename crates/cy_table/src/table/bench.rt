@@ -7,13 +7,13 @@ use crate::table::FlagTable;
 impl FlagTable {
     ghost use Rattle.std.specs.Prelude.{◌≡◌, [], IfOk, IfErr};
     ghost use Rattle.cy_table.specs.Steps.{splitting, split_off, joining};
-    ghost use Rattle.cy_table.specs.Calls.{seat_of, thread_of, knowing, IsAt, Stays, IsPlayer};
+    ghost use Rattle.cy_table.specs.Calls.{seat_of, thread_of, knowing, IsAt, Stays, CanSplit};
     ghost use Rattle.cy_table.specs.Calls.{CanJoin};
 
     /// A pass for one thread more, split off the player's. It has nothing in hand, owes nothing and
     /// has seen no calls. Its only error is `Memory`, and then the player's pass is as it was.
     pub fn split(&self, pass: &mut Pass) -> Result<Pass, TableError>
-        requires { IsPlayer self.now pass.old }
+        requires { CanSplit self.now pass.old }
         ensures same { Stays self.now pass.old pass.new }
         ensures split { IfOk result (λ q. IsAt self.now q
             × (thread_of q ≡ (split_off (seat_of pass.old), []))
@@ -23,7 +23,8 @@ impl FlagTable {
         laws::bench_steps();
         let shared = &self.table.shared;
         let seat = shared.split_seat::<Off>(&mut pass.seat);
-        Ok(Pass { seat })
+        pass.split_off += 1;
+        Ok(Pass { seat, split_off: 0 })
     }
 
     /// Takes a pass in that was split off, with the calls that it has seen.
@@ -34,7 +35,8 @@ impl FlagTable {
             ≡ knowing pass.old (joining (seat_of pass.old) (seat_of other)) }
     {
         laws::bench_steps();
-        let Pass { seat } = other;
+        let Pass { seat, split_off: _ } = other;
+        pass.split_off = pass.split_off.saturating_sub(1);
         let shared = &self.table.shared;
         shared.join_seat::<Into>(&mut pass.seat, seat);
     }

@@ -2,9 +2,10 @@
 ghost use Rattle.std.specs.Prelude.{◌≡◌};
 ghost use Rattle.cy_table.specs.Layout.{number_of as number_for};
 
+use crate::hold::Hold;
 use crate::laws;
 use crate::part::Part;
-use crate::pass::{Busy, Hold, Pass};
+use crate::pass::{Busy, Pass};
 use crate::rule::{Acquire, Ask, Release, Yield};
 use crate::table::FlagTable;
 use cy_comp::State;
@@ -26,6 +27,7 @@ impl FlagTable {
         ensures busy { IfErr result (λ _. FoundHeld pass.old component pass.new) }
     {
         laws::hold_swaps();
+        laws::rooms_left();
         let c = component as usize;
         let shared = &self.table.shared;
         let found = shared.swap::<Acquire>(&mut pass.seat, 4 * c + 4, 1);
@@ -36,6 +38,7 @@ impl FlagTable {
             };
             Ok(Hold {
                 component,
+                channel: self.fixed.out(c),
                 routine,
                 found: None,
             })
@@ -85,6 +88,7 @@ impl FlagTable {
         laws::hold_stores();
         let Hold {
             component,
+            channel: _,
             routine,
             found: _,
         } = hold;
@@ -97,7 +101,7 @@ impl FlagTable {
 }
 
 // The number of a state in its word.
-fn number_of(state: State) -> u64
+pub(super) fn number_of(state: State) -> u64
     ensures { result ≡ number_for state }
 {
     match state {

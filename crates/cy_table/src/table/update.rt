@@ -3,8 +3,9 @@ ghost use Rattle.std.specs.Prelude.{◌≡◌, ◌&&◌, not};
 ghost use Rattle.wake_core.specs.Events.{is_waiting};
 ghost use Rattle.wake_core.specs.Turns.{is_due};
 
+use crate::hold::Hold;
 use crate::laws;
-use crate::pass::{Hold, Pass};
+use crate::pass::Pass;
 use crate::rule::{Ready, See, Spend};
 use crate::table::FlagTable;
 use cy_comp::State;

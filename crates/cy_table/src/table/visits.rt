@@ -1,12 +1,16 @@
 // Behind the door of a visitor.
+ghost use Rattle.std.specs.Prelude.{◌≡◌, option_map};
+ghost use Rattle.cy_table.specs.Hold.{as_found};
+
+use crate::hold::{Found, Hold};
 use crate::laws;
 use crate::part::Part;
 use crate::pass::Pass;
-use crate::rule::{Fill, Visit};
+use crate::rule::{Fill, Find, Visit};
 use crate::table::FlagTable;
 use crossbeam_utils::Backoff;
 use cy_fuse::Visitor;
-use cy_msg::Token;
+use cy_msg::{Token, Tuple};
 use std::sync::Wait;
 
 impl FlagTable {
@@ -17,7 +21,7 @@ impl FlagTable {
     ghost use Rattle.cy_table.specs.Rule.{roles_at};
     ghost use Rattle.cy_table.specs.Plays.{later_fills};
     ghost use Rattle.cy_table.specs.Calls.{seat_of, thread_of, knowing, Stays, CanVisit, CanFill};
-    ghost use Rattle.cy_table.specs.Calls.{Visiting};
+    ghost use Rattle.cy_table.specs.Calls.{Visiting, CanFetch, Fetched};
 
     /// A message comes to a reader of a component, the first of those that the pass owes it to. It
     /// may wait until no other thread is behind the door.
@@ -35,6 +39,29 @@ impl FlagTable {
         let left = shared.exchange(&mut pass.seat, 2 * c + 2, Part::Visitor(visitor));
         let Part::Away = left else { unreachable!() };
         shared.store::<Fill>(&mut pass.seat, 4 * c + 7, 0);
+    }
+
+    /// Fetches a tuple for the croutine in hand by the fetch rule, and calls its component on it;
+    /// the component is then to be stepped on the tuple. `None` comes exactly where the rule finds
+    /// nothing at the component's visitor while its door is held. It may wait until no other thread
+    /// is behind the door.
+    pub fn fetch<R: Wait>(&self, rt: &R, pass: &mut Pass, hold: &mut Hold) -> Option<Tuple>
+        requires { CanFetch self.now pass.old hold.old }
+        ensures same { Stays self.now pass.old pass.new }
+        ensures fetched { Fetched self.now pass.old hold.old result pass.new hold.new }
+    {
+        laws::fetch_stores();
+        laws::rooms_left();
+        let c = hold.component as usize;
+        let visitor = self.visit_at_last(rt, pass, hold.component);
+        let mut cursor = hold.routine.cursor();
+        let found = visitor.try_fetch(&mut cursor);
+        let shared = &self.table.shared;
+        let left = shared.exchange(&mut pass.seat, 2 * c + 2, Part::Visitor(visitor));
+        let Part::Away = left else { unreachable!() };
+        shared.store::<Find>(&mut pass.seat, 4 * c + 7, 0);
+        hold.found = kept(found);
+        tuple_in(found)
     }
 
     // Takes a visitor, by swaps of its door until one finds it open.
@@ -75,4 +102,23 @@ impl FlagTable {
             None
         }
     }
+}
+
+// What a fetch found, as it is kept until the component is stepped.
+fn kept(found: Option<(Tuple, u64, u64)>) -> Option<Found>
+    ensures { result ≡ option_map as_found found }
+{
+    let (tuple, position, tail) = found?;
+    Some(Found {
+        tuple,
+        position,
+        tail,
+    })
+}
+
+// The tuple that a fetch found.
+fn tuple_in(found: Option<(Tuple, u64, u64)>) -> Option<Tuple>
+    ensures { result ≡ option_map (λ f. f.0) found }
+{
+    Some(found?.0)
 }

@@ -16,7 +16,7 @@ use cy_msg::Token;
 use std::alloc::Global;
 
 // The threads: the player and 64 others.
-const THREADS: usize = 65;
+pub(super) const THREADS: usize = 65;
 
 impl World {
     ghost use Rattle.std.specs.Prelude.{◌≡◌, ◌≤◌, ◌↔◌, ℕ, length, IfOk, IfErr, IsErrOf};
@@ -116,7 +116,7 @@ fn routines_for(alloc: Global, wiring: &Wiring, counts: &[u32]) -> Result<Vec<Ro
 }
 
 // What the threads owe, which is nothing, with room for so many components in each list.
-fn owed_for(alloc: Global, room: usize) -> Result<Vec<Owed>, CoreError>
+pub(super) fn owed_for(alloc: Global, room: usize) -> Result<Vec<Owed>, CoreError>
     ensures owed { IfOk result (λ v. AreNothing room 65 v.items) }
     ensures memory { IfErr result (λ e. e ≡ CoreError.Memory) }
 {

@@ -22,3 +22,8 @@ returns-clause-same c =
       };
       number = c.load-found.ensures.1;
     }
+
+pub invariant_of-pass : goal.invariant_of-pass
+invariant_of-pass c =
+    let told = c.load-found.ensures.2 c.args.component c.requires.news in
+    record { counted = c.args.pass.now.counted ∙ ap (λ (m : Thread). m.0.split) (sym told) }

@@ -2,7 +2,7 @@
 use Rattle.std.proofs.Common.{ap, ◌∙◌, arith}
 use Rattle.wake_core.specs.WorldOf.{plain_of}
 use Rattle.cy_table.specs.Plays.{in_hand}
-use Rattle.cy_table.specs.Calls.{with_found}
+use Rattle.cy_table.specs.Hold.{with_found}
 use Rattle.cy_table.proofs.Allowing.{releases_as}
 use Rattle.cy_table.proofs.Slots.{put_back}
 use Rattle.cy_table.proofs.table.FlagTable.release.Goals as goal

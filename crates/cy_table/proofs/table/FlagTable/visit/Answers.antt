@@ -3,7 +3,7 @@ use Rattle.std.proofs.Common.{ℕ, ◌≡◌, ◌≤◌, ◌+◌, ◌*◌, List,
 use Rattle.cy_fuse.specs.Visitor.{VisitorView}
 use Rattle.wake_core.specs.WorldOf.{plain_of}
 use Rattle.cy_table.specs.declared.part.Part.TheVariants as part
-use Rattle.cy_table.specs.Rule.{roles_at}
+use Rattle.cy_table.specs.Rule.{roles_at, queue_at}
 use Rattle.cy_table.specs.Steps.{visiting}
 use Rattle.cy_table.specs.Plays.{Thread}
 use Rattle.cy_table.proofs.Visits.{visits}
@@ -49,8 +49,9 @@ returns-in-Visitor-clause-visiting c =
     let i = c.args.component in
     record {
       thread = e.1 ∙ ap (λ x. let n : Thread = (visiting old.0 i x, (2 * i + 2, part.Away) ∷ old.1) in n) b;
-      roles = subst (λ (x : VisitorView). x.roles ≡ roles_at old.0.routes i) b t.2;
-      room = subst (λ (x : VisitorView). (j : ℕ) (later : List (ℕ × ℕ)) → old.0.fills ≡ (i, j) ∷ later → 1 ≤ x.spare) b t.3;
+      queue = subst (λ (x : VisitorView). x.queue ≡ queue_at old.0.routes old.0.counts i) b t.2;
+      roles = subst (λ (x : VisitorView). x.roles ≡ roles_at old.0.routes i) b t.3;
+      room = subst (λ (x : VisitorView). (j : ℕ) (later : List (ℕ × ℕ)) → old.0.fills ≡ (i, j) ∷ later → 1 ≤ x.spare) b t.4;
     }
 
 pub returns-else-found-eq0-clause-same : goal.returns-else-found-eq0-clause-same
@@ -66,3 +67,14 @@ returns-else-found-eq0-clause-same c =
 
 pub returns-else-found-eq0-clause-shut : goal.returns-else-found-eq0-clause-shut
 returns-else-found-eq0-clause-shut c = (c.swap-found.ensures.2 c.args.component refl).shut_door c.if-found-eq0.false
+
+pub invariant_of-pass : goal.invariant_of-pass
+invariant_of-pass c =
+    let t = (c.swap-found.ensures.2 c.args.component refl).open_door c.if-found-eq0.true in
+    let e = exchanged _ c.exchange-taken.new.seat.me _ _ _ _ _ _ t.1 c.exchange-taken.ensures.2 c.exchange-taken.ensures.3 in
+    record { counted = c.args.pass.now.counted ∙ ap (λ (m : Thread). m.0.split) (sym e.1) }
+
+pub invariant_of-pass-else-found-eq0 : goal.invariant_of-pass-else-found-eq0
+invariant_of-pass-else-found-eq0 c =
+    let t = (c.swap-found.ensures.2 c.args.component refl).shut_door c.if-found-eq0.false in
+    record { counted = c.args.pass.now.counted ∙ ap (λ (m : Thread). m.0.split) (sym t) }
