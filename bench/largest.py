@@ -1,5 +1,5 @@
 #!/usr/bin/env python3
-"""Writes the longest record that `pass` plays: whole numbers on the channel a, as many as fit into 1,048,576 bytes."""
+"""Writes a record of whole numbers on the channel a, as many as fit into 1,048,576 bytes."""
 import os
 import sys
 

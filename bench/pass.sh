@@ -1,5 +1,5 @@
 #!/usr/bin/env bash
-# Measures `cyber pass` on the longest record that it plays, beside `cp` of the same files, in one run.
+# Measures `cyber pass` on a record of 1 MiB, beside `cp` of the same files, in one run.
 set -euo pipefail
 top=$(cd "$(dirname "$0")/.." && pwd)
 work=$(mktemp -d)

@@ -58,11 +58,17 @@ lacks() { # the file
   count $? "$name: $1 is there"
 }
 
+# Makes what `pass` must write for the record in `files`, in the folder `want`.
+wanted() { # the two channels
+  mkdir -p want
+  python3 "$top/tests/replay.py" want/rec want/trace want/line --record files/in.rec --pass "$@"
+}
+
 # Makes what `pass` must write for a record of `examples/`, in the folder `want`, and puts the record into `files`.
 given() { # the name of the record
-  mkdir -p files want
+  mkdir -p files
   cp "$top/examples/pass/$1" files/in.rec
-  python3 "$top/tests/expected.py" files/in.rec want/rec want/trace want/line /in /out
+  wanted /in /out
 }
 
 # Looks that the record and the trace were written whole.
@@ -95,9 +101,9 @@ cuts_chunks() {
   begin 'cuts a long record into chunks'
   local copies header
   copies=/$(printf '%02999d' 0)
-  mkdir files want
+  mkdir files
   python3 "$top/bench/largest.py" files/in.rec >/dev/null
-  python3 "$top/tests/expected.py" files/in.rec want/rec want/trace want/line a "$copies"
+  wanted a "$copies"
   run pass in.rec out.rec trace a "$copies"
   ends 0 "$(cat want/line)" ''
   both_whole
@@ -125,15 +131,31 @@ refuses_the_words() { # the words
   count $? "$name: a file was made"
 }
 
-refuses_a_record() { # what is wrong with it, and a command that writes it
-  begin "refuses $1"
+refuses_a_record() { # what is wrong with it, the status, the line behind its name, and a command that writes it
+  begin "refuses to pass on $1"
   given two.rec
-  (cd files && eval "$2")
+  (cd files && eval "$4")
   echo old | tee files/out.rec files/trace >old
   run pass in.rec out.rec trace /in /out
-  ends 1 '' 'cyber: in.rec: a form not built yet'
+  ends "$2" '' "cyber: in.rec: $3"
   holds files/out.rec old
   holds files/trace old
+}
+
+# Passes on a record that a command writes, and compares all three with what the rules give.
+passes_on() { # what it is, the two channels, the line, and the command
+  begin "passes on $1"
+  given two.rec
+  (cd files && eval "$5")
+  wanted "$2" "$3"
+  run pass in.rec out.rec trace "$2" "$3"
+  ends 0 "$4" ''
+  both_whole
+}
+
+# A command that writes the record of these messages, in Python, and the types and descriptions of channels.
+write_record() { # the messages, and the forms
+  echo "PYTHONPATH='$top/tests' python3 -c 'from record import *; import sys; sys.stdout.buffer.write(record($1, $2))' >in.rec"
 }
 
 names_the_record() { # what befalls it, and a command that does it
@@ -548,11 +570,26 @@ tells_no_record 'a file that is too long' 5 'limit FileTooLarge passed: 21474836
 tells_no_record 'a record that is not there' 3 'the store failed' 'rm in.rec'
 tells_no_record 'a folder' 3 'the store failed' 'rm in.rec && mkdir in.rec'
 
-refuses_a_record 'an empty file' ': >in.rec'
-refuses_a_record 'a text' 'echo no record >in.rec'
-refuses_a_record 'a record without its last byte' 'truncate -s -1 in.rec'
-refuses_a_record 'a record with a byte behind it' 'echo >>in.rec'
-refuses_a_record 'a file that is longer than what is played' 'truncate -s 1048577 in.rec'
+refuses_a_record 'an empty file' 1 'not a record' ': >in.rec'
+refuses_a_record 'a text' 1 'not a record' 'echo no record >in.rec'
+refuses_a_record 'a record that is cut off' 1 'at 2113: Cut' 'truncate -s 2150 in.rec'
+refuses_a_record 'a file that is too long' 5 'limit FileTooLarge passed: 2147483649' 'truncate -s 2147483649 in.rec'
+refuses_a_record 'more channels than have names' 5 'limit TooManyChannels passed: 1025' \
+  "$(write_record '[(b"/%d" % k, 1, number(1, 2)) for k in range(1023)]' '{}')"
+refuses_a_record 'more channels than a record may have' 5 'limit TooManyChannels passed: 1025' \
+  "$(write_record '[(b"/%d" % k, 1, number(1, 2)) for k in range(1025)]' '{}')"
+
+passes_on 'what a record without its index has' /in /out 'done: played 2, shadowed 0, calls 2, written 4' 'truncate -s 2172 in.rec'
+passes_on 'a header alone' /in /out 'done: played 0, shadowed 0, calls 0, written 0' 'truncate -s 2064 in.rec'
+passes_on 'a channel that no message has' /none /out 'done: played 2, shadowed 0, calls 0, written 2' ':'
+passes_on 'messages whose times fall, contents that are no numbers, and a type' /in /out \
+  'done: played 5, shadowed 0, calls 3, written 8' \
+  "$(write_record '[(b"/in", 9, number(1, 2)), (b"/b", 9, b""), (b"/in", 3, b"\xff"), (b"/b", 1, b"x"), (b"/in", 3, b"")]' \
+    '{b"/in": (b"T", b"D")}')"
+passes_on 'a record that has messages on the channel it writes' /a /sum 'done: played 1, shadowed 1, calls 1, written 2' \
+  "$(write_record '[(b"/a", 1, number(1, 10)), (b"/sum", 2, number(1, 18))]' '{}')"
+passes_on 'as many channels as have names' /1 /1023 'done: played 1023, shadowed 0, calls 1, written 1024' \
+  "$(write_record '[(b"/%d" % k, 1, number(1, 2)) for k in range(1023)]' '{}')"
 
 names_the_record 'a record that is not there' 'rm in.rec'
 names_the_record 'a folder as the record' 'rm in.rec && mkdir in.rec'

@@ -1,7 +1,8 @@
 #!/usr/bin/env python3
-"""Writes what `play --serial` must make of a record, as docs/RULES.md and docs/FORMATS.md say.
+"""Writes what `play --serial` and `pass` must make of a record, as docs/RULES.md and docs/FORMATS.md say.
 
     replay.py OUT TRACE LINE --dag F --record F [--sched F] [--channels LIST] [--drop LIST] [--begin N] [--end N]
+    replay.py OUT TRACE LINE --record F --pass FROM TO
 
 OUT, TRACE and LINE are the files that get the record, the trace and the line. File names are looked for where they are given.
 Nothing here is taken from the program; only files that it accepts can be read.
@@ -190,6 +191,12 @@ def read_components(dag):
     return found
 
 
+def passing(source, target, forms):
+    """The component of `pass`, whose messages have the type of those that it reads."""
+    config = [("out_type", forms.get(source, (b"", b""))[0])]
+    return Component(b"pass", "PassComponent", [source], 1, config, target)
+
+
 def groups_of(conf):
     """The groups of a classic file or of none: each has the priorities of the names that it gives."""
     groups = every(last(conf, "classic_conf", []), "groups") or [[]]
@@ -295,10 +302,11 @@ def main():
         reader.add_argument(name)
     reader.add_argument("--begin", type=int, default=0)
     reader.add_argument("--end", type=int, default=LAST_TIME)
+    reader.add_argument("--pass", nargs=2, dest="passed", type=os.fsencode)
     words = reader.parse_args()
     with open(words.record, "rb") as file:
         data = file.read()
-    components = read_components(words.dag)
+    components = [passing(*words.passed, forms_of(data))] if words.passed else read_components(words.dag)
     played, shadowed = list_messages(messages_of(data), components, words)
     run = Run(components, scan_of(components, words.sched))
     run.play(played)

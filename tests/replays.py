@@ -1,5 +1,6 @@
 #!/usr/bin/env python3
 """Plays random records through random components, and compares what the program writes with what replay.py makes of the files.
+One in five is played by `pass`.
 
     replays.py PROGRAM COUNT SEED
 
@@ -75,6 +76,11 @@ def options(chance):
     return words
 
 
+def write_record(chance, outs):
+    with open("in.rec", "wb") as file:
+        file.write(record(messages(chance, outs), {b"/a": (b"a.Type", b"described")}))
+
+
 def write_files(chance):
     """Makes the files of a replay, and gives the words that name them."""
     count = chance.randint(1, 6)
@@ -91,14 +97,22 @@ def write_files(chance):
     for name, text in files.items():
         with open(name, "w", encoding="utf-8") as file:
             file.write(text)
-    with open("in.rec", "wb") as file:
-        file.write(record(messages(chance, outs), {b"/a": (b"a.Type", b"described")}))
+    write_record(chance, outs)
     return words
+
+
+def write_pass(chance):
+    """Makes the record of a `pass`, and gives the words for it: its channels differ."""
+    write_record(chance, [])
+    return ["--record", "in.rec", "--pass", *chance.sample(CHANNELS + ["/x"], 2)]
 
 
 def is_as_expected(program, words):
     subprocess.run([sys.executable, f"{HERE}/replay.py", "want.rec", "want.trace", "want.line", *words], check=True)
-    played = subprocess.run([program, "play", "--serial", "--out", "out.rec", "--trace", "out.trace", *words], capture_output=True)
+    asked = ["play", "--serial", "--out", "out.rec", "--trace", "out.trace", *words]
+    if "--pass" in words:
+        asked = ["pass", "in.rec", "out.rec", "out.trace", *words[-2:]]
+    played = subprocess.run([program, *asked], capture_output=True)
     with open("out.line", "wb") as file:
         file.write(played.stdout)
     pairs = [("out.rec", "want.rec"), ("out.trace", "want.trace"), ("out.line", "want.line")]
@@ -111,7 +125,8 @@ def main():
     for number in range(count):
         folder = tempfile.mkdtemp()
         os.chdir(folder)
-        words = write_files(random.Random(f"{seed} {number}"))
+        chance = random.Random(f"{seed} {number}")
+        words = write_pass(chance) if number % 5 == 4 else write_files(chance)
         if is_as_expected(program, words):
             subprocess.run(["rm", "-r", folder], check=True)
             continue

@@ -7,8 +7,6 @@ mod messages;
 #[cfg(test)]
 mod played;
 #[cfg(test)]
-mod runs;
-#[cfg(test)]
 mod wired;
 #[cfg(test)]
 mod worlds;

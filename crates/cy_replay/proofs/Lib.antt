@@ -8,6 +8,8 @@ pub mod Joined
 pub mod Judged
 pub mod Judging
 pub mod Origins
+pub mod PassTested
+pub mod PassWired
 pub mod Playable
 pub mod RecordBytes
 pub mod RecordCalls

@@ -31,17 +31,19 @@ use Rattle.cy_replay.specs.declared.configuration.Configuration.{Configuration}
 use Rattle.cy_replay.specs.declared.error.Fault.TheVariants as fault
 use Rattle.cy_replay.specs.declared.error.Refusal.{Refusal}
 use Rattle.cy_replay.specs.declared.error.SetupError.{SetupError}
+use Rattle.cy_replay.specs.declared.error.SetupError.TheVariants.{Memory}
 use Rattle.cy_replay.specs.declared.setup.Replay.{Replay}
 use Rattle.cy_replay.specs.Comes.{ComesTo, IsJudged}
 use Rattle.cy_replay.specs.Configuration as files
 use Rattle.cy_replay.specs.Configuration.{Configured, configuration_in}
 use Rattle.cy_replay.specs.Faults.{in_file, unless}
 use Rattle.cy_replay.specs.Listing.{AreCounts, record_in, channels_of, choice_of, counts_of, played_in, planned_in}
-use Rattle.cy_replay.specs.Setup.{Request, Replayed, IsAsked, IsSetUp, judged_in, replay_in, replayed}
+use Rattle.cy_replay.specs.Passing.{passing, type_read}
+use Rattle.cy_replay.specs.Setup.{Components, Request, Replayed, OfFiles, OfPass, IsAsked, IsAskedBy, IsSetUp, judged_in, configured_in, passed_in, replay_through, replay_in, replayed}
 use Rattle.cy_replay.specs.Steps.{configured}
 use Rattle.cy_replay.specs.Wiring.{Wired, wired_by, wired_of, wiring_in}
 use Rattle.cy_replay.proofs.Coming.{then, comes_err, comes_then}
-use Rattle.cy_replay.proofs.Judging.{judges_err, judges_then, judges_ok, judged_comes}
+use Rattle.cy_replay.proofs.Judging.{judges_err, judges_then, judges_ok, judges_memory, judged_comes}
 use Rattle.cy_replay.proofs.Playable.{all_named, some_name, some_plan, all_below, counts_are, may_play}
 
 -- the names of a record's channels, one more
@@ -71,15 +73,15 @@ wired_is : (dag : List ℕ) (refusal : Option DagError) (x y : Wired) → in_fil
 wired_is dag None x y e = cc
 wired_is dag (Some f) x y e = absurd cc
 
-module _ (r : Request) (conf : Configuration) (recorded : Contents) (channels : List (List ℕ)) (w : Wiring) (read : channels ≡ channels_of recorded) (judged : let q : Result Wiring SetupError = Ok w in IsJudged wired_by (wiring_in r.dag channels (configured conf)) q) where
-  wired : wiring_in r.dag (channels_of recorded) (configured conf) ≡ Accepts (wired_by w)
-  wired = subst (λ cs. wiring_in r.dag cs (configured conf) ≡ Accepts (wired_by w)) read judged.accepted
+module _ (file : List ℕ) (r : Request) (conf : Configuration) (recorded : Contents) (channels : List (List ℕ)) (w : Wiring) (read : channels ≡ channels_of recorded) (judged : let q : Result Wiring SetupError = Ok w in IsJudged wired_by (wiring_in file channels (configured conf)) q) where
+  wired : wiring_in file (channels_of recorded) (configured conf) ≡ Accepts (wired_by w)
+  wired = subst (λ cs. wiring_in file cs (configured conf) ≡ Accepts (wired_by w)) read judged.accepted
 
   abbrev components : List (DagComponent × Config)
   components = zip conf.dag.components conf.configs
 
   is_wired : wired_of (channels_of recorded) (configured conf) ≡ wired_by w
-  is_wired = wired_is r.dag (wire_refusal (channels_of recorded) conf.dag.components conf.configs) (wired_of (channels_of recorded) (configured conf)) (wired_by w) wired
+  is_wired = wired_is file (wire_refusal (channels_of recorded) conf.dag.components conf.configs) (wired_of (channels_of recorded) (configured conf)) (wired_by w) wired
 
   pub channels_named : AreNamed recorded w.names
   channels_named = all_named recorded w.names (flat_map mentioned components) (sym (ap (λ (x : Wired). x.names) is_wired))
@@ -107,69 +109,100 @@ module _ (r : Request) (conf : Configuration) (recorded : Contents) (channels : 
 
   module _ (list : PlayList) (counts : List ℕ) (listed : let q : Result PlayList SetupError = Ok list in IsJudged (λ (l : PlayList). length l.places) (played_in r.input recorded (choice_of r.filter (wired_by w))) q)
       (is : IsPlayList recorded (choice_of r.filter (wired_by w)) list) (are : AreCounts (length w.names) list.tokens counts) where
-    after : (q : Result Replay SetupError) → IsJudged replayed (with_played (wired_by w) (length list.places)) q → IsJudged replayed (judged_in r (configured conf) recorded) q
+    after : (q : Result Replay SetupError) → IsJudged replayed (with_played (wired_by w) (length list.places)) q → IsJudged replayed (judged_in file r (configured conf) recorded) q
     after q j =
-        judges_then replayed (wiring_in r.dag (channels_of recorded) (configured conf)) with_wired (wired_by w) q wired
+        judges_then replayed (wiring_in file (channels_of recorded) (configured conf)) with_wired (wired_by w) q wired
         (judges_then replayed (played_in r.input recorded (choice_of r.filter (wired_by w))) (with_played (wired_by w)) (length list.places) q listed.accepted j)
 
     pub counted : counts ≡ counts_of recorded (choice_of r.filter (wired_by w))
     counted = counts_are recorded (choice_of r.filter (wired_by w)) list counts is are
 
-    pub planned_stops : (e : SetupError) → (let q : Result ℕ SetupError = Err e in IsJudged (λ n. n) (planned_in r.input (wired_by w) counts) q) → (let q : Result Replay SetupError = Err e in IsJudged replayed (judged_in r (configured conf) recorded) q)
+    pub planned_stops : (e : SetupError) → (let q : Result ℕ SetupError = Err e in IsJudged (λ n. n) (planned_in r.input (wired_by w) counts) q) → (let q : Result Replay SetupError = Err e in IsJudged replayed (judged_in file r (configured conf) recorded) q)
     planned_stops e stops =
         after (Err e) (judges_err (λ n. n) replayed (planned_in r.input (wired_by w) (counts_of recorded (choice_of r.filter (wired_by w)))) (λ planned. Accepts record { configured = configured conf; contents = recorded; wired = wired_by w }) e
         (subst (λ cs. let q : Result ℕ SetupError = Err e in IsJudged (λ n. n) (planned_in r.input (wired_by w) cs) q) counted stops))
 
     pub all_judged : (n : ℕ) (x : Replay) → (let q : Result ℕ SetupError = Ok n in IsJudged (λ n. n) (planned_in r.input (wired_by w) counts) q) → (let y : Replayed = record { configured = configured conf; contents = recorded; wired = wired_by w } in y ≡ replayed x)
-        → (let q : Result Replay SetupError = Ok x in IsJudged replayed (judged_in r (configured conf) recorded) q)
+        → (let q : Result Replay SetupError = Ok x in IsJudged replayed (judged_in file r (configured conf) recorded) q)
     all_judged n x fits same =
         after (Ok x) (judges_then replayed (planned_in r.input (wired_by w) (counts_of recorded (choice_of r.filter (wired_by w)))) (λ planned. Accepts record { configured = configured conf; contents = recorded; wired = wired_by w }) n (Ok x)
         (subst (λ cs. planned_in r.input (wired_by w) cs ≡ Accepts n) counted fits.accepted) (judges_ok replayed (Accepts record { configured = configured conf; contents = recorded; wired = wired_by w }) x (ap Accepts same)))
 
 -- what is set up
-pub is_set_up : (r : Request) (x : Replay) → IsPlayList x.recorded (choice_of r.filter (wired_by x.wiring)) x.list → IsPlaced x.configuration.sched (map (λ c. c.name) x.configuration.dag.components) x.placement.contexts
-    → AreCounts (length x.wiring.names) x.list.tokens x.counts → x.counts ≡ counts_of x.recorded (choice_of r.filter (wired_by x.wiring)) → planned (routes_of x.wiring.plans) x.counts ≤ MOST_PLANNED → 0 < length x.wiring.names
-    → IsPermutation (numbers_below (length x.configuration.dag.components)) (scan_of x.placement.contexts) → length x.wiring.plans ≡ length x.configuration.dag.components → IsOnce x.wiring.names → IsSetUp r x
-is_set_up r x listed placed are counted few some moved many once = record {
+pub is_set_up : (f : Filter) (x : Replay) → IsPlayList x.recorded (choice_of f (wired_by x.wiring)) x.list → IsPlaced x.configuration.sched (map (λ c. c.name) x.configuration.dag.components) x.placement.contexts
+    → AreCounts (length x.wiring.names) x.list.tokens x.counts → x.counts ≡ counts_of x.recorded (choice_of f (wired_by x.wiring)) → planned (routes_of x.wiring.plans) x.counts ≤ MOST_PLANNED → 0 < length x.wiring.names
+    → IsPermutation (numbers_below (length x.configuration.dag.components)) (scan_of x.placement.contexts) → length x.wiring.plans ≡ length x.configuration.dag.components → IsOnce x.wiring.names → IsSetUp f x
+is_set_up f x listed placed are counted few some moved many once = record {
   listed = listed;
   placed = placed;
   counted = counted;
   many = are.many;
   once = once;
   limited = few;
-  named = all_below x.recorded (choice_of r.filter (wired_by x.wiring)) x.list listed some;
-  playable = may_play x.recorded (choice_of r.filter (wired_by x.wiring)) x.list x.wiring.plans x.counts (scan_of x.placement.contexts) listed refl are (subst (λ n. IsPermutation (numbers_below n) (scan_of x.placement.contexts)) (sym many) moved);
+  named = all_below x.recorded (choice_of f (wired_by x.wiring)) x.list listed some;
+  playable = may_play x.recorded (choice_of f (wired_by x.wiring)) x.list x.wiring.plans x.counts (scan_of x.placement.contexts) listed refl are (subst (λ n. IsPermutation (numbers_below n) (scan_of x.placement.contexts)) (sym many) moved);
 }
 
--- the record behind the configuration files
-abbrev pub with_record : Request → Configured → Contents → Files → Reads Refusal Replayed
-with_record r c contents m = judged_in r c contents
-
-abbrev pub with_configuration : Request → Configured → Files → Reads Refusal Replayed
-with_configuration r c = then (record_in r.input) (with_record r c)
-
-abbrev pub ReadsConfiguration : Request → StoreView → StoreView → Result Configuration SetupError → Type 0
-ReadsConfiguration r old new q = ComesTo configured (configuration_in r.dag r.sched) (files.IsAsked r.dag r.sched old.files) old new q
+-- what is judged behind the record
+abbrev pub with_record : List ℕ → Request → Configured → Contents → Files → Reads Refusal Replayed
+with_record file r c contents m = judged_in file r c contents
 
 abbrev pub ReadsRecord : Request → StoreView → StoreView → Result Contents SetupError → Type 0
 ReadsRecord r old new q = ComesTo (λ c. c) (record_in r.input) (λ file. file ≡ r.input) old new q
 
-abbrev pub SetsUp : Request → StoreView → StoreView → Result Replay SetupError → Type 0
-SetsUp r old new q = ComesTo replayed (replay_in r) (IsAsked r old.files) old new q
+record_read : (r : Request) (next : Contents → Reads Refusal Replayed) (recorded : Contents) (q : Result Replay SetupError) (old new : StoreView) → ReadsRecord r old new (Ok recorded) → IsJudged replayed (next recorded) q
+    → ComesTo replayed (then (record_in r.input) (λ contents m. next contents)) (λ file. file ≡ r.input) old new q
+record_read r next recorded q old new came judged =
+    comes_then replayed (record_in r.input) (λ contents m. next contents) (λ file. file ≡ r.input) (λ file. file ≡ r.input) old new new recorded q record { same = came.same; counts = came.accepted.0 } came.accepted.1 (λ file asked. asked)
+    (judged_comes replayed (next recorded) (λ file. file ≡ r.input) new q judged)
 
-pub configuration_stops : (r : Request) (old new : StoreView) (e : SetupError) → ReadsConfiguration r old new (Err e) → SetsUp r old new (Err e)
-configuration_stops r old new e came = comes_err replayed (configuration_in r.dag r.sched) (with_configuration r) (IsAsked r old.files) old new e (λ file asked. inr asked) came
+-- the configuration files, and the record behind them
+module _ (dag : List ℕ) (sched : Option (List ℕ)) (r : Request) where
+  abbrev pub with_configuration : Configured → Files → Reads Refusal Replayed
+  with_configuration c = then (record_in r.input) (with_record dag r c)
 
-configuration_read : (r : Request) (conf : Configuration) (q : Result Replay SetupError) (old mid new : StoreView) → ReadsConfiguration r old mid (Ok conf) → ComesTo replayed (with_configuration r (configured conf)) (λ file. file ≡ r.input) mid new q → SetsUp r old new q
-configuration_read r conf q old mid new came rest =
-    comes_then replayed (configuration_in r.dag r.sched) (with_configuration r) (λ file. file ≡ r.input) (IsAsked r old.files) old mid new (configured conf) q record { same = came.same; counts = came.accepted.0 } came.accepted.1 (λ file is. inl is) rest
+  abbrev pub ReadsConfiguration : StoreView → StoreView → Result Configuration SetupError → Type 0
+  ReadsConfiguration old new q = ComesTo configured (configuration_in dag sched) (files.IsAsked dag sched old.files) old new q
 
-pub record_stops : (r : Request) (conf : Configuration) (old mid new : StoreView) (e : SetupError) → ReadsConfiguration r old mid (Ok conf) → ReadsRecord r mid new (Err e) → SetsUp r old new (Err e)
-record_stops r conf old mid new e came stops =
-    configuration_read r conf (Err e) old mid new came (comes_err replayed (record_in r.input) (with_record r (configured conf)) (λ file. file ≡ r.input) mid new e (λ file asked. asked) stops)
+  abbrev pub SetsUp : StoreView → StoreView → Result Replay SetupError → Type 0
+  SetsUp old new q = ComesTo replayed (configured_in dag sched r) (IsAskedBy (OfFiles dag sched) r.input old.files) old new q
 
-pub all_read : (r : Request) (conf : Configuration) (recorded : Contents) (q : Result Replay SetupError) (old mid new : StoreView) → ReadsConfiguration r old mid (Ok conf) → ReadsRecord r mid new (Ok recorded) → IsJudged replayed (judged_in r (configured conf) recorded) q → SetsUp r old new q
-all_read r conf recorded q old mid new came came_too judged =
-    configuration_read r conf q old mid new came
-    (comes_then replayed (record_in r.input) (with_record r (configured conf)) (λ file. file ≡ r.input) (λ file. file ≡ r.input) mid new new recorded q record { same = came_too.same; counts = came_too.accepted.0 } came_too.accepted.1 (λ file asked. asked)
-    (judged_comes replayed (judged_in r (configured conf) recorded) (λ file. file ≡ r.input) new q judged))
+  pub configuration_stops : (old new : StoreView) (e : SetupError) → ReadsConfiguration old new (Err e) → SetsUp old new (Err e)
+  configuration_stops old new e came = comes_err replayed (configuration_in dag sched) with_configuration (IsAskedBy (OfFiles dag sched) r.input old.files) old new e (λ file asked. inr asked) came
+
+  configuration_read : (conf : Configuration) (q : Result Replay SetupError) (old mid new : StoreView) → ReadsConfiguration old mid (Ok conf) → ComesTo replayed (with_configuration (configured conf)) (λ file. file ≡ r.input) mid new q → SetsUp old new q
+  configuration_read conf q old mid new came rest =
+      comes_then replayed (configuration_in dag sched) with_configuration (λ file. file ≡ r.input) (IsAskedBy (OfFiles dag sched) r.input old.files) old mid new (configured conf) q record { same = came.same; counts = came.accepted.0 } came.accepted.1 (λ file is. inl is) rest
+
+  pub record_stops : (conf : Configuration) (old mid new : StoreView) (e : SetupError) → ReadsConfiguration old mid (Ok conf) → ReadsRecord r mid new (Err e) → SetsUp old new (Err e)
+  record_stops conf old mid new e came stops =
+      configuration_read conf (Err e) old mid new came (comes_err replayed (record_in r.input) (with_record dag r (configured conf)) (λ file. file ≡ r.input) mid new e (λ file asked. asked) stops)
+
+  pub all_read : (conf : Configuration) (recorded : Contents) (q : Result Replay SetupError) (old mid new : StoreView) → ReadsConfiguration old mid (Ok conf) → ReadsRecord r mid new (Ok recorded) → IsJudged replayed (judged_in dag r (configured conf) recorded) q → SetsUp old new q
+  all_read conf recorded q old mid new came came_too judged =
+      configuration_read conf q old mid new came (record_read r (judged_in dag r (configured conf)) recorded q mid new came_too judged)
+
+-- the record alone
+module _ (from to : List ℕ) (r : Request) where
+  abbrev pub PassesOn : StoreView → StoreView → Result Replay SetupError → Type 0
+  PassesOn old new q = ComesTo replayed (passed_in from to r) (IsAskedBy (OfPass from to) r.input old.files) old new q
+
+  abbrev judged_after : Contents → Reads Refusal Replayed
+  judged_after contents = judged_in r.input r (passing from to (type_read contents from)) contents
+
+  pub pass_stops : (old new : StoreView) (e : SetupError) → ReadsRecord r old new (Err e) → PassesOn old new (Err e)
+  pass_stops old new e stops = comes_err replayed (record_in r.input) (λ contents m. judged_after contents) (λ file. file ≡ r.input) old new e (λ file asked. asked) stops
+
+  -- there is no memory for the component
+  pub pass_starves : (recorded : Contents) (old new : StoreView) (e : SetupError) → ReadsRecord r old new (Ok recorded) → e ≡ Memory → PassesOn old new (Err e)
+  pass_starves recorded old new e came is = record_read r judged_after recorded (Err e) old new came (judges_memory replayed (judged_after recorded) e is)
+
+  pub pass_read : (conf : Configuration) (recorded : Contents) (q : Result Replay SetupError) (old new : StoreView) → ReadsRecord r old new (Ok recorded) → configured conf ≡ passing from to (type_read recorded from)
+      → IsJudged replayed (judged_in r.input r (configured conf) recorded) q → PassesOn old new q
+  pass_read conf recorded q old new came is judged =
+      record_read r judged_after recorded q old new came (subst (λ c. IsJudged replayed (judged_in r.input r c recorded) q) is judged)
+
+-- the components are of one kind or the other
+pub through : (r : Request) (k : Components) (old new : StoreView) (q : Result Replay SetupError) → r.components ≡ k → ComesTo replayed (replay_through k r) (IsAskedBy k r.input old.files) old new q
+    → ComesTo replayed (replay_in r) (IsAsked r old.files) old new q
+through r k old new q e came = subst (λ x. ComesTo replayed (replay_through x r) (IsAskedBy x r.input old.files) old new q) (sym e) came

@@ -2,6 +2,7 @@ pub mod Comes
 pub mod Configuration
 pub mod Faults
 pub mod Listing
+pub mod Passing
 pub mod RecordLaws
 pub mod RecordSteps
 pub mod RecordWrites

@@ -1,5 +1,5 @@
 -- What the files of a replay come to, and what it is set up with.
-use Rattle.std.specs.Prelude.{ℕ, ◌≡◌, ◌≤◌, ◌<◌, ◌⊎◌, All, List, length, map, Option, option_map}
+use Rattle.std.specs.Prelude.{ℕ, ◌≡◌, ◌≤◌, ◌<◌, ◌⊎◌, ⊤, All, List, length, map, Option, option_map}
 use Rattle.cy_store.specs.Files.{Files}
 use Rattle.cy_store.specs.Reads.{Reads, Accepts, ◌>>=◌}
 use Rattle.cy_msg.specs.Once.{IsOnce}
@@ -14,20 +14,33 @@ use Rattle.wake_core.specs.Rest.{MayPlay}
 use Rattle.wake_core.specs.Run.{routes_of}
 use Rattle.wake_core.specs.declared.entries.TheConstants.{MOST_PLANNED}
 use Rattle.cy_replay.specs.declared.error.Refusal.{Refusal}
-use Rattle.cy_replay.specs.declared.setup.Request as code
+use Rattle.cy_replay.specs.declared.setup.Components as code
+use Rattle.cy_replay.specs.declared.setup.Components.TheVariants as named
+use Rattle.cy_replay.specs.declared.setup.Request as code_request
 use Rattle.cy_replay.specs.declared.setup.Replay.{Replay}
 use Rattle.cy_replay.specs.Configuration as files
 use Rattle.cy_replay.specs.Configuration.{Configured, configuration_in}
 use Rattle.cy_replay.specs.Listing.{record_in, channels_of, choice_of, counts_of, played_in}
 use Rattle.cy_replay.specs.Listing.{planned_in}
+use Rattle.cy_replay.specs.Passing.{passing, type_read}
 use Rattle.cy_replay.specs.Steps.{configured}
 use Rattle.cy_replay.specs.Wiring.{Wired, wired_by, wiring_in}
 
--- What a replay is set up from: the names of a DAG file, of a scheduler file, where one is given,
--- and of a record; and which messages are let through.
+-- Through which components a record is replayed: those of a DAG file, placed by a scheduler file,
+-- where one is given; or one that passes the messages of a channel on to another.
+pub data Components : Type 0 where
+  OfFiles : (dag : List ℕ) (sched : Option (List ℕ)) → Components
+  OfPass : (from to : List ℕ) → Components
+
+-- The channel that one component reads has a name.
+abbrev pub HasReader : Components → Type 0
+HasReader (OfFiles dag sched) = ⊤
+HasReader (OfPass from to) = 1 ≤ length from
+
+-- What a replay is set up from: its components, the name of its record, and which messages are let
+-- through.
 pub record Request : Type 0 where
-  pub dag : List ℕ
-  pub sched : Option (List ℕ)
+  pub components : Components
   pub input : List ℕ
   pub filter : Filter
 
@@ -39,30 +52,54 @@ pub record Replayed : Type 0 where
   pub wired : Wired
 
 -- What is judged once all files were read, in the order of refusals: the wiring over the record's
--- channels, the number of messages that are played, and the number of entries that are planned.
-abbrev pub judged_in : Request → Configured → Contents → Reads Refusal Replayed
-judged_in r configured contents = do
-  wired ← wiring_in r.dag (channels_of contents) configured
+-- channels, the number of messages that are played, and the number of entries that are planned. A
+-- fault of the wiring is one of the file that is named for it.
+abbrev pub judged_in : List ℕ → Request → Configured → Contents → Reads Refusal Replayed
+judged_in file r configured contents = do
+  wired ← wiring_in file (channels_of contents) configured
   played ← played_in r.input contents (choice_of r.filter wired)
   planned ← planned_in r.input wired (counts_of contents (choice_of r.filter wired))
   Accepts record { configured = configured; contents = contents; wired = wired }
 
--- All of it: the configuration files and then the record are read, and what they say is judged.
-abbrev pub replay_in : Request → Files → Reads Refusal Replayed
-replay_in r files = do
-  configured ← configuration_in r.dag r.sched files
+-- The configuration files and then the record are read, and what they say is judged.
+abbrev pub configured_in : (dag : List ℕ) (sched : Option (List ℕ)) → Request → Files
+    → Reads Refusal Replayed
+configured_in dag sched r files = do
+  configured ← configuration_in dag sched files
   contents ← record_in r.input files
-  judged_in r configured contents
+  judged_in dag r configured contents
 
--- The files that are asked for.
+-- Or the record alone, which tells the type of the messages that are passed on.
+abbrev pub passed_in : (from to : List ℕ) → Request → Files → Reads Refusal Replayed
+passed_in from to r files = do
+  contents ← record_in r.input files
+  judged_in r.input r (passing from to (type_read contents from)) contents
+
+-- All that the files come to, through these components.
+abbrev pub replay_through : Components → Request → Files → Reads Refusal Replayed
+replay_through (OfFiles dag sched) r files = configured_in dag sched r files
+replay_through (OfPass from to) r files = passed_in from to r files
+
+abbrev pub replay_in : Request → Files → Reads Refusal Replayed
+replay_in r files = replay_through r.components r files
+
+-- The files that are asked for: the record, and those of the configuration.
+abbrev pub IsAskedBy : Components → List ℕ → Option Files → List ℕ → Type 0
+IsAskedBy (OfFiles dag sched) input told file =
+    (file ≡ input) ⊎ files.IsAsked dag sched told file
+IsAskedBy (OfPass from to) input told file = file ≡ input
+
 abbrev pub IsAsked : Request → Option Files → List ℕ → Type 0
-IsAsked r told file = (file ≡ r.input) ⊎ files.IsAsked r.dag r.sched told file
+IsAsked r told file = IsAskedBy r.components r.input told file
 
 -- What the code's types stand for.
-abbrev pub request_of : code.Request → Request
+abbrev pub components_of : code.Components → Components
+components_of (named.Files dag sched) = OfFiles dag.now (option_map (λ name. name.now) sched)
+components_of (named.Pass from to) = OfPass from.now to.now
+
+abbrev pub request_of : code_request.Request → Request
 request_of r = record {
-  dag = r.dag.now;
-  sched = option_map (λ name. name.now) r.sched;
+  components = components_of r.components;
   input = r.input.now;
   filter = r.filter.now;
 }
@@ -76,11 +113,11 @@ replayed x = record {
 
 -- A replay is set up: its play list, its placement and its counts are those of its record and its
 -- configuration, and it may be played in the opening world of its wiring.
-pub record IsSetUp (r : Request) (x : Replay) : Type 0 where
-  pub listed : IsPlayList x.recorded (choice_of r.filter (wired_by x.wiring)) x.list
+pub record IsSetUp (filter : Filter) (x : Replay) : Type 0 where
+  pub listed : IsPlayList x.recorded (choice_of filter (wired_by x.wiring)) x.list
   pub placed : IsPlaced x.configuration.sched (map (λ c. c.name) x.configuration.dag.components)
       x.placement.contexts
-  pub counted : x.counts ≡ counts_of x.recorded (choice_of r.filter (wired_by x.wiring))
+  pub counted : x.counts ≡ counts_of x.recorded (choice_of filter (wired_by x.wiring))
   pub many : length x.counts ≡ length x.wiring.names
   pub once : IsOnce x.wiring.names
   pub limited : planned (routes_of x.wiring.plans) x.counts ≤ MOST_PLANNED

@@ -80,8 +80,8 @@ fn read_sched_file<S: Store>(alloc: Global, store: &mut S, name: &str) -> Result
     }
 }
 
-// The scheduler where no file is given.
-fn default_scheduler(alloc: Global) -> Result<Sched, SetupError>
+/// The scheduler where no file is given.
+pub(crate) fn default_scheduler(alloc: Global) -> Result<Sched, SetupError>
     ensures sched { IfOk result (λ s. s ≡ default_sched) }
     ensures placeable { IfOk result IsPlaceable }
     ensures only_memory { IsOkUnless result SetupError.Memory }

@@ -42,8 +42,8 @@ fn writer_of(plans: &[Plan], channel: u32) -> Option<&Plan>
     plans.iter().find(|plan| plan.out == channel)
 }
 
-// The channel of a name in a record.
-fn channel_named<'a>(whole: &'a Record, name: &str) -> Option<&'a Channel>
+/// The channel of a name in a record.
+pub(crate) fn channel_named<'a>(whole: &'a Record, name: &str) -> Option<&'a Channel>
     ensures { option_map (λ c. c.now) result
         ≡ option_map (λ known. known.channel) (known_as name.now whole.now.channels) }
 {

@@ -11,7 +11,6 @@ mod laws;
 mod line;
 mod lines;
 mod name;
-mod pass_text;
 mod read;
 mod text;
 mod trace;
@@ -21,7 +20,6 @@ pub use error::TraceError;
 pub use laws::{
     first_bad_is_one, lines_read_back, runs_are_read_back, runs_are_traces, texts_tell_traces,
 };
-pub use pass_text::pass_trace_text;
 pub use read::read_trace;
 pub use text::trace_text;
 pub use trace::{TapeEntry, Trace, TraceCall, TraceComponent, TraceOutput};

@@ -1,7 +1,7 @@
 -- The line that tells what was done, count by count.
 use Rattle.std.proofs.Common.{ℕ, List, ◌++◌, ◌≡◌, append_assoc, codes}
 use Rattle.std.specs.Fmt.{decimal}
-use Rattle.cyber_cli.specs.Tape.{done_line}
+use Rattle.cyber_cli.specs.Summary.{done_line}
 
 -- five texts one behind another, each but the last of two parts
 joined : (old a b c d e f g h i : List ℕ)

@@ -1,5 +1,5 @@
 -- How `play` ends, at each place where it may.
-use Rattle.std.proofs.Common.{ℕ, ◌≡◌, List, [], ◌∷◌, Bool, true, false, if◌then◌else◌, Option, IfSome, Result, Ok, Err, IsErrOf, refl, sym, ap, subst, ◌∙◌, inl, inr, arith}
+use Rattle.std.proofs.Common.{ℕ, ◌≡◌, List, [], ◌∷◌, Option, IfSome, Result, Ok, Err, IsErrOf, refl, sym, ap, subst, ◌∙◌, inl, inr, arith}
 use Rattle.std.specs.Option.{option_map}
 use Rattle.std.specs.FinMap.{insert}
 use Rattle.cy_store.specs.Files.{Files}
@@ -7,7 +7,7 @@ use Rattle.cy_store.specs.Reads.{Accepts}
 use Rattle.cy_store.specs.Store.{StoreView, SameCounts, WriteRose}
 use Rattle.cy_store.specs.Write.{Write, name_of, after_writes}
 use Rattle.cy_writer.specs.Writes.{StopsAt, StopsBefore}
-use Rattle.cy_writer.proofs.Puts.{rose_more, after_writes-append}
+use Rattle.cy_writer.proofs.Puts.{rose_more, after_writes-append, written_at-end}
 use Rattle.wake_core.specs.Plain.{Plain}
 use Rattle.wake_core.specs.Rest.{run_shown}
 use Rattle.cy_replay.specs.declared.error.SetupError.{SetupError}
@@ -17,38 +17,28 @@ use Rattle.cy_replay.specs.Comes.{ComesTo}
 use Rattle.cy_replay.specs.RecordWrites.{file_writes, record_puts}
 use Rattle.cy_replay.specs.Recording.{channels_of_tape, chunks_of_tape}
 use Rattle.cy_replay.specs.Setup.{IsAsked, IsSetUp, replayed}
-use Rattle.cy_replay.proofs.RecordBytes.{after_record}
+use Rattle.cy_replay.proofs.RecordBytes.{after_record, after_file}
 use Rattle.cy_replay.proofs.TapeText.{record_text}
 use Rattle.cyber_cli.specs.declared.failure.File.{File}
 use Rattle.cyber_cli.specs.declared.failure.Failure.{Failure}
 use Rattle.cyber_cli.specs.declared.failure.Failure.TheVariants as failure
 use Rattle.cyber_cli.specs.declared.status.Status.{Status}
-use Rattle.cyber_cli.specs.declared.status.Status.TheVariants.{Done, Refused, Limit}
+use Rattle.cyber_cli.specs.declared.status.Status.TheVariants.{Done}
 use Rattle.cyber_cli.specs.CheckEnds.{IsStarved, IsDueUnset}
-use Rattle.cyber_cli.specs.Command.{Command, Play, Work}
+use Rattle.cyber_cli.specs.Command.{Play, Work}
 use Rattle.cyber_cli.specs.ConfigText.{is_limit}
-use Rattle.cyber_cli.specs.Due.{IsDueFor, RefusesFiles}
+use Rattle.cyber_cli.specs.Due.{IsDueFor}
 use Rattle.cyber_cli.specs.Lines.{store_line}
 use Rattle.cyber_cli.specs.PlayEnds.{HasRun, IsDueAfterPlay, IsLine, name_of_play, source_by, writes_by}
 use Rattle.cyber_cli.specs.PlayWords.{PlayWords}
-use Rattle.cyber_cli.specs.PlayWork.{IsPlayWork, replayed_in, request_of, play_line, tape_record, run_trace}
-use Rattle.cyber_cli.proofs.Files.{after_file}
-use Rattle.cyber_cli.proofs.RecordPuts.{file_after-text}
+use Rattle.cyber_cli.specs.PlayWork.{IsPlayWork, replayed_in, play_line, tape_record, run_trace}
+use Rattle.cyber_cli.proofs.CheckExits.{view_same, refuses}
 
 abbrev pub SetsUp : PlayWords → StoreView → StoreView → Result Replay SetupError → Type 0
-SetsUp w old new q = ComesTo replayed (replayed_in w) (IsAsked (request_of w) old.files) old new q
-
--- the store is as it was
-view_same : (old new : StoreView) → new.files ≡ old.files → SameCounts old new → new ≡ old
-view_same old new same counts = ap (λ (f : Option Files). record { files = f; faults = new.faults; misses = new.misses }) same
-    ∙ ap (λ (n : ℕ). record { files = old.files; faults = n; misses = new.misses }) counts.faults ∙ ap (λ (n : ℕ). record { files = old.files; faults = old.faults; misses = n }) counts.misses
+SetsUp w old new q = ComesTo replayed (replayed_in w) (IsAsked w.request old.files) old new q
 
 starved : (w : PlayWords) (old new : StoreView) (due : Status) (line : List ℕ) → new.files ≡ old.files → IsStarved due line → IsDueFor (Play w) old new due line
 starved w old new due line same s = subst (λ (x : Status). IsDueFor (Play w) old new x line) (sym s.status) (inl same, s.told)
-
-refuses : (c : Command) (old new : StoreView) (limit : Bool) (line : List ℕ) → RefusesFiles c old new (if limit then Limit else Refused) line → IsDueFor c old new (if limit then Limit else Refused) line
-refuses c old new true line r = r
-refuses c old new false line r = r
 
 -- the files are not accepted
 pub unset : (w : PlayWords) (old new : StoreView) (e : SetupError) (due : Status) (line : List ℕ) → SetsUp w old new (Err e) → IsDueUnset e due line → IsDueFor (Play w) old new due line
@@ -85,9 +75,9 @@ leaves w x world m =
     after_writes-append record_writes (file_writes w.trace trace_puts) m
     ∙ ap (after_writes (file_writes w.trace trace_puts)) (after_record (channels_of_tape s world.tape) (chunks_of_tape w.output s world.tape) m w.output)
     ∙ after_file trace_puts (insert m w.output (tape_record w s world.tape)) w.trace
-    ∙ ap (insert (insert m w.output (tape_record w s world.tape)) w.trace) (file_after-text trace)
+    ∙ ap (insert (insert m w.output (tape_record w s world.tape)) w.trace) (written_at-end [] trace 0 refl)
 
-accepted : (w : PlayWords) (x : Replay) (world : Plain) (files : Option Files) → IfSome files (λ m. replayed_in w m ≡ Accepts (replayed x)) → IsSetUp (request_of w) x → HasRun x world → IsPlayWork w files (work_of w x world)
+accepted : (w : PlayWords) (x : Replay) (world : Plain) (files : Option Files) → IfSome files (λ m. replayed_in w m ≡ Accepts (replayed x)) → IsSetUp w.request.filter x → HasRun x world → IsPlayWork w files (work_of w x world)
 accepted w x world files read s h = record {
   read = replayed x;
   accepted = read;
@@ -104,7 +94,7 @@ accepted w x world files read s h = record {
 }
 
 -- all was written
-pub done : (w : PlayWords) (x : Replay) (world : Plain) (old mid new : StoreView) (line : List ℕ) → SetsUp w old mid (Ok x) → IsSetUp (request_of w) x → HasRun x world → new.files ≡ option_map (after_writes (writes_by w x world)) mid.files
+pub done : (w : PlayWords) (x : Replay) (world : Plain) (old mid new : StoreView) (line : List ℕ) → SetsUp w old mid (Ok x) → IsSetUp w.request.filter x → HasRun x world → new.files ≡ option_map (after_writes (writes_by w x world)) mid.files
     → IsLine x world line → IsDueFor (Play w) old new Done line
 done w x world old mid new line came s h written told = record {
   work = work_of w x world;
@@ -118,14 +108,12 @@ rose_since old mid new same counts (inl rose) = inl (rose_more old.faults mid.fa
 rose_since old mid new same counts (inr (rose, untold)) = inr (rose_more old.misses mid.misses new.misses (omega (arith, counts.misses)) rose, sym same ∙ untold)
 
 -- a write failed, or memory ran out between two
-pub stopped : (w : PlayWords) (x : Replay) (world : Plain) (old mid new : StoreView) (found : Failure) (due : Status) (line : List ℕ) → SetsUp w old mid (Ok x) → IsSetUp (request_of w) x → HasRun x world
+pub stopped : (w : PlayWords) (x : Replay) (world : Plain) (old mid new : StoreView) (found : Failure) (due : Status) (line : List ℕ) → SetsUp w old mid (Ok x) → IsSetUp w.request.filter x → HasRun x world
     → ((f : File) → IsErrOf {T = List ℕ} (Err found) (failure.Store f) → (v : Write) × (name_of v ≡ name_of_play w f) × StopsAt (writes_by w x world) v mid.files new.files)
     → (IsErrOf {T = List ℕ} (Err found) failure.Memory → StopsBefore (writes_by w x world) mid.files new.files)
-    → (IsErrOf {T = List ℕ} (Err found) failure.NotBuilt → ⊥)
     → ((f : File) → IsErrOf {T = List ℕ} (Err found) (failure.Store f) → WriteRose mid new)
     → IsDueAfterPlay w found due line → IsDueFor (Play w) old new due line
-stopped w x world old mid new failure.NotBuilt due line came s h failed starved built rose is = absurd (built refl)
-stopped w x world old mid new (failure.Store f) due line came s h failed starved built rose is =
+stopped w x world old mid new (failure.Store f) due line came s h failed starved rose is =
     let at = failed f refl in
     let Q : Option Files → Type 0 = λ files. StopsAt (writes_by w x world) at.0 files new.files in
     subst (λ (d : Status). IsDueFor (Play w) old new d line) (sym is.0)
@@ -137,7 +125,7 @@ stopped w x world old mid new (failure.Store f) due line came s h failed starved
       stops = subst Q came.same at.2;
       told = is.1 ∙ ap store_line (sym at.1);
     }))
-stopped w x world old mid new failure.Memory due line came s h failed starved built rose is =
+stopped w x world old mid new failure.Memory due line came s h failed starved rose is =
     let Q : Option Files → Type 0 = λ files. StopsBefore (writes_by w x world) files new.files in
     subst (λ (d : Status). IsDueFor (Play w) old new d line) (sym is.0) (
       inr (record {

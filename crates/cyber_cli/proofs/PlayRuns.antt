@@ -2,6 +2,7 @@
 use Rattle.std.proofs.Common.{ℕ, zero, suc, ◌+◌, ◌*◌, ◌≡◌, ◌≤◌, ◌<◌, List, [], ◌∷◌, length, drop, refl, sym, ap, subst, ◌∙◌, arith}
 use Rattle.std.proofs.lemmas.List.{drop_all}
 use Rattle.cy_msg.specs.Placement.{scan_of}
+use Rattle.cy_reader.specs.declared.filter.Filter.{Filter}
 use Rattle.cy_comp.specs.declared.plan.Plan.{Plan}
 use Rattle.wake_core.specs.LawfulRun.{LawfulRun}
 use Rattle.wake_core.specs.Plain.{Plain, opening_world}
@@ -12,13 +13,13 @@ use Rattle.wake_core.specs.Serial.{SerialRun}
 use Rattle.wake_core.specs.WorldCalls.{IsTooMany}
 use Rattle.wake_core.specs.declared.entries.TheConstants.{MOST_PLANNED}
 use Rattle.cy_replay.specs.Listing.{choice_of}
-use Rattle.cy_replay.specs.Setup.{IsSetUp, Request}
+use Rattle.cy_replay.specs.Setup.{IsSetUp}
 use Rattle.cy_replay.specs.Wiring.{wired_by}
 use Rattle.cy_replay.specs.RecordLaws.{PlacesAreThere}
 use Rattle.cy_replay.specs.declared.setup.Replay.{Replay}
 use Rattle.cy_replay.proofs.Origins.{tape_origins}
 use Rattle.cyber_cli.specs.PlayEnds.{HasRun}
-use Rattle.cyber_cli.specs.Tape.{calls_from}
+use Rattle.cyber_cli.specs.Summary.{calls_from}
 
 -- no more is planned than a world keeps
 pub not_too_many : (x : Replay) (counts : List ℕ) (n : ℕ) → counts ≡ x.counts → planned (routes_of x.wiring.plans) x.counts ≤ MOST_PLANNED → IsTooMany (routes_of x.wiring.plans) counts n → ⊥
@@ -28,9 +29,9 @@ not_too_many x counts n same few many =
     omega (arith, p, more, few)
 
 -- what a serial run from the opening world leaves
-pub has_run : (r : Request) (x : Replay) (first new : Plain) (counts : List ℕ) → PlacesAreThere → IsSetUp r x → first ≡ opening_world (routes_of x.wiring.plans) counts → counts ≡ x.counts
+pub has_run : (f : Filter) (x : Replay) (first new : Plain) (counts : List ℕ) → PlacesAreThere → IsSetUp f x → first ≡ opening_world (routes_of x.wiring.plans) counts → counts ≡ x.counts
     → SerialRun first.routes (scan_of x.placement.contexts) x.list.tokens (run_shown new) → LawfulRun x.list.tokens first.routes new → StaysMade first new → HasRun x new
-has_run r x first new counts places s opens same run lawful stays =
+has_run f x first new counts places s opens same run lawful stays =
     let routes : first.routes ≡ routes_of x.wiring.plans = ap (λ (w : Plain). w.routes) opens in
     let played = subst (λ rs. SerialRun rs (scan_of x.placement.contexts) x.list.tokens (run_shown new)) routes run in
     let many : length new.counts ≡ length x.wiring.names = ap length (stays.counts ∙ ap (λ (w : Plain). w.counts) opens ∙ same) ∙ s.many in
@@ -40,8 +41,8 @@ has_run r x first new counts places s opens same run lawful stays =
       counts = many;
       writable = record {
         channels = λ n t at. let below = lawful.sound.consistent.room.channels n t at in omega (arith, below, many);
-        origins = tape_origins x.recorded (choice_of r.filter (wired_by x.wiring)) x.list (routes_of x.wiring.plans) (scan_of x.placement.contexts) (run_shown new) s.listed played;
-        places = places x.recorded (choice_of r.filter (wired_by x.wiring)) x.list s.listed;
+        origins = tape_origins x.recorded (choice_of f (wired_by x.wiring)) x.list (routes_of x.wiring.plans) (scan_of x.placement.contexts) (run_shown new) s.listed played;
+        places = places x.recorded (choice_of f (wired_by x.wiring)) x.list s.listed;
       };
     }
 

@@ -3,13 +3,12 @@ use Rattle.std.specs.Prelude.{ℕ, List, [], ◌∷◌, Option, None, if◌then�
 use Rattle.std.specs.Option.{option_map}
 use Rattle.std.specs.Str.{bytes_eq}
 use Rattle.cy_store.specs.Write.{Write}
+use Rattle.cyber_cli.specs.PassWords.{pass_of}
 use Rattle.cyber_cli.specs.PlayWords.{PlayWords, play_of}
-use Rattle.cyber_cli.specs.Words.{PassWords, CheckWords, InfoWords, pass_of, check_of}
-use Rattle.cyber_cli.specs.Words.{info_of}
+use Rattle.cyber_cli.specs.Words.{CheckWords, InfoWords, check_of, info_of}
 
--- `pass`, `check`, `info` and `play`, each with its words.
+-- `check`, `info` and `play`, each with its words; `pass` is a play.
 pub data Command : Type 0 where
-  Pass : (words : PassWords) → Command
   Check : (words : CheckWords) → Command
   Info : (words : InfoWords) → Command
   Play : (words : PlayWords) → Command
@@ -18,7 +17,7 @@ pub data Command : Type 0 where
 abbrev pub command_of : List (List ℕ) → Option Command
 command_of [] = None
 command_of (name ∷ words) =
-    if bytes_eq name (codes "pass") then option_map Pass (pass_of words)
+    if bytes_eq name (codes "pass") then option_map Play (pass_of words)
     else (if bytes_eq name (codes "check") then option_map Check (check_of words)
     else (if bytes_eq name (codes "info") then option_map Info (info_of words)
     else (if bytes_eq name (codes "play") then option_map Play (play_of words) else None)))

@@ -17,7 +17,3 @@ file_line name text = codes "cyber: " ++ name ++ codes ": " ++ text ++ codes "\n
 -- A file whose call failed.
 abbrev pub store_line : List ℕ → List ℕ
 store_line name = codes "cyber: " ++ name ++ codes ": the store failed\n"
-
--- A record of a form that isn't played yet.
-abbrev pub not_built_line : List ℕ → List ℕ
-not_built_line name = codes "cyber: " ++ name ++ codes ": a form not built yet\n"

@@ -45,15 +45,13 @@ pub record IsTold (x : Replay) (w : Plain) (told : Told) : Type 0 where
   pub trace : told.trace ≡ run_trace (source_by x) x.list.shadowed (run_shown w)
   pub line : IsLine x w told.line
 
--- The files that `play` names.
+-- The files that `play` writes.
 abbrev pub name_of_play : PlayWords → File → List ℕ
-name_of_play w file.Input = w.input
 name_of_play w file.Output = w.output
 name_of_play w file.Trace = w.trace
 
 -- The status that is due where a replay was not played and written, and its line.
 abbrev pub IsDueAfterPlay : PlayWords → Failure → Status → List ℕ → Type 0
-IsDueAfterPlay w failure.NotBuilt due line = (due ≡ Memory) × (line ≡ memory_line)
 IsDueAfterPlay w (failure.Store f) due line = (due ≡ StoreFault)
     × (line ≡ store_line (name_of_play w f))
 IsDueAfterPlay w failure.Memory due line = (due ≡ Memory) × (line ≡ memory_line)

@@ -1,5 +1,6 @@
 -- What the types stand for in which the code keeps the words of `play`.
 use Rattle.std.specs.Prelude.{[], option_map, unwrap_or}
+use Rattle.cy_replay.specs.Setup.{components_of}
 use Rattle.cyber_cli.specs.declared.play_words.Play.{Play}
 use Rattle.cyber_cli.specs.declared.play_words.Options as code
 use Rattle.cyber_cli.specs.declared.play_words.Reading as reading
@@ -7,17 +8,18 @@ use Rattle.cyber_cli.specs.PlayWords.{PlayWords, Options, Reading, names_in}
 
 abbrev pub play_words_of : Play → PlayWords
 play_words_of p = record {
-  dag = p.dag.now;
-  sched = option_map (λ name. name.now) p.sched;
-  input = p.input.now;
+  request = record {
+    components = components_of p.components;
+    input = p.input.now;
+    filter = record {
+      only = option_map (λ list. names_in list.now) p.only;
+      drop = unwrap_or (option_map (λ list. names_in list.now) p.drop) [];
+      begin = p.begin;
+      end = p.end;
+    };
+  };
   output = p.output.now;
   trace = p.trace.now;
-  filter = record {
-    only = option_map (λ list. names_in list.now) p.only;
-    drop = unwrap_or (option_map (λ list. names_in list.now) p.drop) [];
-    begin = p.begin;
-    end = p.end;
-  };
 }
 
 abbrev pub options_of : code.Options → Options

@@ -5,18 +5,15 @@ use Rattle.std.specs.Prelude.{Option, Some, None, unwrap_or}
 use Rattle.std.specs.List.{position, list_all, slice_split}
 use Rattle.std.specs.Option.{option_map}
 use Rattle.std.specs.Str.{bytes_eq}
-use Rattle.cy_reader.specs.declared.filter.Filter.{Filter}
+use Rattle.cy_replay.specs.Setup.{Components, OfFiles, OfPass, Request}
 use Rattle.cyber_cli.specs.Words.{is_word}
 
--- The words of `play`: the DAG file, the scheduler file where one is given, the record that is
--- played, the record and the trace that are written, and which messages are let through.
+-- What is asked of a play: what is replayed, and the names of the record and of the trace that are
+-- written.
 pub record PlayWords : Type 0 where
-  pub dag : List ℕ
-  pub sched : Option (List ℕ)
-  pub input : List ℕ
+  pub request : Request
   pub output : List ℕ
   pub trace : List ℕ
-  pub filter : Filter
 
 -- The options that were given so far: their values, and whether `--serial` was.
 pub record Options : Type 0 where
@@ -152,28 +149,32 @@ play_words o = do
   begin ← number_or 0 o.begin
   end ← number_or (2 ^ 64 - 1) o.end
   Some record {
-    dag = dag;
-    sched = o.sched;
-    input = input;
+    request = record {
+      components = OfFiles dag o.sched;
+      input = input;
+      filter = record {
+        only = option_map names_in o.only;
+        drop = unwrap_or (option_map names_in o.drop) [];
+        begin = begin;
+        end = end;
+      };
+    };
     output = output;
     trace = trace;
-    filter = record {
-      only = option_map names_in o.only;
-      drop = unwrap_or (option_map names_in o.drop) [];
-      begin = begin;
-      end = end;
-    };
   }
 
 -- Whether the names of what is written differ from each other and from the names of what is read.
+abbrev pub is_some_of : List ℕ → Option (List ℕ) → Bool
+is_some_of name None = false
+is_some_of name (Some other) = bytes_eq name other
+
+abbrev pub is_no_config : List ℕ → Components → Bool
+is_no_config name (OfFiles dag sched) = not (bytes_eq name dag) && not (is_some_of name sched)
+is_no_config name (OfPass from to) = true
+
 abbrev pub is_other : List ℕ → PlayWords → Bool
 is_other name w =
-    not (bytes_eq name w.input) && not (bytes_eq name w.dag)
-    && not (is_some_of name w.sched)
-  where
-    is_some_of : List ℕ → Option (List ℕ) → Bool
-    is_some_of name None = false
-    is_some_of name (Some other) = bytes_eq name other
+    not (bytes_eq name w.request.input) && is_no_config name w.request.components
 
 unfoldable pub is_play : PlayWords → Bool
 is_play w = not (bytes_eq w.output w.trace) && is_other w.output w && is_other w.trace w

@@ -21,20 +21,17 @@ use Rattle.cy_replay.specs.declared.error.Refusal.{Refusal}
 use Rattle.cy_replay.specs.Listing.{choice_of}
 use Rattle.cy_replay.specs.RecordWrites.{file_writes, record_puts}
 use Rattle.cy_replay.specs.Recording.{Source, channels_of_tape, messages_of_tape, chunks_of_tape}
-use Rattle.cy_replay.specs.Setup.{Request, Replayed, replay_in}
+use Rattle.cy_replay.specs.Setup.{Replayed, replay_in}
 use Rattle.cyber_cli.specs.declared.status.Status.{Status}
 use Rattle.cyber_cli.specs.Command.{Work}
 use Rattle.cyber_cli.specs.ConfigText.{fault_text, fault_status}
 use Rattle.cyber_cli.specs.Lines.{file_line}
 use Rattle.cyber_cli.specs.PlayWords.{PlayWords}
-use Rattle.cyber_cli.specs.Tape.{calls_from, done_line}
+use Rattle.cyber_cli.specs.Summary.{calls_from, done_line}
 
 -- The files are read and judged in the order of refusals.
-abbrev pub request_of : PlayWords → Request
-request_of w = record { dag = w.dag; sched = w.sched; input = w.input; filter = w.filter }
-
 abbrev pub replayed_in : PlayWords → Files → Reads Refusal Replayed
-replayed_in w files = replay_in (request_of w) files
+replayed_in w files = replay_in w.request files
 
 -- What the record is written from, its bytes for a tape, and the trace of a run.
 abbrev pub source_in : Replayed → PlayList → Source
@@ -75,7 +72,7 @@ pub record IsPlayWork (w : PlayWords) (files : Option Files) (work : Work) : Typ
   pub read : Replayed
   pub accepted : IfSome files (λ m. replayed_in w m ≡ Accepts read)
   pub list : PlayList
-  pub listed : IsPlayList read.contents (choice_of w.filter read.wired) list
+  pub listed : IsPlayList read.contents (choice_of w.request.filter read.wired) list
   pub contexts : List ContextPlan
   pub placed : IsPlaced read.configured.sched (map (λ c. c.name) read.configured.dag.components)
       contexts

@@ -11,6 +11,3 @@ pub const OUTPUT_LINE: &str = "cyber: the output failed\n";
 
 /// The store failed, behind a file's name.
 pub const STORE_FAILED: &str = ": the store failed\n";
-
-/// A record is of a form that is not played yet, behind its name.
-pub const NOT_BUILT: &str = ": a form not built yet\n";

@@ -2,30 +2,22 @@
 //! components.
 //!
 //! `specs/Due` says what they answer, `specs/Command` which commands there are and which words ask
-//! for them, `specs/Outcome` what the files are to each: for `pass` by `specs/Input`, which records
-//! are played, `specs/Tape`, what is made of them, and `specs/Writes`, in which order files are
-//! written.
+//! for them, `specs/Outcome` what the files are to each: by `specs/PlayWork`, `specs/Check` and
+//! `specs/Info`.
 #![tactic(auto)]
 
-mod candidate;
 mod commands;
 mod config_text;
 mod due;
 mod failure;
 mod fault_text;
-mod input;
 mod line;
-mod list;
 mod load_text;
-mod make;
-mod one;
-mod play;
+mod pass_words;
 mod play_words;
-mod recording;
 mod status;
 mod still;
 mod summary;
-mod wiring;
 mod words;
 mod write;
 

@@ -1,21 +1,22 @@
 // The words of `play`.
-ghost use Rattle.std.specs.Prelude.{◌≡◌, Some, None, option_map};
+ghost use Rattle.std.specs.Prelude.{◌≡◌, Some, None, IfSome, option_map};
+ghost use Rattle.cy_replay.specs.Setup.{HasReader, components_of};
 ghost use Rattle.cyber_cli.specs.PlayWords.{given_once, with_value, with_serial, option_met};
 ghost use Rattle.cyber_cli.specs.PlayWords.{word_met, words_met, no_options, with_digit, number_of};
-ghost use Rattle.cyber_cli.specs.PlayWords.{number_or, is_list, is_list_or_none, is_other};
-ghost use Rattle.cyber_cli.specs.PlayWords.{is_play, play_words, asked_by, play_of};
+ghost use Rattle.cyber_cli.specs.PlayWords.{number_or, is_list, is_list_or_none, is_no_config};
+ghost use Rattle.cyber_cli.specs.PlayWords.{is_other, is_play, where_play, play_words, asked_by};
+ghost use Rattle.cyber_cli.specs.PlayWords.{play_of};
 ghost use Rattle.cyber_cli.specs.PlayViews.{play_words_of, options_of, reading_of};
 
 use crate::words::names_something;
 use cy_msg::Text;
+use cy_replay::Components;
 
-/// The words of `play`: names of files, and which messages are let through.
+/// What is asked of a play: its components, names of files, and which messages are let through.
 #[derive(Clone, Copy)]
 pub struct Play<'a> {
-    /// The DAG file.
-    pub dag: &'a str,
-    /// The scheduler file, where one is given.
-    pub sched: Option<&'a str>,
+    /// The components, or the files that name them.
+    pub components: Components<'a>,
     /// The record that is played.
     pub input: &'a str,
     /// The record that is written.
@@ -252,17 +253,29 @@ fn is_list_or_none(text: Option<&str>) -> bool
     }
 }
 
+// Whether a name is none of the files that say which components there are.
+fn is_no_config(name: &str, components: &Components) -> bool
+    ensures { result ≡ is_no_config name.now (components_of components.now) }
+{
+    match *components {
+        Components::Files { dag, sched } => {
+            let is_sched = match sched {
+                Some(sched) => name == sched,
+                None => false,
+            };
+            name != dag && !is_sched
+        }
+        Components::Pass { .. } => true,
+    }
+}
+
 #[tactic(auto, unfolding(crate::specs::PlayWords::is_play))]
-impl Play<'_> {
+impl<'a> Play<'a> {
     // Whether a name is none of those that are read.
     fn is_other(&self, name: &str) -> bool
         ensures { result ≡ is_other name.now (play_words_of self.now) }
     {
-        let is_sched = match self.sched {
-            Some(sched) => name == sched,
-            None => false,
-        };
-        name != self.input && name != self.dag && !is_sched
+        name != self.input && is_no_config(name, &self.components)
     }
 
     // Whether the names that are written differ from each other and from those that are read.
@@ -271,21 +284,33 @@ impl Play<'_> {
     {
         self.output != self.trace && self.is_other(self.output) && self.is_other(self.trace)
     }
+
+    /// The play, where its names are in form.
+    pub(crate) fn where_in_form(self) -> Option<Self>
+        ensures play { option_map play_words_of result ≡ where_play (play_words_of self.entry) }
+        ensures same { IfSome result (λ play. play.components ≡ self.entry.components) }
+    {
+        if self.is_in_form() { Some(self) } else { None }
+    }
 }
 
 impl<'a> Options<'a> {
     // The words that every serial play has.
     fn words(self) -> Option<Play<'a>>
-        ensures { option_map play_words_of result ≡ play_words (options_of self.entry) }
+        ensures words { option_map play_words_of result ≡ play_words (options_of self.entry) }
+        ensures reader { IfSome result (λ play. HasReader (components_of play.components)) }
     {
+        let dag = self.dag?;
         Some(Play {
-            dag: self.dag?,
             input: self.input?,
             output: self.output?,
             trace: self.trace?,
             begin: number_or(0, self.begin)?,
             end: number_or(u64::MAX, self.end)?,
-            sched: self.sched,
+            components: Components::Files {
+                dag,
+                sched: self.sched,
+            },
             only: self.only,
             drop: self.drop,
         })
@@ -294,19 +319,20 @@ impl<'a> Options<'a> {
     // What the options ask for.
     #[tactic(auto, unfolding(crate::specs::PlayWords::asked_by))]
     fn asked(self) -> Option<Play<'a>>
-        ensures { option_map play_words_of result ≡ asked_by (options_of self.entry) }
+        ensures asked { option_map play_words_of result ≡ asked_by (options_of self.entry) }
+        ensures reader { IfSome result (λ play. HasReader (components_of play.components)) }
     {
         if !(self.serial && is_list_or_none(self.only) && is_list_or_none(self.drop)) {
             return None;
         }
-        let play = self.words()?;
-        if play.is_in_form() { Some(play) } else { None }
+        self.words()?.where_in_form()
     }
 }
 
 /// What the words behind `play` ask for; None where they are not of its form.
 pub fn play_words<'a>(words: &'a [Text]) -> Option<Play<'a>>
-    ensures { option_map play_words_of result ≡ play_of words.now }
+    ensures asked { option_map play_words_of result ≡ play_of words.now }
+    ensures reader { IfSome result (λ play. HasReader (components_of play.components)) }
 {
     let reading = words_met(words)?;
     if reading.pending.is_some() {

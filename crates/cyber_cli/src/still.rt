@@ -4,7 +4,7 @@ ghost use Rattle.cyber_cli.specs.Line.{bytes_of_line};
 ghost use Rattle.cyber_cli.specs.Due.{IsDue, IsTold, GetsFront, Answers, IsComplete};
 ghost use Rattle.cy_store.specs.Store.{SinkView};
 
-use crate::commands::{run_check, run_info, run_pass, run_play};
+use crate::commands::{run_check, run_info, run_play};
 use crate::due::Due;
 use crate::fault_text::{OUTPUT_LINE, USAGE_LINE};
 use crate::line::{Line, write_line};
@@ -20,7 +20,6 @@ fn due_of<'a, S: Store>(alloc: Global, words: &'a [Text], store: &mut S) -> Due<
         (bytes_of_line result.line) }
 {
     match command_of(words) {
-        Some(Command::Pass(pass)) => run_pass(alloc, &pass, store),
         Some(Command::Check(check)) => run_check(alloc, &check, store),
         Some(Command::Info(info)) => run_info(alloc, &info, store),
         Some(Command::Play(play)) => run_play(alloc, &play, store),
@@ -87,14 +86,14 @@ fn tell<O: Sink, E: Sink>(due: &Due, out: &mut O, err: &mut E) -> Status
 
 /// Does what the words ask for.
 ///
-/// `pass RECORD OUT TRACE FROM TO` plays a record through one component that passes each message of
-/// the channel FROM on to the channel TO, and writes a record of all messages and a trace of all
-/// calls. `check --dag F [--sched F]` prints what configuration files say, and `info FILE` what a
-/// record is.
-///
 /// `play --serial --dag F --record F --out F --trace F`, with `--sched F` and the options
 /// `--channels LIST`, `--drop LIST`, `--begin N` and `--end N` that choose messages, plays a record
-/// serially through the components of a DAG, and writes both files.
+/// serially through the components of a DAG, and writes a record of all messages and a trace of all
+/// calls. `pass RECORD OUT TRACE FROM TO` is such a play through one component that passes each
+/// message of the channel FROM on to the channel TO.
+///
+/// `check --dag F [--sched F]` prints what configuration files say, and `info FILE` what a record
+/// is.
 ///
 /// The text or the line that tells what was done goes to `out`, and one that tells of a refusal or
 /// a fault goes to `err`. The answer is one of the seven statuses; its contract says which is due,

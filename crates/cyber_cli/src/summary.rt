@@ -1,7 +1,7 @@
 // The line that tells what was done.
 ghost use Rattle.std.specs.Prelude.{◌≡◌, ◌++◌, IfOk, OnOk, IsOkUnless};
 ghost use Rattle.std.specs.Fmt.{decimal};
-ghost use Rattle.cyber_cli.specs.Tape.{done_line as line_of};
+ghost use Rattle.cyber_cli.specs.Summary.{done_line as line_of};
 
 use crate::failure::Failure;
 use cy_msg::Bytes;

@@ -1,31 +1,17 @@
 // The words that the program takes, command by command.
-ghost use Rattle.std.specs.Prelude.{◌≡◌, true, Some, None, IfSome, MatchOption, option_map};
-ghost use Rattle.cyber_cli.specs.Words.{is_word, is_pass, pass_of, check_of, is_option};
-ghost use Rattle.cyber_cli.specs.Words.{first_option, pair_at, two_options, info_of};
+ghost use Rattle.std.specs.Prelude.{◌≡◌, Some, None, IfSome, MatchOption, option_map};
+ghost use Rattle.cyber_cli.specs.Words.{is_word, check_of, is_option, first_option, pair_at};
+ghost use Rattle.cyber_cli.specs.Words.{two_options, info_of};
 ghost use Rattle.cyber_cli.specs.Command.{command_of};
-ghost use Rattle.cyber_cli.specs.Views.{words_of, check_words_of, given_of, command_asked};
-ghost use Rattle.cyber_cli.specs.Views.{IsInForm, info_words_of};
+ghost use Rattle.cyber_cli.specs.Views.{check_words_of, given_of, info_words_of, command_asked};
+ghost use Rattle.cyber_cli.specs.Views.{IsInForm};
 
+use crate::pass_words::pass_words;
 use crate::play_words::{Play, play_words};
 use cy_msg::Text;
 
 /// The most bytes of a word.
 const LONGEST_WORD: usize = 16_777_216;
-
-/// The words of `pass`: names of files and of channels.
-#[derive(Clone, Copy)]
-pub struct Pass<'a> {
-    /// The record that is played.
-    pub input: &'a str,
-    /// The record that is written.
-    pub output: &'a str,
-    /// The trace that is written.
-    pub trace: &'a str,
-    /// The channel that the component reads.
-    pub from: &'a str,
-    /// The channel that the component writes.
-    pub to: &'a str,
-}
 
 /// The words of `check`: names of files.
 #[derive(Clone, Copy)]
@@ -46,13 +32,11 @@ pub struct Info<'a> {
 /// What the words ask for.
 #[derive(Clone, Copy)]
 pub enum Command<'a> {
-    /// To play a record through one component that passes its messages on.
-    Pass(Pass<'a>),
     /// To print what configuration files say.
     Check(Check<'a>),
     /// To print what a record is.
     Info(Info<'a>),
-    /// To play a record serially through the components of a DAG.
+    /// To play a record serially through components.
     Play(Play<'a>),
 }
 
@@ -72,43 +56,6 @@ pub(crate) fn names_something(text: &str) -> bool
         [] => false,
         [first, ..] => *first != b'-' && text.len() <= LONGEST_WORD,
     }
-}
-
-#[tactic(auto, unfolding(crate::specs::Words::is_pass))]
-impl Pass<'_> {
-    // Whether all are words and those differ that have to.
-    fn is_in_form(&self) -> bool
-        ensures { result ≡ is_pass (words_of self.now) }
-    {
-        names_something(self.input)
-            && names_something(self.output)
-            && names_something(self.trace)
-            && names_something(self.from)
-            && names_something(self.to)
-            && self.output != self.trace
-            && self.output != self.input
-            && self.trace != self.input
-            && self.from != self.to
-    }
-}
-
-// What the words behind `pass` ask for.
-fn pass_words<'a>(words: &'a [Text]) -> Option<Pass<'a>>
-    ensures asked { MatchOption result (pass_of words.now ≡ None) (λ p. pass_of words.now
-        ≡ Some (words_of p)) }
-    ensures form { IfSome result (λ p. is_pass (words_of p) ≡ true) }
-{
-    let [input, output, trace, from, to] = words else {
-        return None;
-    };
-    let pass = Pass {
-        input: input.as_str(),
-        output: output.as_str(),
-        trace: trace.as_str(),
-        from: from.as_str(),
-        to: to.as_str(),
-    };
-    if pass.is_in_form() { Some(pass) } else { None }
 }
 
 // The option whose name is a word, and its value the next one.
@@ -213,7 +160,7 @@ pub fn command_of<'a>(words: &'a [Text]) -> Option<Command<'a>>
         return None;
     };
     match name.as_str() {
-        "pass" => Some(Command::Pass(pass_words(words)?)),
+        "pass" => Some(Command::Play(pass_words(words)?)),
         "check" => Some(Command::Check(check_words(words)?)),
         "info" => Some(Command::Info(info_words(words)?)),
         "play" => Some(Command::Play(play_words(words)?)),

@@ -1,6 +1,6 @@
 // Words and records that are refused, each with ample memory.
 use crate::ran::{PASS, run, run_over, store_of};
-use crate::samples::{in_record, two_record};
+use crate::samples::in_record;
 use cy_store::{MemSink, MemStore};
 use cyber_cli::Status;
 use std::alloc::Global;
@@ -9,72 +9,79 @@ use std::test::Fail;
 
 const USAGE_LINE: &[u8] = b"cyber: the words are not of a known form\n";
 
-const NOT_BUILT_LINE: &[u8] = b"cyber: in.rec: a form not built yet\n";
-
-// A record is refused, and nothing is made.
-fn is_refused(rt: &impl Abort, alloc: Global, bytes: &[u8], what: &str) -> Result<(), Fail> {
+// A record is refused with this line, and nothing is made.
+fn is_refused(rt: &impl Abort, alloc: Global, bytes: &[u8], line: &[u8]) -> Result<(), Fail> {
     let ran = run(alloc, &PASS, store_of(alloc, bytes)?)?;
-    assert_eq!(rt; ran.status, Status::Refused, "{what}");
-    assert_eq!(rt; ran.err.bytes(), NOT_BUILT_LINE, "{what}");
-    assert_eq!(rt; ran.out.bytes(), b"".as_slice(), "{what}");
-    assert!(rt; ran.store.file("out.rec").is_none(), "{what}");
-    assert!(rt; ran.store.file("t.txt").is_none(), "{what}");
+    assert_eq!(rt; ran.status, Status::Refused);
+    assert_eq!(rt; ran.err.bytes(), line);
+    assert_eq!(rt; ran.out.bytes(), b"".as_slice());
+    assert!(rt; ran.store.file("out.rec").is_none());
+    assert!(rt; ran.store.file("t.txt").is_none());
     Ok(())
 }
 
 #[test]
-fn refuses_a_record_with_a_byte_changed(rt: HostRuntime) -> Result<(), Fail> {
+fn refuses_a_cut_record_with_its_first_fault(rt: HostRuntime) -> Result<(), Fail> {
     let alloc = rt.alloc();
-    // A byte of each section, among them the last zero of the header's and the value's last byte.
-    for (place, byte) in [
-        (0, 1),
-        (46, 3),
-        (2063, 1),
-        (2085, 0xff),
-        (2113, 0),
-        (2141, 0x8e),
-        (2208, 0),
+    for (shortest, longest, line) in [
+        (0, 15, b"cyber: in.rec: not a record\n".as_slice()),
+        (16, 2063, b"cyber: in.rec: at 0: Cut\n"),
+        (2065, 2088, b"cyber: in.rec: at 2064: Cut\n"),
+        (2090, 2112, b"cyber: in.rec: at 2089: Cut\n"),
+        (2114, 2141, b"cyber: in.rec: at 2113: Cut\n"),
+        (2143, 2157, b"cyber: in.rec: at 2142: Cut\n"),
     ] {
-        let mut bytes = in_record(alloc)?;
-        assert!(rt; place < bytes.len());
-        bytes[place] = byte;
-        is_refused(&rt, alloc, &bytes, "a byte")?;
-    }
-    Ok(())
-}
-
-#[test]
-fn refuses_other_counts_and_falling_times(rt: HostRuntime) -> Result<(), Fail> {
-    let alloc = rt.alloc();
-    for number in [0, 1, 3, 127, 128, 255] {
-        let mut bytes = two_record(alloc)?;
-        assert!(rt; 2110 < bytes.len());
-        bytes[2110] = number;
-        is_refused(&rt, alloc, &bytes, "a count")?;
-    }
-    // The second message is earlier than the first, and the header, the chunk's header and the
-    // index say so.
-    let mut bytes = two_record(alloc)?;
-    for place in [38, 2106, 2206, 2150] {
-        if let Some(byte) = bytes.get_mut(place) {
-            *byte = 99;
+        for size in [shortest, longest] {
+            let mut bytes = in_record(alloc)?;
+            bytes.truncate(size);
+            is_refused(&rt, alloc, &bytes, line)?;
         }
     }
-    is_refused(&rt, alloc, &bytes, "a time")?;
     Ok(())
 }
 
 #[test]
-fn refuses_cut_and_long_records(rt: HostRuntime) -> Result<(), Fail> {
+fn passes_the_whole_sections_of_a_cut_record(rt: HostRuntime) -> Result<(), Fail> {
     let alloc = rt.alloc();
-    for size in [0, 2064, 2142, 2208] {
+    let none = b"done: played 0, shadowed 0, calls 0, written 0\n".as_slice();
+    let one = b"done: played 1, shadowed 0, calls 1, written 2\n".as_slice();
+    for (size, line) in [
+        (2064, none),
+        (2089, none),
+        (2113, none),
+        (2142, one),
+        (2158, one),
+        (2208, one),
+    ] {
         let mut bytes = in_record(alloc)?;
         bytes.truncate(size);
-        is_refused(&rt, alloc, &bytes, "a cut record")?;
+        let ran = run(alloc, &PASS, store_of(alloc, &bytes)?)?;
+        assert_eq!(rt; ran.status, Status::Done, "{size}");
+        assert_eq!(rt; ran.out.bytes(), line, "{size}");
     }
-    let mut bytes = in_record(alloc)?;
-    bytes.resize(1_048_577, 0)?;
-    is_refused(&rt, alloc, &bytes, "a long record")
+    Ok(())
+}
+
+// The fifth piece of a record broke off after 20 bytes.
+#[test]
+fn refuses_a_record_that_broke_off(rt: HostRuntime) -> Result<(), Fail> {
+    let alloc = rt.alloc();
+    let mut store = store_of(alloc, &in_record(alloc)?)?;
+    store.fail_at(10, 20)?;
+    let broken = run(alloc, &PASS, store)?;
+    assert_eq!(rt; broken.status, Status::StoreFault);
+    assert_eq!(rt;
+        broken.store.file("out.rec").map(|file| file.len()),
+        Some(2_159)
+    );
+    let words = ["pass", "out.rec", "o2", "t2", "/in", "/x"];
+    let ran = run(alloc, &words, broken.store)?;
+    assert_eq!(rt; ran.status, Status::Refused);
+    assert_eq!(rt;
+        ran.err.bytes(),
+        b"cyber: out.rec: at 2139: Cut\n".as_slice()
+    );
+    Ok(())
 }
 
 #[test]
@@ -110,19 +117,28 @@ fn takes_known_words_alone(rt: HostRuntime) -> Result<(), Fail> {
     is_misused(&rt, alloc, &["info", "--x"])
 }
 
-// A refusal that can't be told ends as a fault of the sink, with a prefix of its line.
+// What can't be told ends as a fault of the sink, with a prefix of its line: that the words are of
+// no form, that the record is none, and that it or the record that is written can't be used.
 #[test]
 fn faults_where_a_refusal_is_not_told(rt: HostRuntime) -> Result<(), Fail> {
     let alloc = rt.alloc();
-    for (words, write, want) in [
-        (PASS.as_slice(), 1, b"".as_slice()),
-        (PASS.as_slice(), 2, b"cyber: ".as_slice()),
-        (PASS.as_slice(), 3, b"cyber: in.rec".as_slice()),
-        ([].as_slice(), 1, b"".as_slice()),
+    for (words, call, write, want) in [
+        ([].as_slice(), 0, 1, b"".as_slice()),
+        (PASS.as_slice(), 0, 1, b"".as_slice()),
+        (PASS.as_slice(), 3, 1, b"".as_slice()),
+        (PASS.as_slice(), 5, 2, b"cyber: ".as_slice()),
+        (PASS.as_slice(), 5, 3, b"cyber: out.rec".as_slice()),
     ] {
         let mut err = MemSink::new(alloc);
         err.fail_at(write)?;
-        let store = store_of(alloc, b"no record")?;
+        let bytes = in_record(alloc)?;
+        let whole = if call == 0 {
+            &bytes[..0]
+        } else {
+            bytes.as_slice()
+        };
+        let mut store = store_of(alloc, whole)?;
+        store.fail_at(call, 0)?;
         let ran = run_over(alloc, words, store, MemSink::new(alloc), err)?;
         assert_eq!(rt; ran.status, Status::SinkFault, "{write}");
         assert_eq!(rt; ran.err.bytes(), want, "{write}");

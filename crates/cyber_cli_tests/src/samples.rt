@@ -62,6 +62,13 @@ const TWO_OUT_SECTIONS: &[u8] =
     out\x1a\0\x22\0\x0a\x10\x08\x01\x10\xc3\x10\xb2\x06\x08\x08\x04\x10d\x18d\x20\x0a\x0a\x0a\
     \x08\x02\x10\xdb\x10\xba\x06\x02\x08\x04";
 
+// A record without messages, and its index.
+const EMPTY_HEADER: &[u8] = b"\0\0\0\0\0\0\0\0\x27\0\0\0\0\0\0\0\
+    \x08\x01\x10\0\x18\0\x20\x80\x90\xdf\xc0\x4a\x28\0\x30\x90\x10\x38\0\x40\0\x48\0\x50\0\
+    \x58\0\x60\xa0\x10\x68\x01\x70\x80\x84\xaf\x5f\x78\0";
+
+const EMPTY_SECTIONS: &[u8] = b"\x03\0\0\0\0\0\0\0\0\0\0\0\0\0\0\0";
+
 // The header of a record that is still being written, but for the zeros behind it.
 const OPEN_HEADER: &[u8] = b"\0\0\0\0\0\0\0\0\x25\0\0\0\0\0\0\0\
     \x08\x01\x10\0\x18\0\x20\x80\x90\xdf\xc0\x4a\x28\0\x30\0\x38\0\x40\0\x48\0\x50\0\
@@ -75,6 +82,14 @@ pub const TRACE: &str =
 pub const TWO_TRACE: &str = "cyber-trace 1\nplayed 2 shadowed 0\ncomponent \"pass\"\nroles 00\n\
     call 1/1 1 1@100=7\ncall 2/2 2 2@100=-980\nend DATA_WAIT next 3\n\
     tape \"/in\" 1\ntape \"/out\" 1\ntape \"/in\" 2\ntape \"/out\" 2\n";
+
+/// The trace of a run of a record without messages.
+pub const EMPTY_TRACE: &str =
+    "cyber-trace 1\nplayed 0 shadowed 0\ncomponent \"pass\"\nroles -\nend DATA_WAIT next 0\n";
+
+/// The trace of a run of the record that is written, of which one message is shadowed.
+pub const AGAIN_TRACE: &str =
+    "cyber-trace 1\nplayed 1 shadowed 1\ncomponent \"pass\"\nroles 0\ncall 1/1 1 1@100=7\nend DATA_WAIT next 2\ntape \"/in\" 1\ntape \"/out\" 1\n";
 
 fn sections(alloc: Global, header: &[u8], rest: &[u8]) -> Result<Vec<u8>, AllocError> {
     let mut bytes = header.to_vec(alloc)?;
@@ -98,7 +113,12 @@ pub fn out_record(alloc: Global) -> Result<Vec<u8>, AllocError> {
     sections(alloc, OUT_HEADER, OUT_SECTIONS)
 }
 
-/// The same under the header of a record that is still being written.
+/// A record without messages, of 2,080 bytes.
+pub fn empty_record(alloc: Global) -> Result<Vec<u8>, AllocError> {
+    sections(alloc, EMPTY_HEADER, EMPTY_SECTIONS)
+}
+
+/// The record of one message under the header of a record that is still being written.
 pub fn open_record(alloc: Global) -> Result<Vec<u8>, AllocError> {
     sections(alloc, OPEN_HEADER, OUT_SECTIONS)
 }

@@ -24,14 +24,6 @@ pub mod WorkedRuns
 pub mod Rooted
 pub mod WrongEvents
 pub mod MoreCalls
-pub mod Nexts
-pub mod PlannedPass
-pub mod KeptSteps
-pub mod Passed
-pub mod SettleSteps
-pub mod SerialSteps
-pub mod Lawful
-pub mod MadeFor
 pub mod HeldTimes
 pub mod Reading
 pub mod Flags

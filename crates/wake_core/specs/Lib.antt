@@ -2,15 +2,11 @@ pub mod Settle
 pub mod Run
 pub mod Serial
 pub mod Planned
-pub mod World
-pub mod Pass
-pub mod PassWiring
 pub mod Plain
 pub mod Events
 pub mod Sound
 pub mod LawfulRun
 pub mod Laws
-pub mod Kept
 pub mod Rest
 pub mod Turns
 pub mod Fields

@@ -2,10 +2,8 @@
 // due.
 mod check;
 mod info;
-mod pass;
 mod play;
 
 pub use check::run_check;
 pub use info::run_info;
-pub use pass::run_pass;
 pub use play::run_play;

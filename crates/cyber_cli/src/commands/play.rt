@@ -1,4 +1,4 @@
-// The command `play`.
+// The commands `play` and `pass`.
 ghost use Rattle.std.specs.Prelude.{◌≡◌, ◌≤◌, ◌<◌, ℕ, length, map, IfOk, OnOk, IsErrOf, IsOkUnless};
 ghost use Rattle.std.specs.Option.{option_map};
 ghost use Rattle.cy_store.specs.Store.{WriteRose};
@@ -10,7 +10,7 @@ ghost use Rattle.wake_core.specs.Run.{routes_of};
 ghost use Rattle.wake_core.specs.WorldOf.{plain_of};
 ghost use Rattle.cy_trace.specs.TraceText.{trace_text as text_of};
 ghost use Rattle.cy_replay.specs.Comes.{ComesTo};
-ghost use Rattle.cy_replay.specs.Setup.{IsAsked, IsSetUp, replayed};
+ghost use Rattle.cy_replay.specs.Setup.{HasReader, IsAsked, IsSetUp, replayed};
 ghost use Rattle.cyber_cli.specs.declared.failure.File.{File};
 ghost use Rattle.cyber_cli.specs.Command as command;
 ghost use Rattle.cyber_cli.specs.Due.{IsDueFor};
@@ -19,11 +19,10 @@ ghost use Rattle.cyber_cli.specs.PlayEnds.{HasRun, IsDueAfterPlay, IsTold, IsLin
 ghost use Rattle.cyber_cli.specs.PlayEnds.{name_of_play, writes_by};
 ghost use Rattle.cyber_cli.specs.PlayViews.{play_words_of};
 ghost use Rattle.cyber_cli.specs.PlayWords.{names_in};
-ghost use Rattle.cyber_cli.specs.PlayWork.{replayed_in, request_of};
-ghost use Rattle.cyber_cli.specs.Tape.{calls_from};
+ghost use Rattle.cyber_cli.specs.PlayWork.{replayed_in};
+ghost use Rattle.cyber_cli.specs.Summary.{calls_from};
 
 use super::check::due_unset;
-use super::pass::unwritten;
 use crate::due::{Due, out_of_memory, store_failed};
 use crate::failure::{Failure, File};
 use crate::line::Line;
@@ -39,6 +38,7 @@ use cy_replay::{
 };
 use cy_store::Store;
 use cy_trace::{TraceError, trace_text};
+use cy_writer::WriteError;
 use std::alloc::{AllocError, Global};
 use wake_core::{CoreError, World, serial};
 
@@ -83,7 +83,7 @@ fn names_or_none(alloc: Global, list: Option<&str>) -> Result<Option<Items<Text>
 
 // Which messages the words let through.
 fn filter_of(alloc: Global, play: &Play) -> Result<Filter, SetupError>
-    ensures filter { IfOk result (λ f. f ≡ (play_words_of play.now).filter) }
+    ensures filter { IfOk result (λ f. f ≡ (play_words_of play.now).request.filter) }
     ensures only_memory { IsOkUnless result SetupError.Memory }
 {
     let only = names_or_none(alloc, play.only)?;
@@ -102,15 +102,15 @@ fn filter_of(alloc: Global, play: &Play) -> Result<Filter, SetupError>
 
 // Reads the files, and sets up what is played.
 fn read_files<S: Store>(alloc: Global, store: &mut S, play: &Play) -> Result<Replay, SetupError>
+    requires { HasReader (play_words_of play.now).request.components }
     ensures comes { ComesTo replayed (replayed_in (play_words_of play.now))
-        (IsAsked (request_of (play_words_of play.now)) (S.shows store.old).files)
+        (IsAsked (play_words_of play.now).request (S.shows store.old).files)
         (S.shows store.old) (S.shows store.new) result }
-    ensures set_up { IfOk result (IsSetUp (request_of (play_words_of play.now))) }
+    ensures set_up { IfOk result (IsSetUp (play_words_of play.now).request.filter) }
 {
     let filter = filter_of(alloc, play)?;
     let request = Request {
-        dag: play.dag,
-        sched: play.sched,
+        components: play.components,
         input: play.input,
         filter: &filter,
     };
@@ -119,7 +119,7 @@ fn read_files<S: Store>(alloc: Global, store: &mut S, play: &Play) -> Result<Rep
 
 // The world after a replay was played serially.
 fn played_world(alloc: Global, play: &Play, replay: &Replay) -> Result<World, Failure>
-    requires { IsSetUp (request_of (play_words_of play.now)) replay.now }
+    requires { IsSetUp (play_words_of play.now).request.filter replay.now }
     ensures run { IfOk result (λ w. HasRun replay.now (plain_of w)) }
     ensures only_memory { IsOkUnless result Failure.Memory }
 {
@@ -175,6 +175,17 @@ fn tell_run(alloc: Global, replay: &Replay, world: &World) -> Result<Told, Failu
     Ok(Told { trace, line })
 }
 
+// A failure to write a file.
+fn unwritten(file: File, error: WriteError) -> Failure
+    ensures failed { (error ≡ WriteError.Memory → ⊥) → result ≡ Failure.Store file }
+    ensures memory { error ≡ WriteError.Memory → result ≡ Failure.Memory }
+{
+    match error {
+        WriteError::Failed | WriteError::Broken => Failure::Store(file),
+        WriteError::Memory => Failure::Memory,
+    }
+}
+
 // Writes the record of a replay's run, and then its trace. Answers the line that tells of it.
 fn write_both<S: Store>(
     alloc: Global,
@@ -183,7 +194,7 @@ fn write_both<S: Store>(
     replay: &Replay,
     world: &World,
 ) -> Result<Bytes, Failure>
-    requires set_up { IsSetUp (request_of (play_words_of play.now)) replay.now }
+    requires set_up { IsSetUp (play_words_of play.now).request.filter replay.now }
     requires run { HasRun replay.now (plain_of world.now) }
     ensures done { OnOk result ((S.shows store.new).files
         ≡ option_map (after_writes (writes_by (play_words_of play.now) replay.now
@@ -196,7 +207,6 @@ fn write_both<S: Store>(
     ensures memory { IsErrOf result Failure.Memory
         → StopsBefore (writes_by (play_words_of play.now) replay.now (plain_of world.now))
         (S.shows store.old).files (S.shows store.new).files }
-    ensures built { IsErrOf result Failure.NotBuilt → ⊥ }
     ensures causes { (f : File) → IsErrOf result (Failure.Store f) → WriteRose (S.shows store.old)
         (S.shows store.new) }
 {
@@ -222,19 +232,19 @@ fn due_after<'a>(play: &Play<'a>, failure: Failure) -> Due<'a>
         (bytes_of_line result.line) }
 {
     match failure {
-        Failure::NotBuilt | Failure::Memory => out_of_memory(),
+        Failure::Memory => out_of_memory(),
         Failure::Store(file) => store_failed(match file {
-            File::Input => play.input,
             File::Output => play.output,
             File::Trace => play.trace,
         }),
     }
 }
 
-/// What is due for a serial `play` with these words: it sets up a replay, plays it, and writes the
-/// record of all messages and then the trace of all calls. All reading is done before the first
-/// file is made, and the record is written before anything else takes memory.
+/// What is due for a serial `play` with these words, or for `pass`: it sets up a replay, plays it,
+/// and writes the record of all messages and then the trace of all calls. All reading is done
+/// before the first file is made, and the record is written before anything else takes memory.
 pub fn run_play<'a, S: Store>(alloc: Global, play: &Play<'a>, store: &mut S) -> Due<'a>
+    requires { HasReader (play_words_of play.now).request.components }
     ensures { IsDueFor (command.Play (play_words_of play.now)) (S.shows store.old)
         (S.shows store.new) result.status (bytes_of_line result.line) }
 {

@@ -1,17 +1,12 @@
-use Rattle.std.proofs.lemmas.Result.{err_from_is_err_and}
-use Rattle.cy_replay.specs.Setup.{request_of}
-use Rattle.cy_replay.proofs.Setting.{configuration_stops, record_stops, all_read}
+use Rattle.std.proofs.Common.{option_map, ap}
+use Rattle.cy_replay.specs.Setup.{OfFiles, OfPass, components_of, request_of}
+use Rattle.cy_replay.proofs.Setting.{through}
 use Rattle.cy_replay.proofs.setup.set_up.Goals as goal
 
-pub returns-in_err-configuration-clause-comes : goal.returns-in_err-configuration-clause-comes
-returns-in_err-configuration-clause-comes g c =
-    let p = err_from_is_err_and c.from_residual.result c.from_residual.ensures.1 in
-    rw (p.1, p.2) (configuration_stops (request_of c.args.request.now) _ _ _ c.in_err-configuration.ensures.comes)
+pub returns-in-Files-clause-comes : goal.returns-in-Files-clause-comes
+returns-in-Files-clause-comes g c =
+    through (request_of c.args.request.now) (OfFiles c.in-Files.dag.now (option_map (λ n. n.now) c.in-Files.sched)) _ _ _ (ap components_of c.in-Files.is) c.set_up_files.ensures.comes
 
-pub returns-in_err-recorded-clause-comes : goal.returns-in_err-recorded-clause-comes
-returns-in_err-recorded-clause-comes g c =
-    let p = err_from_is_err_and c.from_residual-in_err-recorded.result c.from_residual-in_err-recorded.ensures.1 in
-    rw (p.1, p.2) (record_stops (request_of c.args.request.now) c.in_ok-configuration.configuration _ _ _ _ c.in_ok-configuration.ensures.comes c.in_err-recorded.ensures)
-
-pub returns-clause-comes : goal.returns-clause-comes
-returns-clause-comes g c = all_read (request_of c.args.request.now) c.in_ok-configuration.configuration c.in_ok-recorded.recorded _ _ _ _ c.in_ok-configuration.ensures.comes c.in_ok-recorded.ensures c.judge.ensures.judged
+pub returns-in-Pass-clause-comes : goal.returns-in-Pass-clause-comes
+returns-in-Pass-clause-comes g c =
+    through (request_of c.args.request.now) (OfPass c.in-Pass.from.now c.in-Pass.to.now) _ _ _ (ap components_of c.in-Pass.is) c.set_up_pass.ensures.comes

@@ -1,6 +1,5 @@
 use Rattle.std.proofs.Common.{Err, ap, ◌∙◌}
 use Rattle.cyber_cli.specs.PlayViews.{play_words_of}
-use Rattle.cyber_cli.specs.PlayWork.{request_of}
 use Rattle.cyber_cli.proofs.PlayRuns.{not_too_many, has_run}
 use Rattle.cyber_cli.proofs.commands.play.played_world.Goals as goal
 
@@ -11,4 +10,4 @@ unreachable-requires c =
 
 pub returns-clause-run : goal.returns-clause-run
 returns-clause-run c =
-    has_run (request_of (play_words_of c.args.play.now)) c.args.replay.now _ _ c.as_slice.result.now c.played_places_are_there.ensures c.requires c.in-Ok.ensures.opening.opens c.as_slice.ensures c.serial.ensures.run c.serial.ensures.lawful c.serial.ensures.stays
+    has_run (play_words_of c.args.play.now).request.filter c.args.replay.now _ _ c.as_slice.result.now c.played_places_are_there.ensures c.requires c.in-Ok.ensures.opening.opens c.as_slice.ensures c.serial.ensures.run c.serial.ensures.lawful c.serial.ensures.stays

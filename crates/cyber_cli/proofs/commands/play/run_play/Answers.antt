@@ -13,4 +13,4 @@ returns-in-Ok-write_both g c =
 pub returns : goal.returns
 returns g c =
     stopped (play_words_of c.args.play.now) c.in-Ok.replay (plain_of c.in-Ok-played_world.world) _ _ _ c.in-Err-write_both.failure _ _ c.in-Ok.ensures.comes c.in-Ok.ensures.set_up c.in-Ok-played_world.ensures.run
-    c.in-Err-write_both.ensures.failed c.in-Err-write_both.ensures.memory c.in-Err-write_both.ensures.built c.in-Err-write_both.ensures.causes c.due_after.ensures
+    c.in-Err-write_both.ensures.failed c.in-Err-write_both.ensures.memory c.in-Err-write_both.ensures.causes c.due_after.ensures

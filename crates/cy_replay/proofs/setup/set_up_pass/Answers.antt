@@ -1,0 +1,13 @@
+use Rattle.std.proofs.lemmas.Result.{err_from_is_err_and}
+use Rattle.cy_replay.specs.Setup.{request_of}
+use Rattle.cy_replay.proofs.Setting.{pass_stops, pass_starves, pass_read}
+use Rattle.cy_replay.proofs.setup.set_up_pass.Goals as goal
+
+pub returns-in_err-recorded-clause-comes : goal.returns-in_err-recorded-clause-comes
+returns-in_err-recorded-clause-comes g c =
+    let p = err_from_is_err_and c.from_residual.result c.from_residual.ensures.1 in
+    rw (p.1, p.2) (pass_stops c.args.from.now c.args.to.now (request_of c.args.request.now) _ _ _ c.in_err-recorded.ensures)
+
+pub returns-clause-comes : goal.returns-clause-comes
+returns-clause-comes g c =
+    pass_read c.args.from.now c.args.to.now (request_of c.args.request.now) c.in_ok-configuration.configuration c.in_ok-recorded.recorded _ _ _ c.in_ok-recorded.ensures c.in_ok-configuration.ensures.is c.judge.ensures.judged

@@ -1,0 +1,103 @@
+// The component that passes messages on, without configuration files.
+ghost use Rattle.std.specs.Prelude.{◌≡◌, ◌≤◌, [], ◌∷◌, length, IfOk, IsOkUnless};
+ghost use Rattle.cy_sched.specs.SchedFile.{IsPlaceable};
+ghost use Rattle.cy_replay.specs.Passing.{pass_component as component_of, pass_config as config_of};
+ghost use Rattle.cy_replay.specs.Passing.{PassIsWired, passing, type_read};
+ghost use Rattle.cy_replay.specs.Steps.{configured};
+
+use crate::read::default_scheduler;
+use crate::recording::channel_named;
+use crate::{Configuration, SetupError};
+use cy_comp::Kind;
+use cy_dag::{Config, Dag, DagComponent, DagReader};
+use cy_msg::{Items, Text};
+use cy_reader::Record;
+use std::alloc::Global;
+
+// The type that a record has for a channel.
+fn type_of(alloc: Global, recorded: &Record, channel: &str) -> Result<Text, SetupError>
+    ensures is { IfOk result (λ t. t ≡ type_read recorded.now channel.now) }
+    ensures only_memory { IsOkUnless result SetupError.Memory }
+{
+    let message_type = match channel_named(recorded, channel) {
+        Some(known) => known.message_type.as_str(),
+        None => "",
+    };
+    Ok(Text::new(alloc, message_type)?)
+}
+
+// The component, as a DAG file has it.
+fn pass_component(alloc: Global, from: &str) -> Result<DagComponent, SetupError>
+    ensures is { IfOk result (λ c. c ≡ component_of from.now) }
+    ensures only_memory { IsOkUnless result SetupError.Memory }
+{
+    let reader = DagReader {
+        channel: Text::new(alloc, from)?,
+        queue: 1,
+    };
+    Ok(DagComponent {
+        class_name: Text::new(alloc, "PassComponent")?,
+        name: Text::new(alloc, "pass")?,
+        config_file_path: Text::new(alloc, "pass")?,
+        readers: Items::new(vec![in alloc; reader]?),
+    })
+}
+
+// It alone.
+#[tactic(auto, using(crate::proofs::PassTested::tested, crate::proofs::PassTested::queues))]
+fn pass_dag(alloc: Global, from: &str) -> Result<Dag, SetupError>
+    requires { 1 ≤ length from.now }
+    ensures components { IfOk result (λ dag. dag.components ≡ component_of from.now ∷ []) }
+    ensures unknown { IfOk result (λ dag. dag.unknown ≡ []) }
+    ensures only_memory { IsOkUnless result SetupError.Memory }
+{
+    let component = pass_component(alloc, from)?;
+    Ok(Dag {
+        components: Items::new(vec![in alloc; component]?),
+        unknown: Items::new(Vec::new(alloc)),
+    })
+}
+
+// What a component file says of it.
+fn pass_config(alloc: Global, to: &str, message_type: Text) -> Result<Config, SetupError>
+    ensures is { IfOk result (λ c. c ≡ config_of to.now message_type) }
+    ensures only_memory { IsOkUnless result SetupError.Memory }
+{
+    Ok(Config {
+        kind: Kind::Pass,
+        out: Text::new(alloc, to)?,
+        out_type: message_type,
+        unknown: Items::new(Vec::new(alloc)),
+    })
+}
+
+/// What configuration files would say of one component that passes the messages of a channel on to
+/// another, in the type that a record has for the first.
+#[tactic(auto, using(crate::proofs::PassTested::fit))]
+pub(crate) fn pass_configuration(
+    alloc: Global,
+    from: &str,
+    to: &str,
+    recorded: &Record,
+) -> Result<Configuration, SetupError>
+    requires { 1 ≤ length from.now }
+    ensures is { IfOk result (λ c. configured c
+        ≡ passing from.now to.now (type_read recorded.now from.now)) }
+    ensures placeable { IfOk result (λ c. IsPlaceable c.sched) }
+    ensures only_memory { IsOkUnless result SetupError.Memory }
+{
+    let message_type = type_of(alloc, recorded, from)?;
+    let config = pass_config(alloc, to, message_type)?;
+    let sched = default_scheduler(alloc)?;
+    Ok(Configuration {
+        dag: pass_dag(alloc, from)?,
+        configs: Items::new(vec![in alloc; config]?),
+        sched,
+    })
+}
+
+/// The component that passes messages on is wired over the channels of any record, where its two
+/// channels differ; nothing but too many channels refuses it. Proved here, and nothing to run.
+pub fn pass_is_wired()
+    ensures { PassIsWired }
+{}
