@@ -7,3 +7,10 @@ pub mod Refusals
 pub mod Playing
 pub mod Keeping
 pub mod Telling
+pub mod TextNames
+pub mod TextSections
+pub mod TextMet
+pub mod TextFits
+pub mod TextParts
+pub mod TextRead
+pub mod TextTold

@@ -10,3 +10,4 @@ pub mod Uses
 pub mod Kept
 pub mod Info
 pub mod Facts
+pub mod ReadBack

@@ -1,6 +1,6 @@
 -- What the program keeps of a file while it reads it.
 use Rattle.std.specs.Prelude.{◌≡◌, ◌⊎◌, ℕ, ◌≤◌, ◌<◌, ◌^◌, All, List, length, take, drop, map}
-use Rattle.std.specs.Prelude.{sum_by, Result, Ok, Err}
+use Rattle.std.specs.Prelude.{sum_by, Some, Result, Ok, Err}
 use Rattle.std.specs.HashMap.{get_by_text}
 use Rattle.cy_reader.specs.declared.error.LoadError.{LoadError}
 use Rattle.cy_reader.specs.declared.error.LoadError.TheVariants as load_error
@@ -21,6 +21,19 @@ pub record AreSmall (channels : List Known) : Type 0 where
 abbrev pub IsTied : Channels → Type 0
 IsTied channels = (name : List ℕ) → get_by_text channels.numbers name
     ≡ number_of name channels.list.items
+
+-- The channels once one more was met: within their limits, with a number for each name, and none is
+-- lost.
+pub record Grows (old new : Channels) : Type 0 where
+  pub small : AreSmall new.list.items
+  pub tied : IsTied new
+  pub grown : length old.list.items ≤ length new.list.items
+
+-- The same where a message named one, whose number is answered.
+pub record Mentions (name : List ℕ) (old new : Channels) (n : ℕ) : Type 0 where
+  pub grows : Grows old new
+  pub number : number_of name new.list.items ≡ Some n
+  pub below : n < length new.list.items
 
 -- What is kept of a file at any moment: fewer messages than 32 bits count, each on a channel that
 -- is kept.

@@ -1,7 +1,9 @@
 -- What becomes of the messages of each channel, as it is found once for all of them.
-use Rattle.std.specs.Prelude.{◌≡◌, ℕ, ◌<◌, ◌==◌, Bool, false, not, ◌&&◌, List, length, filter}
-use Rattle.std.specs.Prelude.{slice_index_or}
+use Rattle.std.specs.Prelude.{◌≡◌, ℕ, ◌+◌, ◌<◌, ◌==◌, Bool, false, not, ◌&&◌, List, [], ◌∷◌, ◌++◌}
+use Rattle.std.specs.Prelude.{length, filter, slice_index_or}
 use Rattle.std.specs.List.{list_any}
+use Rattle.std.specs.List.Sorted.{IsSortedByKey, IsStableByKey}
+use Rattle.std.specs.Ordering.{nat_cmp}
 use Rattle.cy_reader.specs.declared.filter.Filter.{Filter}
 use Rattle.cy_reader.specs.declared.play.ChannelUse.{ChannelUse}
 use Rattle.cy_reader.specs.Record.{Contents}
@@ -49,3 +51,21 @@ played_by uses f whole places = filter (is_played_by uses f whole) places
 
 abbrev pub shadowed_by : List ChannelUse → Filter → Contents → List ℕ → ℕ
 shadowed_by uses f whole places = length (filter (is_shadowed_by uses f whole) places)
+
+-- These are the places of those that are played, of some that were looked at, and so many of them
+-- are shadowed.
+pub record ArePassed (uses : List ChannelUse) (f : Filter) (whole : Contents) (looked found : List ℕ)
+    (count : ℕ) : Type 0 where
+  pub places : found ≡ played_by uses f whole looked
+  pub shadowed : count ≡ shadowed_by uses f whole looked
+
+-- A place more was looked at.
+pub record LooksAt (uses : List ChannelUse) (f : Filter) (whole : Contents) (place : ℕ)
+    (old new : List ℕ) (before after : ℕ) : Type 0 where
+  pub places : new ≡ old ++ played_by uses f whole (place ∷ [])
+  pub shadowed : after ≡ before + shadowed_by uses f whole (place ∷ [])
+
+-- Places in the order of their times, and equal times as they stood.
+pub record AreInOrder (whole : Contents) (old new : List ℕ) : Type 0 where
+  pub by_time : IsSortedByKey (time_at whole) nat_cmp new
+  pub stable : IsStableByKey (time_at whole) nat_cmp old new

@@ -4,7 +4,7 @@ ghost use Rattle.std.specs.Prelude.{sum_by, slice_get, IfOk, IfErr, OnOk, IsOkUn
 ghost use Rattle.std.specs.Prelude.{Ok, true};
 ghost use Rattle.cy_reader.specs.Record.{size_of, number_of, within_limits, named_only};
 ghost use Rattle.cy_reader.specs.Record.{channel_given, name_mentioned};
-ghost use Rattle.cy_reader.specs.Loading.{AreSmall, IsTied, Leads};
+ghost use Rattle.cy_reader.specs.Loading.{AreSmall, IsTied, Grows, Mentions, Leads};
 
 use crate::LoadError;
 use crate::known::Known;
@@ -82,10 +82,7 @@ fn add(alloc: Global, channels: &mut Channels, known: Known) -> Result<(), LoadE
     requires fresh { number_of known.channel.name channels.old.list.items ≡ None }
     ensures list { Leads result channels.new.list.items
         (within_limits (channels.old.list.items ++ known ∷ [])) }
-    ensures still_small { OnOk result (AreSmall channels.new.list.items) }
-    ensures still_tied { OnOk result (IsTied channels.new) }
-    ensures grown { OnOk result
-        (length channels.old.list.items ≤ length channels.new.list.items) }
+    ensures kept { OnOk result (Grows channels.old channels.new) }
     ensures not_store { IfErr result (λ e. e ≢ LoadError.Store) }
 {
     if channels.list.len() == MOST_CHANNELS {
@@ -111,10 +108,7 @@ fn replace(channels: &mut Channels, number: u32, known: Known) -> Result<(), Loa
     requires there { number_of known.channel.name channels.old.list.items ≡ Some number }
     ensures list { Leads result channels.new.list.items
         (within_limits (set channels.old.list.items number known)) }
-    ensures still_small { OnOk result (AreSmall channels.new.list.items) }
-    ensures still_tied { OnOk result (IsTied channels.new) }
-    ensures grown { OnOk result
-        (length channels.old.list.items ≤ length channels.new.list.items) }
+    ensures kept { OnOk result (Grows channels.old channels.new) }
     ensures not_store { IfErr result (λ e. e ≢ LoadError.Store) }
 {
     let place = number as usize;
@@ -139,10 +133,7 @@ pub(crate) fn give(
     requires size { size_of record { channel = channel; has_section = true } < 2 ^ 62 }
     ensures list { Leads result channels.new.list.items
         (channel_given channel channels.old.list.items) }
-    ensures still_small { OnOk result (AreSmall channels.new.list.items) }
-    ensures still_tied { OnOk result (IsTied channels.new) }
-    ensures grown { OnOk result
-        (length channels.old.list.items ≤ length channels.new.list.items) }
+    ensures kept { OnOk result (Grows channels.old channels.new) }
     ensures not_store { IfErr result (λ e. e ≢ LoadError.Store) }
 {
     let count = channel.name.as_str().len() as u64;
@@ -184,12 +175,7 @@ pub(crate) fn mention(alloc: Global, channels: &mut Channels, name: &str) -> Res
     requires tied { IsTied channels.old }
     ensures list { Leads result channels.new.list.items
         (name_mentioned name.now channels.old.list.items) }
-    ensures number { IfOk result (λ n. number_of name.now channels.new.list.items ≡ Some n) }
-    ensures below { IfOk result (λ n. n < length channels.new.list.items) }
-    ensures still_small { OnOk result (AreSmall channels.new.list.items) }
-    ensures still_tied { OnOk result (IsTied channels.new) }
-    ensures grown { OnOk result
-        (length channels.old.list.items ≤ length channels.new.list.items) }
+    ensures kept { IfOk result (λ n. Mentions name.now channels.old channels.new n) }
     ensures not_store { IfErr result (λ e. e ≢ LoadError.Store) }
 {
     let count = name.len() as u64;

@@ -1,7 +1,8 @@
 // Reads the header of a record's file.
 ghost use Rattle.std.specs.Prelude.{◌≡◌, ◌<◌, ◌≤◌, ◌+◌, length, take, drop, IfOk, IfErr, ◌≢◌};
 ghost use Rattle.cy_msg.specs.Answer.{Answers};
-ghost use Rattle.cy_reader.specs.Record.{fields_header, file_header, longest_file, header_end};
+ghost use Rattle.cy_reader.specs.Kept.{HasLength};
+ghost use Rattle.cy_reader.specs.Record.{fields_header, file_header};
 
 use crate::LoadError;
 use byteorder::{ByteOrder, LittleEndian};
@@ -29,8 +30,7 @@ fn uncompressed_header(file: &[u8], size: usize) -> Result<Header, LoadError>
 #[tactic(auto, unfolding(crate::specs::Record::file_header))]
 pub(crate) fn file_header(file: &[u8]) -> Result<Header, LoadError>
     ensures header { Answers (λ header. header) result (file_header file.now) }
-    ensures long { IfOk result (λ _. header_end ≤ length file.now) }
-    ensures short { IfOk result (λ _. length file.now ≤ longest_file) }
+    ensures sized { IfOk result (λ _. HasLength file.now) }
     ensures not_store { IfErr result (λ e. e ≢ LoadError.Store) }
 {
     let count = file.len() as u64;

@@ -3,11 +3,10 @@ ghost use Rattle.std.specs.Prelude.{◌≡◌, ◌≤◌, ◌+◌, length, drop,
 ghost use Rattle.std.specs.Option.{option_map};
 ghost use Rattle.byteorder.specs.Endian.{little_number};
 ghost use Rattle.cy_reader.specs.Found.{seen_section};
-ghost use Rattle.cy_reader.specs.Heads.{whole_at, end_of, index_at, header_head, whole_heads};
+ghost use Rattle.cy_reader.specs.Heads.{whole_at, index_at, header_head, whole_heads};
 ghost use Rattle.cy_reader.specs.Heads.{heads_of};
-ghost use Rattle.cy_reader.specs.Kept.{seen_index};
+ghost use Rattle.cy_reader.specs.Kept.{EndsThere, seen_index};
 ghost use Rattle.cy_reader.specs.Record.{header_end};
-ghost use Rattle.cy_reader.specs.Sections.{sections_from};
 ghost use Rattle.cy_reader.specs.Stands.{Stands};
 
 use crate::LoadError;
@@ -99,9 +98,7 @@ fn header_head(file: &[u8]) -> PlacedHead
 fn whole_heads(alloc: Global, file: &[u8]) -> Result<Walk, LoadError>
     requires { header_end ≤ length file.now }
     ensures heads { IfOk result (λ w. w.heads.items ≡ whole_heads file.now header_end) }
-    ensures end { IfOk result (λ w. w.end ≡ end_of header_end
-        (sections_from file.now header_end).sections) }
-    ensures inside { IfOk result (λ w. w.end ≤ length file.now) }
+    ensures ends { IfOk result (λ w. EndsThere file.now w.end) }
     ensures only_memory { IsOkUnless result LoadError.Memory }
 {
     let mut heads = Vec::new(alloc);
@@ -123,9 +120,7 @@ fn whole_heads(alloc: Global, file: &[u8]) -> Result<Walk, LoadError>
 pub(crate) fn heads_of(alloc: Global, file: &[u8]) -> Result<Walk, LoadError>
     requires { header_end ≤ length file.now }
     ensures heads { IfOk result (λ w. w.heads.items ≡ heads_of file.now header_end) }
-    ensures end { IfOk result (λ w. w.end ≡ end_of header_end
-        (sections_from file.now header_end).sections) }
-    ensures inside { IfOk result (λ w. w.end ≤ length file.now) }
+    ensures ends { IfOk result (λ w. EndsThere file.now w.end) }
     ensures only_memory { IsOkUnless result LoadError.Memory }
 {
     let mut walk = whole_heads(alloc, file)?;

@@ -3,7 +3,8 @@
 //!
 //! `specs/Sections` splits a file into whole sections, and `specs/Record` says what they hold
 //! together. `specs/Play` says which messages are played, and in which order, and `specs/Info` has
-//! the text that tells what a record is.
+//! the text that tells what a record is. `specs/ReadBack` says that what a record's text
+//! says is read back.
 #![tactic(auto)]
 
 mod channels;
@@ -14,6 +15,7 @@ mod header;
 mod heads;
 mod info;
 mod known;
+mod laws;
 mod loading;
 mod play;
 mod record;
@@ -24,4 +26,5 @@ pub use facts::{Counted, IndexFound};
 pub use filter::{ChannelSet, Filter};
 pub use heads::PlacedHead;
 pub use known::Known;
+pub use laws::records_read_back;
 pub use record::{Record, load};

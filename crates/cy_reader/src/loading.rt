@@ -4,7 +4,7 @@ ghost use Rattle.cy_msg.specs.Answer.{AnswersOr};
 ghost use Rattle.cy_section.specs.Messages.{seen};
 ghost use Rattle.cy_reader.specs.Record.{message_met, body_met};
 ghost use Rattle.cy_reader.specs.Record.{section_met, sections_met, parts_of, header_end, nothing};
-ghost use Rattle.cy_reader.specs.Record.{longest_file};
+ghost use Rattle.cy_reader.specs.Kept.{IsLoaded};
 ghost use Rattle.cy_reader.specs.Loading.{IsSound, Leads, Kept, met_of};
 ghost use Rattle.cy_reader.specs.Stands.{Stands};
 ghost use Rattle.cy_reader.specs.Sections.{sections_from};
@@ -178,9 +178,7 @@ fn sections_met(alloc: Global, file: &[u8]) -> Result<Loading, LoadError>
 pub(crate) fn read_record(alloc: Global, file: &[u8]) -> Result<(Header, Loading), LoadError>
     ensures parts { AnswersOr LoadError.Memory (λ x. (x.0, met_of file.now x.1)) result
         (parts_of file.now) }
-    ensures sound { IfOk result (λ x. IsSound x.1) }
-    ensures long { IfOk result (λ _. header_end ≤ length file.now) }
-    ensures short { IfOk result (λ _. length file.now ≤ longest_file) }
+    ensures loaded { IfOk result (λ x. IsLoaded file.now x.1) }
     ensures not_store { IfErr result (λ e. e ≢ LoadError.Store) }
 {
     let header = file_header(file)?;

@@ -2,13 +2,12 @@
 ghost use Rattle.std.specs.Prelude.{◌≡◌, ◌≤◌, ◌<◌, ◌+◌, ◌^◌, ◌++◌, ℕ, [], ◌∷◌, All, length};
 ghost use Rattle.std.specs.Prelude.{IfOk, OnOk, IsOkUnless};
 ghost use Rattle.std.specs.List.{Contains};
-ghost use Rattle.std.specs.List.Sorted.{IsPermutation, IsSortedByKey, IsStableByKey};
-ghost use Rattle.std.specs.Ordering.{nat_cmp};
+ghost use Rattle.std.specs.List.Sorted.{IsPermutation};
 ghost use Rattle.cy_msg.specs.Once.{IsOnce};
 ghost use Rattle.cy_reader.specs.Play.{AreNamed, PlayAnswer, all_places, time_at, number_in};
 ghost use Rattle.cy_reader.specs.Play.{message_at, tokens_behind};
-ghost use Rattle.cy_reader.specs.Uses.{AreUses, use_of, use_at, number_by, played_by};
-ghost use Rattle.cy_reader.specs.Uses.{shadowed_by};
+ghost use Rattle.cy_reader.specs.Uses.{AreUses, use_of, use_at, number_by};
+ghost use Rattle.cy_reader.specs.Uses.{ArePassed, LooksAt, AreInOrder};
 
 use crate::{ChannelSet, Filter, LoadError, Record};
 use cy_msg::{Items, Names, PlayList, Token};
@@ -110,10 +109,8 @@ impl Passed {
         requires all { length uses.now ≡ length whole.now.channels }
         requires few { self.old.shadowed ≤ place }
         requires countable { place + 1 < 2 ^ 32 }
-        ensures places { OnOk result (self.new.places.items ≡ self.old.places.items
-            ++ played_by uses.now filter.now whole.now (place ∷ [])) }
-        ensures shadowed { OnOk result (self.new.shadowed ≡ self.old.shadowed
-            + shadowed_by uses.now filter.now whole.now (place ∷ [])) }
+        ensures looked { OnOk result (LooksAt uses.now filter.now whole.now place
+            self.old.places.items self.new.places.items self.old.shadowed self.new.shadowed) }
         ensures below { (message_at whole.now place).channel < length whole.now.channels }
         ensures only_memory { IsOkUnless result LoadError.Memory }
     {
@@ -141,10 +138,8 @@ fn passing(
     filter: &Filter,
 ) -> Result<Passed, LoadError>
     requires { length uses.now ≡ length whole.now.channels }
-    ensures places { IfOk result (λ p. p.places.items
-        ≡ played_by uses.now filter.now whole.now (all_places whole.now)) }
-    ensures shadowed { IfOk result (λ p. p.shadowed
-        ≡ shadowed_by uses.now filter.now whole.now (all_places whole.now)) }
+    ensures passed { IfOk result (λ p. ArePassed uses.now filter.now whole.now
+        (all_places whole.now) p.places.items p.shadowed) }
     ensures below { OnOk result ((n : ℕ) → n < length whole.now.messages
         → (message_at whole.now n).channel < length whole.now.channels) }
     ensures only_memory { IsOkUnless result LoadError.Memory }
@@ -162,9 +157,7 @@ fn passing(
 // Puts places in the order of their times: equal times stay in file order.
 fn sort(whole: &Record, places: &mut Vec<u32>) -> Result<(), LoadError>
     ensures same { IsPermutation places.old.items places.new.items }
-    ensures by_time { OnOk result (IsSortedByKey (time_at whole.now) nat_cmp places.new.items) }
-    ensures stable { OnOk result (IsStableByKey (time_at whole.now) nat_cmp places.old.items
-        places.new.items) }
+    ensures order { OnOk result (AreInOrder whole.now places.old.items places.new.items) }
     ensures only_memory { IsOkUnless result LoadError.Memory }
 {
     places.sort_by_key(|place| whole.time_at(*place))?;

@@ -16,7 +16,7 @@ pub entries_of-other : (field : WireField) (rest : Fields) → span_in 1 field �
 unfolding entries_of
 entries_of-other field rest e = rw e refl
 
-entries_of-entry : (field : WireField) (rest : Fields) (span : WireSpan) → span_in 1 field ≡ Some span
+pub entries_of-entry : (field : WireField) (rest : Fields) (span : WireSpan) → span_in 1 field ≡ Some span
     → entries_of (with_field field rest) ≡ entry_at span >>= λ first. entries_of rest >>= λ others. Ok (first ∷ others)
 unfolding entries_of
 entries_of-entry field rest span e = rw e refl

@@ -4,3 +4,5 @@ pub mod Numbers
 pub mod Bodies
 pub mod Indexes
 pub mod WrittenRead
+pub mod HeadsRead
+pub mod IndexRead

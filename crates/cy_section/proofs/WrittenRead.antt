@@ -26,15 +26,15 @@ low_number : (n : ℕ) → 1 ≤ n → n ≤ 200 → IsFieldNumber n
 low_number n low high = record { low = low; high = omega arith }
 
 -- a field in front of others
-number_then : (at n v : ℕ) (rest : List ℕ) (fields : Fields) → 1 ≤ n → n ≤ 200 → v < 2 ^ 64 → fields_of (at + length (field_u64 n v)) rest ≡ fields
+pub number_then : (at n v : ℕ) (rest : List ℕ) (fields : Fields) → 1 ≤ n → n ≤ 200 → v < 2 ^ 64 → fields_of (at + length (field_u64 n v)) rest ≡ fields
     → fields_of at (field_u64 n v ++ rest) ≡ with_field (record { number = n; at = at; value = Varint v }) fields
 number_then at n v rest fields low high fits e = fields_of-number at n v rest (low_number n low high) fits ∙ ap (with_field (record { number = n; at = at; value = Varint v })) e
 
-bytes_then : (at n : ℕ) (bytes rest : List ℕ) (fields : Fields) → 1 ≤ n → n ≤ 200 → length bytes < 2 ^ 64 → fields_of (at + length (field_bytes n bytes)) rest ≡ fields
+pub bytes_then : (at n : ℕ) (bytes rest : List ℕ) (fields : Fields) → 1 ≤ n → n ≤ 200 → length bytes < 2 ^ 64 → fields_of (at + length (field_bytes n bytes)) rest ≡ fields
     → fields_of at (field_bytes n bytes ++ rest) ≡ with_field (record { number = n; at = at; value = Bytes (at + (length (field_bytes n bytes) - length bytes)) bytes }) fields
 bytes_then at n bytes rest fields low high fits e = fields_of-bytes at n bytes rest (low_number n low high) fits ∙ ap (with_field _) e
 
-nothing_then : (at : ℕ) → fields_of at [] ≡ no_fields
+pub nothing_then : (at : ℕ) → fields_of at [] ≡ no_fields
 nothing_then at = fields_of-end at [] refl
 
 pub chunk_header_at-body : (at : ℕ) (c : ChunkHeader) → ChunkHeaderFits c → chunk_header_at at (chunk_header_body c) ≡ Ok c
@@ -72,7 +72,7 @@ channel_at-body at c fits =
     ∙ rw (text_of-text name fits.name_is_text, text_of-text type fits.type_is_text) refl
 
 -- the header's numbers, and its truth value as one
-low_half : (n : ℕ) → n < 2 ^ 32 → n < 2 ^ 64
+pub low_half : (n : ℕ) → n < 2 ^ 32 → n < 2 ^ 64
 low_half n h = omega arith
 
 truth_fits : (b : Bool) → truth_number b < 2 ^ 64
@@ -160,11 +160,11 @@ message_field-is : (m : BodyMessage) → message_field m ≡ field_bytes 1 (mess
 unfolding message_field
 message_field-is m = refl
 
-span_is : (at : ℕ) (span : WireSpan) → span_in 1 (record { number = 1; at = at; value = Bytes span.start span.bytes }) ≡ Some span
+pub span_is : (at : ℕ) (span : WireSpan) → span_in 1 (record { number = 1; at = at; value = Bytes span.start span.bytes }) ≡ Some span
 unfolding span_in
 span_is at span = refl
 
-chunk_body_read : (at : ℕ) (ms : List BodyMessage) → AllByRecursion MessageFits ms
+pub chunk_body_read : (at : ℕ) (ms : List BodyMessage) → AllByRecursion MessageFits ms
     → let all = messages_of (fields_of at (chunk_body ms)) in (all.fault ≡ None) × (map (λ m. m.message) all.messages ≡ ms)
 chunk_body_read at [] fits =
     let all : messages_of (fields_of at []) ≡ no_message None = ap messages_of (nothing_then at) ∙ messages_of-end in

@@ -1,5 +1,5 @@
 -- What is written of a section is read of it: the laws, and the bounds that they need.
-use Rattle.std.specs.Prelude.{◌≡◌, ℕ, ◌<◌, ◌^◌, ◌++◌, List, length, Ok}
+use Rattle.std.specs.Prelude.{◌≡◌, ℕ, ◌<◌, ◌^◌, ◌++◌, List, length, Ok, IfSome}
 use Rattle.std.specs.List.{AllByRecursion}
 use Rattle.cy_wire.specs.Wire.{field_u64, field_bytes}
 use Rattle.cy_section.specs.declared.types.BodyMessage.{BodyMessage}
@@ -7,8 +7,17 @@ use Rattle.std.specs.Str.{IsUtf8}
 use Rattle.cy_section.specs.declared.types.Header.{Header}
 use Rattle.cy_section.specs.declared.types.ChunkHeader.{ChunkHeader}
 use Rattle.cy_section.specs.declared.types.Channel.{Channel}
+use Rattle.cy_section.specs.declared.types.ChannelCache.{ChannelCache}
+use Rattle.cy_section.specs.declared.types.ChunkHeaderCache.{ChunkHeaderCache}
+use Rattle.cy_section.specs.declared.types.ChunkBodyCache.{ChunkBodyCache}
+use Rattle.cy_section.specs.declared.types.IndexEntry.{IndexEntry}
+use Rattle.cy_section.specs.declared.types.SectionKind.{SectionKind}
+use Rattle.cy_section.specs.declared.types.Head.{Head}
 use Rattle.cy_section.specs.Section.{header_body, chunk_header_body, chunk_body, channel_body}
-use Rattle.cy_section.specs.Reading.{header_at, chunk_header_at, chunk_body_at, channel_at}
+use Rattle.cy_section.specs.Section.{head_bytes, optional_field, channel_cache_body}
+use Rattle.cy_section.specs.Section.{chunk_header_cache_body, chunk_body_cache_body, index_body}
+use Rattle.cy_section.specs.Head.{head_at}
+use Rattle.cy_section.specs.Reading.{header_at, chunk_header_at, chunk_body_at, channel_at, index_at}
 
 -- Numbers of 32 bits, and of 64.
 pub record HeaderFits (h : Header) : Type 0 where
@@ -54,6 +63,47 @@ pub record MessageFits (m : BodyMessage) : Type 0 where
   pub whole : length (message_bytes m) < 2 ^ 64
   pub name_is_text : IsUtf8 m.channel_name
 
+-- Numbers of 64 bits, texts, and bytes whose number has 64 bits, as the whole cache's has.
+pub record ChannelCacheFits (c : ChannelCache) : Type 0 where
+  pub message_number : c.message_number < 2 ^ 64
+  pub name : length c.name < 2 ^ 64
+  pub message_type : length c.message_type < 2 ^ 64
+  pub proto_desc : length c.proto_desc < 2 ^ 64
+  pub whole : length (channel_cache_body c) < 2 ^ 64
+  pub name_is_text : IsUtf8 c.name
+  pub type_is_text : IsUtf8 c.message_type
+
+pub record ChunkHeaderCacheFits (c : ChunkHeaderCache) : Type 0 where
+  pub message_number : c.message_number < 2 ^ 64
+  pub begin_time : c.begin_time < 2 ^ 64
+  pub end_time : c.end_time < 2 ^ 64
+  pub raw_size : c.raw_size < 2 ^ 64
+
+pub record ChunkBodyCacheFits (c : ChunkBodyCache) : Type 0 where
+  pub message_number : c.message_number < 2 ^ 64
+
+-- The fields of an entry.
+abbrev pub entry_bytes : IndexEntry → List ℕ
+entry_bytes e =
+    field_u64 1 e.kind ++ field_u64 2 e.position
+    ++ optional_field 101 channel_cache_body e.channel_cache
+    ++ optional_field 102 chunk_header_cache_body e.chunk_header_cache
+    ++ optional_field 103 chunk_body_cache_body e.chunk_body_cache
+
+-- An entry, whatever caches it has.
+pub record EntryFits (e : IndexEntry) : Type 0 where
+  pub kind : e.kind < 2 ^ 32
+  pub position : e.position < 2 ^ 64
+  pub channel_cache : IfSome e.channel_cache ChannelCacheFits
+  pub chunk_header_cache : IfSome e.chunk_header_cache ChunkHeaderCacheFits
+  pub chunk_body_cache : IfSome e.chunk_body_cache ChunkBodyCacheFits
+  pub whole : length (entry_bytes e) < 2 ^ 64
+
+-- A head that was written is read, whatever follows it. Its size is a signed number's.
+abbrev pub HeadReadsBack : Type 0
+HeadReadsBack = (at size : ℕ) (kind : SectionKind) (rest : List ℕ) → size < 2 ^ 63
+    → head_at at (head_bytes kind size ++ rest) ≡ Ok (record { kind = kind; size = size })
+
 -- A header that was written is read.
 abbrev pub HeaderReadsBack : Type 0
 HeaderReadsBack = (at : ℕ) (h : Header) → HeaderFits h → header_at at (header_body h) ≡ Ok h
@@ -72,9 +122,16 @@ abbrev pub ChunkBodyReadsBack : Type 0
 ChunkBodyReadsBack = (at : ℕ) (ms : List BodyMessage) → AllByRecursion MessageFits ms
     → chunk_body_at at (chunk_body ms) ≡ Ok ms
 
--- All four of them.
+-- And the entries of an index.
+abbrev pub IndexReadsBack : Type 0
+IndexReadsBack = (at : ℕ) (entries : List IndexEntry) → AllByRecursion EntryFits entries
+    → index_at at (index_body entries) ≡ Ok entries
+
+-- All of them.
 pub record SectionsReadBack : Type 0 where
+  pub head : HeadReadsBack
   pub header : HeaderReadsBack
   pub chunk_header : ChunkHeaderReadsBack
   pub channel : ChannelReadsBack
   pub chunk_body : ChunkBodyReadsBack
+  pub index : IndexReadsBack

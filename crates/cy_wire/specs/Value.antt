@@ -1,5 +1,5 @@
--- Where the bytes of a value end.
-use Rattle.std.specs.Prelude.{ℕ, ◌+◌, length}
+-- Where the bytes of a value end, and how many are taken.
+use Rattle.std.specs.Prelude.{ℕ, ◌+◌, ◌<◌, ◌≤◌, ◌^◌, List, length}
 use Rattle.cy_wire.specs.declared.field.FieldValue.{FieldValue}
 use Rattle.cy_wire.specs.declared.field.FieldValue.TheVariants.{Varint, Eight, Bytes, Four}
 
@@ -9,3 +9,14 @@ end_of (Varint value) = 0
 end_of (Eight value) = 0
 end_of (Bytes start bytes) = start + length bytes.now
 end_of (Four value) = 0
+
+-- What was read at the front of bytes takes so many of them: one at least, and no more than there
+-- are.
+pub record TakesSome (taken : ℕ) (bytes : List ℕ) : Type 0 where
+  pub some : 0 < taken
+  pub within : taken ≤ length bytes
+
+-- A value that was read there: its own bytes end at a place of 64 bits.
+pub record IsInside (value : FieldValue) (taken : ℕ) (bytes : List ℕ) : Type 0 where
+  pub fits : end_of value < 2 ^ 64
+  pub within : taken ≤ length bytes

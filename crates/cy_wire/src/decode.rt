@@ -1,7 +1,7 @@
 // Reads the field at the front of bytes.
-ghost use Rattle.std.specs.Prelude.{◌≡◌, ◌≢◌, ◌+◌, ◌<◌, ◌≤◌, ◌^◌, length, IfOk, IfErr};
+ghost use Rattle.std.specs.Prelude.{◌≡◌, ◌≢◌, ◌+◌, ◌<◌, ◌^◌, length, IfOk, IfErr};
 ghost use Rattle.cy_msg.specs.Answer.{Answers};
-ghost use Rattle.cy_wire.specs.Value.{end_of};
+ghost use Rattle.cy_wire.specs.Value.{IsInside, TakesSome};
 ghost use Rattle.cy_wire.specs.Field.{wire_type, value_at, field_at, bytes_at};
 ghost use Rattle.cy_wire.specs.Field.{seen, seen_value};
 
@@ -28,9 +28,8 @@ fn type_of(tag: u64, at: u64) -> Result<u64, WireError>
 #[tactic(auto, unfolding(crate::specs::Field::bytes_at))]
 fn block_at<'a>(bytes: &'a [u8], at: u64) -> Result<(FieldValue<'a>, usize), WireError>
     requires { at + length bytes.now < 2 ^ 64 }
-    ensures fits { IfOk result (λ x. end_of x.0 < 2 ^ 64) }
     ensures value { Answers (λ x. (seen_value x.0, x.1)) result (bytes_at at bytes.now) }
-    ensures within { IfOk result (λ x. x.1 ≤ length bytes.now) }
+    ensures inside { IfOk result (λ x. IsInside x.0 x.1 bytes.now) }
     ensures not_memory { IfErr result (λ e. e ≢ WireError.Memory) }
 {
     let (size, taken) = varint_at(bytes, at)?;
@@ -47,9 +46,8 @@ fn block_at<'a>(bytes: &'a [u8], at: u64) -> Result<(FieldValue<'a>, usize), Wir
 #[tactic(auto, unfolding(crate::specs::Field::value_at, crate::specs::Field::number_at))]
 fn value_of<'a>(kind: u64, bytes: &'a [u8], at: u64) -> Result<(FieldValue<'a>, usize), WireError>
     requires { at + length bytes.now < 2 ^ 64 }
-    ensures fits { IfOk result (λ x. end_of x.0 < 2 ^ 64) }
     ensures value { Answers (λ x. (seen_value x.0, x.1)) result (value_at kind at bytes.now) }
-    ensures within { IfOk result (λ x. x.1 ≤ length bytes.now) }
+    ensures inside { IfOk result (λ x. IsInside x.0 x.1 bytes.now) }
     ensures not_memory { IfErr result (λ e. e ≢ WireError.Memory) }
 {
     match kind {
@@ -70,8 +68,7 @@ fn value_of<'a>(kind: u64, bytes: &'a [u8], at: u64) -> Result<(FieldValue<'a>, 
 pub(crate) fn field_of<'a>(bytes: &'a [u8], at: u64) -> Result<(Field<'a>, usize), WireError>
     requires { at + length bytes.now < 2 ^ 64 }
     ensures field { Answers (λ x. (seen x.0, x.1)) result (field_at at bytes.now) }
-    ensures some { IfOk result (λ x. 0 < x.1) }
-    ensures within { IfOk result (λ x. x.1 ≤ length bytes.now) }
+    ensures taken { IfOk result (λ x. TakesSome x.1 bytes.now) }
     ensures not_memory { IfErr result (λ e. e ≢ WireError.Memory) }
 {
     let (tag, tag_size) = varint_at(bytes, at)?;

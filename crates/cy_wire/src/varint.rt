@@ -1,5 +1,6 @@
 // Reads the number at the front of bytes.
-ghost use Rattle.std.specs.Prelude.{◌≡◌, ◌≢◌, ◌≤◌, ◌<◌, length, IfOk, IfErr};
+ghost use Rattle.std.specs.Prelude.{◌≡◌, ◌≢◌, IfOk, IfErr};
+ghost use Rattle.cy_wire.specs.Value.{TakesSome};
 ghost use Rattle.cy_wire.specs.Varint.{varint_at};
 
 use crate::WireError;
@@ -8,8 +9,7 @@ use crate::writer::LONGEST;
 // The number at the front of bytes that stand at a place, and how many bytes it takes.
 pub(crate) fn varint_at(bytes: &[u8], at: u64) -> Result<(u64, usize), WireError>
     ensures number { result ≡ varint_at at bytes.now }
-    ensures some { IfOk result (λ x. 0 < x.1) }
-    ensures within { IfOk result (λ x. x.1 ≤ length bytes.now) }
+    ensures taken { IfOk result (λ x. TakesSome x.1 bytes.now) }
     ensures not_memory { IfErr result (λ e. e ≢ WireError.Memory) }
 {
     let mut value = 0u64;

@@ -46,8 +46,11 @@ returns-clause-heads c =
     let less = one_less inv.more (omega (arith, inv.fuel)) in
     heads_end c.loop-section.heads.items _ _ (none_found_there less.0 c.args.file.now c.loop-section.at (sym c.in_default.ensures.section)) (rw less.1 at inv.heads)
 
-pub returns-clause-end : goal.returns-clause-end
-returns-clause-end c =
+pub returns-clause-ends : goal.returns-clause-ends
+returns-clause-ends c =
     let inv = c.loop-section.invariant in
     let less = one_less inv.more (omega (arith, inv.fuel)) in
-    end_there c.loop-section.at _ _ (none_found_there less.0 c.args.file.now c.loop-section.at (sym c.in_default.ensures.section)) (rw less.1 at inv.end)
+    record {
+      end = end_there c.loop-section.at _ _ (none_found_there less.0 c.args.file.now c.loop-section.at (sym c.in_default.ensures.section)) (rw less.1 at inv.end);
+      inside = inv.inside;
+    }

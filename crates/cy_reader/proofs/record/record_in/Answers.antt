@@ -23,4 +23,4 @@ returns-clause-record_of c =
     kept_is c.args.name.now c.args.file c.from_string-name.result header (met_of c.args.file loading) c.in_ok-walk.walk.heads.items c.in_ok-walk.walk.end
     (subst P c.as_slice.ensures c.in_ok-header.ensures.parts) (c.from_string-name.ensures ∙ c.in_ok-from_str.ensures.ok)
     (c.in_ok-walk.ensures.heads ∙ ap (λ (file : List ℕ). heads_of file header_end) c.as_slice-2.ensures)
-    (c.in_ok-walk.ensures.end ∙ ap (λ (file : List ℕ). end_of header_end (sections_from file header_end).sections) c.as_slice-2.ensures)
+    (c.in_ok-walk.ensures.ends.end ∙ ap (λ (file : List ℕ). end_of header_end (sections_from file header_end).sections) c.as_slice-2.ensures)

@@ -18,7 +18,7 @@ returns-then-len-gt-MOST_PLAYED c =
     let below = c.in_ok-places.ensures.below in
     let places = c.in_ok-places.field-0.places.items in
     let P : List ChannelUse → Type 0 = λ us. places ≡ played_by us c.args.filter.now whole (all_places whole) in
-    let is : places ≡ chosen whole choice = subst P c.deref.ensures.value c.in_ok-places.ensures.places ∙ played-is whole choice uses are below in
+    let is : places ≡ chosen whole choice = subst P c.deref.ensures.value c.in_ok-places.ensures.passed.places ∙ played-is whole choice uses are below in
     let size : c.len-then-len-gt-MOST_PLAYED.result ≡ length places = search rules in
     let count : c.len-then-len-gt-MOST_PLAYED.result ≡ length (chosen whole choice) = size ∙ ap length is in
     let long : most_played < length places = search rules in
@@ -37,7 +37,7 @@ tokens_of-requires-clause-numbers c =
     let below = c.in_ok-places.ensures.below in
     let places = c.in_ok-places.field-0.places.items in
     let P : List ChannelUse → Type 0 = λ us. places ≡ played_by us c.args.filter.now whole (all_places whole) in
-    let is : places ≡ chosen whole choice = subst P c.deref.ensures.value c.in_ok-places.ensures.places ∙ played-is whole choice uses are below in
+    let is : places ≡ chosen whole choice = subst P c.deref.ensures.value c.in_ok-places.ensures.passed.places ∙ played-is whole choice uses are below in
     let all = numbers-below whole choice uses are c.requires c.count-count.ensures.once in
     let Q : ℕ → Type 0 = λ n. All (λ (u : ChannelUse). u.number < n) uses in
     subst (λ (us : List ChannelUse). All (λ (u : ChannelUse). u.number < c.count-count.result) us) (sym c.deref-2.ensures.value) (subst Q (sym c.count-count.ensures.count) all)
@@ -51,7 +51,7 @@ tokens_of-requires-clause-there c =
     let below = c.in_ok-places.ensures.below in
     let places = c.in_ok-places.field-0.places.items in
     let P : List ChannelUse → Type 0 = λ us. places ≡ played_by us c.args.filter.now whole (all_places whole) in
-    let is : places ≡ chosen whole choice = subst P c.deref.ensures.value c.in_ok-places.ensures.places ∙ played-is whole choice uses are below in
+    let is : places ≡ chosen whole choice = subst P c.deref.ensures.value c.in_ok-places.ensures.passed.places ∙ played-is whole choice uses are below in
     let sorted = c.sort.new.places.items in
     let moved = subst (λ (ps : List ℕ). IsPermutation ps sorted) is c.in_ok-sort.ensures.same in
     subst (λ (ps : List ℕ). All (λ (p : ℕ). p < length whole.messages) ps) (sym c.deref-3.ensures.value) (places-inside whole choice uses are below sorted moved)
@@ -69,7 +69,7 @@ invariant_of-result c =
     let number : ℕ → ℕ = number_by c.deref-2.result.now whole in
     let places = c.deref-3.result.now in
     let tokens : c.new.result ≡ tokens_behind number whole [] places = c.new.ensures ∙ c.in_ok-tokens.ensures.tokens in
-    let by_time = subst (IsSortedByKey (time_at whole) nat_cmp) (sym c.deref-3.ensures.value) c.in_ok-sort.ensures.by_time in
+    let by_time = subst (IsSortedByKey (time_at whole) nat_cmp) (sym c.deref-3.ensures.value) c.in_ok-sort.ensures.order.by_time in
     record {
       timed = timed number whole places c.new.result by_time tokens;
       numbered = numbered number whole places c.new.result tokens;
@@ -85,10 +85,10 @@ returns c =
     let below = c.in_ok-places.ensures.below in
     let places = c.in_ok-places.field-0.places.items in
     let P : List ChannelUse → Type 0 = λ us. places ≡ played_by us c.args.filter.now whole (all_places whole) in
-    let is : places ≡ chosen whole choice = subst P c.deref.ensures.value c.in_ok-places.ensures.places ∙ played-is whole choice uses are below in
+    let is : places ≡ chosen whole choice = subst P c.deref.ensures.value c.in_ok-places.ensures.passed.places ∙ played-is whole choice uses are below in
     let sorted = c.sort.new.places.items in
     let few : length places ≤ most_played = search rules in
     let R : List ChannelUse → List ℕ → Type 0 = λ us ps. c.new.result ≡ tokens_behind (number_by us whole) whole [] ps in
     let tokens = subst (λ (ps : List ℕ). R uses ps) c.deref-3.ensures.value (subst (λ (us : List ChannelUse). R us c.deref-3.result.now) c.deref-2.ensures.value (c.new.ensures ∙ c.in_ok-tokens.ensures.tokens)) in
-    let shadowed = subst (λ (us : List ChannelUse). c.in_ok-places.field-0.shadowed ≡ shadowed_by us c.args.filter.now whole (all_places whole)) c.deref.ensures.value c.in_ok-places.ensures.shadowed in
-    answered whole choice uses places sorted _ are below is c.in_ok-sort.ensures.same c.in_ok-sort.ensures.by_time c.in_ok-sort.ensures.stable c.new-2.ensures tokens shadowed few
+    let shadowed = subst (λ (us : List ChannelUse). c.in_ok-places.field-0.shadowed ≡ shadowed_by us c.args.filter.now whole (all_places whole)) c.deref.ensures.value c.in_ok-places.ensures.passed.shadowed in
+    answered whole choice uses places sorted _ are below is c.in_ok-sort.ensures.same c.in_ok-sort.ensures.order.by_time c.in_ok-sort.ensures.order.stable c.new-2.ensures tokens shadowed few
