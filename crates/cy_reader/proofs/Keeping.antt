@@ -1,5 +1,5 @@
 -- What a record keeps of its file is what it shows of it.
-use Rattle.std.proofs.Common.{◌≡◌, ◌≢◌, ℕ, zero, suc, ◌+◌, List, [], ◌∷◌, ◌++◌, length, refl, sym, ap, ◌∙◌, append_assoc, append-nil, inl, inr, Option, Some, None, Result, Ok, Err, arith, IfErr}
+use Rattle.std.proofs.Common.{◌≡◌, ◌≢◌, ℕ, suc, ◌+◌, List, [], ◌∷◌, ◌++◌, length, refl, sym, ap, ◌∙◌, append_assoc, append-nil, inl, inr, Option, Some, None, Result, Ok, Err, arith, IfErr}
 use Rattle.std.specs.Prelude.{map, min, take, drop, ◌-◌, ◌≤◌}
 use Rattle.std.proofs.lemmas.List.{take_min, length-drop}
 use Rattle.std.proofs.lemmas.Bool.{le-ltb}
@@ -14,7 +14,7 @@ use Rattle.cy_reader.specs.declared.error.LoadError.TheVariants.{Store, Memory}
 use Rattle.cy_reader.specs.declared.heads.PlacedHead.{PlacedHead}
 use Rattle.cy_reader.specs.Sections.{WholeSection, section_at, sections_in, sections_from, and_those_behind}
 use Rattle.cy_reader.specs.Heads.{PlacedIndex, whole_in, whole_at, end_of, section_head, index_at, index_of, heads_of}
-use Rattle.cy_reader.specs.Record.{◌>>=◌, Met, Source, Contents, shown, parts_of, source_of, record_of, header_end}
+use Rattle.cy_reader.specs.Record.{Met, Contents, shown, parts_of, source_of, record_of, header_end}
 use Rattle.cy_reader.specs.Load.{FileAnswer, LoadAnswer}
 use Rattle.cy_reader.proofs.Refusals.{err_is, no_err}
 

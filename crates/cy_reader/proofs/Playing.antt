@@ -1,14 +1,13 @@
 -- Messages that are played: their places, and their numbers.
-use Rattle.std.proofs.Common.{◌≡◌, ◌≤◌, ◌<◌, ℕ, zero, suc, ◌+◌, List, [], ◌∷◌, ◌++◌, length, take, drop, get_or, refl, ap, sym, ◌∙◌, subst, arith, Some, None, Option, Bool, true, false, not, cond, length-append, All, slice_get, IfSome, set, inl, inr, Ok, append_assoc, append-nil, ltb-false}
-use Rattle.std.specs.Prelude.{filter, nat_lt, ◌==◌, unwrap_or, ◌&&◌, ◌⊎◌}
-use Rattle.std.specs.List.{position, Contains, list_any}
+use Rattle.std.proofs.Common.{◌≡◌, ◌≤◌, ◌<◌, ℕ, zero, suc, ◌+◌, List, [], ◌∷◌, ◌++◌, length, take, get_or, refl, ap, sym, ◌∙◌, subst, arith, Some, None, Option, Bool, true, false, not, cond, length-append, All, slice_get, IfSome, set, inl, inr, Ok, append_assoc, append-nil, ltb-false}
+use Rattle.std.specs.Prelude.{filter, ◌==◌, unwrap_or, ◌&&◌, ◌⊎◌}
+use Rattle.std.specs.List.{position, Contains}
 use Rattle.std.specs.List.Sorted.{IsPermutation, IsSortedByKey, IsStableByKey}
-use Rattle.std.specs.Ordering.{nat_cmp, is_lt}
+use Rattle.std.specs.Ordering.{nat_cmp}
 use Rattle.std.specs.Str.{bytes_eq}
-use Rattle.std.proofs.lemmas.Grind.{common_steps}
 use Rattle.std.proofs.lemmas.Option.{slice_get-get_or, get_or_from_slice_get, none-some, same_Some, slice_get_within}
-use Rattle.std.proofs.lemmas.List.Elements.{All-nil, All-cons, All-head, All-tail, All-append, All-filter, All-weaker, All-push, All-get_or, All-from_get_or, All-take, filter-append}
-use Rattle.std.proofs.lemmas.List.Sorted.{All-permutation, length_permutation, IsNonDecreasingBy-from_sort}
+use Rattle.std.proofs.lemmas.List.Elements.{All-nil, All-head, All-tail, All-filter, All-weaker, All-push, All-get_or, All-from_get_or, filter-append}
+use Rattle.std.proofs.lemmas.List.Sorted.{All-permutation, IsNonDecreasingBy-from_sort}
 use Rattle.std.proofs.lemmas.List.{take_more, get_or-set_same, get_or-set_other, get_or_append_left, get_or_push}
 use Rattle.std.proofs.lemmas.Bool.Decides.{eqb_tells}
 use Rattle.std.proofs.lemmas.List.Filters.{length-filter_more, length-filter_both}

@@ -9,8 +9,6 @@ use Rattle.std.proofs.lemmas.List.Filters.{length-filter_more}
 use Rattle.std.proofs.lemmas.List.{get_or-set_same, get_or-set_other}
 use Rattle.std.proofs.lemmas.Bool.{eqb-true, eqb-false}
 use Rattle.cy_section.specs.Section.{kind_number}
-use Rattle.cy_section.specs.declared.types.IndexEntry.{IndexEntry}
-use Rattle.cy_reader.specs.declared.known.Known.{Known}
 use Rattle.cy_reader.specs.declared.heads.PlacedHead.{PlacedHead}
 use Rattle.cy_reader.specs.declared.loading.Message.{Message}
 use Rattle.cy_reader.specs.declared.facts.Facts.{Facts}
@@ -20,8 +18,8 @@ use Rattle.cy_reader.specs.declared.loading.Loading.{Loading}
 use Rattle.cy_reader.specs.Heads.{PlacedIndex}
 use Rattle.cy_reader.specs.Record.{Contents, Source, shown}
 use Rattle.cy_reader.specs.Loading.{met_of, message_of}
-use Rattle.cy_reader.specs.Info.{least, greatest, numbered, is_head, count_on, channels_of, times_of, counted, channel_line, channel_lines, entry_line, entry_difference, index_differences, file_line, front_lines, index_line, header_differences, counted_of, index_found, info_text}
-use Rattle.cy_reader.specs.Facts.{AreFacts, AreCounts, ArePlaces, counted_line, placed_line, placed_lines, has_head}
+use Rattle.cy_reader.specs.Info.{least, greatest, numbered, is_head, count_on, channels_of, times_of, counted, channel_line, channel_lines, entry_line, entry_difference, index_differences, file_line, front_lines, index_line, header_differences, index_found, info_text}
+use Rattle.cy_reader.specs.Facts.{AreFacts, AreCounts, ArePlaces, counted_line, placed_line, placed_lines}
 use Rattle.cy_reader.proofs.Playing.{filter-short}
 
 -- a further time

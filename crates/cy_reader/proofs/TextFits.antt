@@ -1,11 +1,11 @@
 -- Within the limits, each number and length of a record's text has the bits that it needs.
-use Rattle.std.proofs.Common.{◌≡◌, ℕ, zero, suc, ◌+◌, ◌*◌, ◌^◌, ◌<◌, ◌≤◌, List, [], ◌∷◌, ◌++◌, length, map, refl, sym, ap, ◌∙◌, subst, arith, append_assoc, append-nil, length-append, lit<, lit≤, Bool, true, false, Option, Some, None}
-use Rattle.std.specs.Prelude.{sum_by, filter, min, max, nat_le, ◌&&◌, IsTrue}
-use Rattle.std.specs.List.{AllByRecursion, flat_map}
+use Rattle.std.proofs.Common.{◌≡◌, ℕ, ◌+◌, ◌*◌, ◌^◌, ◌<◌, ◌≤◌, List, [], ◌∷◌, ◌++◌, length, map, refl, sym, subst, arith, append_assoc, append-nil, length-append, lit<, lit≤, Bool, true, false}
+use Rattle.std.specs.Prelude.{sum_by, filter, nat_le, ◌&&◌, IsTrue}
+use Rattle.std.specs.List.{AllByRecursion}
 use Rattle.std.specs.Str.{IsUtf8, bytes_eq}
 use Rattle.std.proofs.lemmas.Bool.{leb-true}
 use Rattle.std.proofs.lemmas.List.Sums.{sum_by-cons, sum-map}
-use Rattle.cy_wire.specs.Wire.{varint_bytes, field_u64, field_bytes}
+use Rattle.cy_wire.specs.Wire.{field_u64, field_bytes}
 use Rattle.cy_wire.proofs.Varints.{length-varint_bytes}
 use Rattle.cy_section.specs.declared.types.BodyMessage.{BodyMessage}
 use Rattle.cy_section.specs.declared.types.Channel.{Channel}
@@ -14,9 +14,8 @@ use Rattle.cy_section.specs.declared.types.ChunkHeader.{ChunkHeader}
 use Rattle.cy_section.specs.Section.{channel_body, chunk_header_body, chunk_body, message_field, channel_cache_body}
 use Rattle.cy_section.specs.Chunks.{messages_in, takes, all_taken, chunk_raw_size, chunk_interval, is_nonempty, is_full, are_chunks}
 use Rattle.cy_section.specs.RecordText.{least_time, greatest_time, raw_size, count_on, chunk_header_of}
-use Rattle.cy_section.specs.ReadBack.{ChannelFits, ChunkHeaderFits, MessageFits, message_bytes}
+use Rattle.cy_section.specs.ReadBack.{ChannelFits, ChunkHeaderFits, MessageFits}
 use Rattle.cy_section.proofs.Lengths.{length-field_u64, length-field_bytes, length-message_field, length-of-message_field, length-message_fields}
-use Rattle.cy_reader.specs.declared.known.Known.{Known}
 use Rattle.cy_reader.specs.Sections.{longest_section}
 use Rattle.cy_reader.specs.Record.{size_of, with_section, longest_name, longest_content, largest_channels}
 use Rattle.cy_reader.specs.ReadBack.{IsReadableChannel, IsReadableMessage}

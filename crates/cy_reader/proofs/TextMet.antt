@@ -1,8 +1,7 @@
 -- The channels and messages of a record text's sections are met in their order.
-use Rattle.std.proofs.Common.{◌≡◌, ℕ, suc, ◌+◌, ◌<◌, ◌≤◌, List, [], ◌∷◌, ◌++◌, length, map, drop, refl, sym, ap, ◌∙◌, subst, arith, append_assoc, append-nil, length-append, Bool, true, false, Option, Some, None, Result, Ok}
+use Rattle.std.proofs.Common.{◌≡◌, ℕ, suc, ◌+◌, ◌≤◌, List, [], ◌∷◌, ◌++◌, length, map, refl, sym, ap, ◌∙◌, subst, arith, append_assoc, append-nil, length-append, true, false, Option, None, Result, Ok}
 use Rattle.std.specs.Prelude.{sum_by}
 use Rattle.std.specs.List.{AllByRecursion, flat_map}
-use Rattle.std.specs.Str.{IsUtf8}
 use Rattle.std.proofs.lemmas.Bool.{le-ltb}
 use Rattle.std.proofs.lemmas.List.{map-append}
 use Rattle.std.proofs.lemmas.List.Sums.{sum_by-append}
@@ -12,16 +11,15 @@ use Rattle.cy_section.specs.declared.types.BodyMessage.{BodyMessage}
 use Rattle.cy_section.specs.declared.types.Channel.{Channel}
 use Rattle.cy_section.specs.declared.types.ChunkHeader.{ChunkHeader}
 use Rattle.cy_section.specs.declared.types.SectionKind.TheVariants as kind
-use Rattle.cy_section.specs.Section.{section, channel_body, chunk_header_body, chunk_body}
+use Rattle.cy_section.specs.Section.{channel_body, chunk_header_body, chunk_body}
 use Rattle.cy_section.specs.Chunks.{messages_in}
 use Rattle.cy_section.specs.RecordText.{Part, bytes_of, parts_of, channel_part, chunk_header_part, chunk_body_part, chunk_header_of}
-use Rattle.cy_section.specs.Reading.{PlacedMessage, Messages, chunk_header_at, channel_at, messages_of}
+use Rattle.cy_section.specs.Reading.{PlacedMessage, chunk_header_at, channel_at, messages_of}
 use Rattle.cy_section.specs.ReadBack.{ChannelFits, ChunkHeaderFits, MessageFits}
 use Rattle.cy_section.proofs.WrittenRead.{channel_at-body, chunk_header_at-body, chunk_body_read}
 use Rattle.cy_reader.specs.declared.error.LoadError.{LoadError}
-use Rattle.cy_reader.specs.declared.known.Known.{Known}
 use Rattle.cy_reader.specs.Sections.{WholeSection}
-use Rattle.cy_reader.specs.Record.{◌>>=◌, Met, Message, nothing, of_section, size_of, number_of, within_limits, with_section, channel_given, channel_met, name_mentioned, message_met, messages_met, body_met, section_met, sections_met, numbered, longest_name, longest_content, most_channels, largest_channels}
+use Rattle.cy_reader.specs.Record.{◌>>=◌, Met, Message, nothing, of_section, size_of, within_limits, with_section, channel_given, channel_met, name_mentioned, message_met, messages_met, body_met, section_met, sections_met, longest_name, longest_content, most_channels, largest_channels}
 use Rattle.cy_reader.specs.ReadBack.{IsReadableChannel, message_on}
 use Rattle.cy_reader.proofs.Meeting.{channel_section}
 use Rattle.cy_reader.proofs.TextNames.{AreNew, is_name, number_of-new, number_of-name}

@@ -1,7 +1,6 @@
 -- The parts of a record's text: each is a section, and its entry in the index fits.
-use Rattle.std.proofs.Common.{◌≡◌, ℕ, zero, suc, ◌+◌, ◌*◌, ◌^◌, ◌<◌, ◌≤◌, List, [], ◌∷◌, ◌++◌, length, map, refl, sym, ap, ◌∙◌, arith, length-append, lit<, lit≤, Bool, true, Option, Some, None}
-use Rattle.std.specs.Prelude.{IsTrue, IfSome}
-use Rattle.std.specs.List.{AllByRecursion, flat_map}
+use Rattle.std.proofs.Common.{◌≡◌, ℕ, ◌+◌, ◌*◌, ◌^◌, ◌<◌, ◌≤◌, List, [], ◌∷◌, ◌++◌, length, map, refl, sym, ap, arith, length-append, lit<, lit≤}
+use Rattle.std.specs.List.{AllByRecursion}
 use Rattle.std.proofs.lemmas.List.{length-map}
 use Rattle.std.proofs.lemmas.List.Concat.{flat_map-append}
 use Rattle.cy_wire.specs.Wire.{field_u64, field_bytes}
@@ -10,18 +9,16 @@ use Rattle.cy_section.specs.declared.types.Channel.{Channel}
 use Rattle.cy_section.specs.declared.types.ChannelCache.{ChannelCache}
 use Rattle.cy_section.specs.declared.types.ChunkHeaderCache.{ChunkHeaderCache}
 use Rattle.cy_section.specs.declared.types.ChunkBodyCache.{ChunkBodyCache}
-use Rattle.cy_section.specs.declared.types.IndexEntry.{IndexEntry}
-use Rattle.cy_section.specs.declared.types.SectionKind.{SectionKind}
 use Rattle.cy_section.specs.declared.types.SectionKind.TheVariants as kind
-use Rattle.cy_section.specs.Section.{section, kind_number, channel_body, chunk_header_body, chunk_body, channel_cache_body, chunk_header_cache_body, chunk_body_cache_body, optional_field}
+use Rattle.cy_section.specs.Section.{section, channel_body, chunk_header_body, chunk_body, channel_cache_body, chunk_header_cache_body, chunk_body_cache_body}
 use Rattle.cy_section.specs.Chunks.{messages_in}
 use Rattle.cy_section.specs.RecordText.{Part, bytes_of, parts_of, entries_from, channel_part, chunk_header_part, chunk_body_part, chunk_header_of, least_time, greatest_time, raw_size, count_on}
-use Rattle.cy_section.specs.ReadBack.{ChannelFits, ChunkHeaderFits, EntryFits, entry_bytes}
+use Rattle.cy_section.specs.ReadBack.{ChannelFits, ChunkHeaderFits, EntryFits}
 use Rattle.cy_section.proofs.Lengths.{length-section, length-field_u64}
 use Rattle.cy_section.proofs.IndexRead.{short_header, short_body}
 use Rattle.cy_reader.specs.Sections.{longest_section}
 use Rattle.cy_reader.specs.Record.{size_of, with_section, largest_channels}
-use Rattle.cy_reader.proofs.TextSections.{IsSection, kind_at, body_of, body_of-section}
+use Rattle.cy_reader.proofs.TextSections.{IsSection, body_of, body_of-section}
 use Rattle.cy_reader.proofs.TextMet.{chunk_parts}
 use Rattle.cy_reader.proofs.TextFits.{join_all, many_bytes, header_short, channel_short, length-any_field, cache_short, count_within}
 

@@ -1,6 +1,6 @@
 -- A record's text is read whole.
-use Rattle.std.proofs.Common.{◌≡◌, ℕ, zero, suc, ◌+◌, ◌*◌, ◌-◌, ◌^◌, ◌<◌, ◌≤◌, nat_lt, List, [], ◌∷◌, ◌++◌, length, map, take, drop, replicate, refl, sym, ap, ◌∙◌, subst, arith, append_assoc, append-nil, length-append, lit<, lit≤, Bool, true, false, Option, Some, None, Result, Ok}
-use Rattle.std.specs.Prelude.{IsTrue, sum_by, ◌==◌}
+use Rattle.std.proofs.Common.{◌≡◌, ℕ, suc, ◌+◌, ◌-◌, ◌^◌, ◌<◌, ◌≤◌, List, [], ◌∷◌, ◌++◌, length, map, take, drop, replicate, refl, sym, ap, ◌∙◌, subst, arith, append_assoc, append-nil, length-append, lit<, true, Option, Some, None, Ok}
+use Rattle.std.specs.Prelude.{IsTrue, sum_by}
 use Rattle.std.specs.List.{AllByRecursion}
 use Rattle.std.proofs.lemmas.Bool.{le-ltb}
 use Rattle.std.proofs.lemmas.List.{drop-drop}
@@ -9,19 +9,17 @@ use Rattle.cy_section.specs.declared.types.BodyMessage.{BodyMessage}
 use Rattle.cy_section.specs.declared.types.Channel.{Channel}
 use Rattle.cy_section.specs.declared.types.Header.{Header}
 use Rattle.cy_section.specs.declared.types.SectionKind.TheVariants as kind
-use Rattle.cy_section.specs.Section.{section, head_bytes, header_body, header_section, chunk_body, index_body}
-use Rattle.cy_section.specs.Chunks.{messages_in, all_taken, are_chunks}
-use Rattle.cy_section.specs.RecordText.{Part, IsRecordText, parts_of, bytes_of, index_section, record_bytes, complete_header, chunk_header_of}
-use Rattle.cy_section.specs.Reading.{header_at}
-use Rattle.cy_section.specs.ReadBack.{HeaderFits, ChannelFits, ChunkHeaderFits}
+use Rattle.cy_section.specs.Section.{section, header_body, header_section, chunk_body, index_body}
+use Rattle.cy_section.specs.Chunks.{messages_in, all_taken}
+use Rattle.cy_section.specs.RecordText.{IsRecordText, parts_of, bytes_of, record_bytes, complete_header, chunk_header_of}
+use Rattle.cy_section.specs.ReadBack.{HeaderFits, ChunkHeaderFits}
 use Rattle.cy_section.proofs.Lengths.{length-section, length-header_section, length-header_body}
 use Rattle.cy_section.proofs.HeadsRead.{number-of_head, size-of_head}
 use Rattle.cy_section.proofs.WrittenRead.{header_at-body}
 use Rattle.cy_reader.specs.declared.heads.PlacedHead.{PlacedHead}
-use Rattle.cy_reader.specs.declared.error.LoadError.{LoadError}
 use Rattle.cy_reader.specs.Sections.{Sections, longest_section, sections_from}
-use Rattle.cy_reader.specs.Heads.{PlacedIndex, end_of, index_at, index_of, index_head, index_under, header_head, section_head, heads_of}
-use Rattle.cy_reader.specs.Record.{◌>>=◌, Met, Source, Contents, Message, nothing, shown, size_of, with_section, of_section, uncompressed, file_header, sections_met, source_of, record_of, header_end, longest_file, longest_name, longest_content, most_channels, largest_channels, parts_of as file_parts}
+use Rattle.cy_reader.specs.Heads.{PlacedIndex, end_of, index_at, index_of, index_head, header_head, section_head, heads_of}
+use Rattle.cy_reader.specs.Record.{nothing, size_of, with_section, file_header, sections_met, source_of, record_of, longest_file, most_channels, largest_channels, parts_of as file_parts}
 use Rattle.cy_reader.specs.ReadBack.{IsReadableChannel, IsReadableMessage, AreReadable, message_on, heads_from, text_entries, text_index, text_source, text_contents}
 use Rattle.cy_reader.proofs.TextNames.{AreNew, is_name, names_there, channels_once, name_readable}
 use Rattle.cy_reader.proofs.TextSections.{IsSection, StandsThere, placed, long_file, bytes_there, taken_there, sections-written, heads-written, end-written, few_parts}

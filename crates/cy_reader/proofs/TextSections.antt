@@ -1,5 +1,5 @@
 -- A record's text is split into its sections.
-use Rattle.std.proofs.Common.{◌≡◌, ℕ, zero, suc, ◌+◌, ◌-◌, ◌^◌, ◌<◌, ◌≤◌, nat_lt, List, [], ◌∷◌, ◌++◌, length, map, take, drop, refl, sym, ap, ◌∙◌, arith, append_assoc, append-nil, length-append, Bool, false, Option, Some, None, Result, Ok}
+use Rattle.std.proofs.Common.{◌≡◌, ℕ, zero, suc, ◌+◌, ◌-◌, ◌^◌, ◌<◌, ◌≤◌, nat_lt, List, [], ◌∷◌, ◌++◌, length, map, take, drop, refl, sym, ap, ◌∙◌, arith, append_assoc, append-nil, length-append, false, Some, None, Ok}
 use Rattle.std.specs.Prelude.{⊤, ◌==◌}
 use Rattle.std.specs.List.{AllByRecursion}
 use Rattle.std.proofs.Math.Seq.{drop-append_seam, take-append_seam}
@@ -7,8 +7,6 @@ use Rattle.std.proofs.lemmas.Bool.{le-ltb}
 use Rattle.std.proofs.lemmas.Grind.{common_steps}
 use Rattle.std.proofs.lemmas.List.{length-drop, drop-drop}
 use Rattle.byteorder.specs.Endian.{little_number}
-use Rattle.cy_section.specs.declared.error.SectionError.{SectionError}
-use Rattle.cy_section.specs.declared.types.Head.{Head}
 use Rattle.cy_section.specs.declared.types.SectionKind.{SectionKind}
 use Rattle.cy_section.specs.declared.types.SectionKind.TheVariants as kind
 use Rattle.cy_section.specs.Section.{section, head_bytes, kind_number}
@@ -16,8 +14,7 @@ use Rattle.cy_section.specs.Head.{kind_of, head_at}
 use Rattle.cy_section.specs.RecordText.{Part, bytes_of}
 use Rattle.cy_section.proofs.Lengths.{length-section}
 use Rattle.cy_section.proofs.HeadsRead.{number-of_head, head_at-head}
-use Rattle.cy_reader.specs.declared.heads.PlacedHead.{PlacedHead}
-use Rattle.cy_reader.specs.Sections.{WholeSection, Sections, longest_section, under_head, with_head, section_at, sections_in, and_those_behind}
+use Rattle.cy_reader.specs.Sections.{WholeSection, Sections, longest_section, under_head, section_at, sections_in}
 use Rattle.cy_reader.specs.Heads.{section_head, end_of}
 use Rattle.cy_reader.specs.ReadBack.{heads_from}
 

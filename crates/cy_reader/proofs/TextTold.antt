@@ -1,5 +1,5 @@
 -- What is told of a record's text has no difference.
-use Rattle.std.proofs.Common.{◌≡◌, ℕ, zero, suc, ◌+◌, ◌-◌, ◌^◌, ◌<◌, ◌≤◌, List, [], ◌∷◌, ◌++◌, length, map, refl, sym, ap, ◌∙◌, subst, arith, append_assoc, append-nil, length-append, Bool, true, false, Option, Some, None, Result, Ok}
+use Rattle.std.proofs.Common.{◌≡◌, ℕ, suc, ◌+◌, ◌-◌, List, [], ◌∷◌, ◌++◌, length, map, refl, sym, ap, ◌∙◌, subst, arith, append_assoc, append-nil, Bool, true, false, Some, Ok}
 use Rattle.std.specs.Prelude.{codes, filter, ◌==◌, ◌&&◌, ◌||◌, min, max}
 use Rattle.std.specs.List.{AllByRecursion, list_any}
 use Rattle.std.proofs.lemmas.Bool.{le-ltb}
@@ -7,7 +7,6 @@ use Rattle.std.proofs.lemmas.Grind.{common_steps}
 use Rattle.std.proofs.lemmas.List.{length-map}
 use Rattle.std.proofs.lemmas.List.Elements.{filter-append}
 use Rattle.std.proofs.lemmas.List.Folds.{list_any-append}
-use Rattle.cy_section.specs.declared.error.SectionError.{SectionError}
 use Rattle.cy_section.specs.declared.types.BodyMessage.{BodyMessage}
 use Rattle.cy_section.specs.declared.types.Channel.{Channel}
 use Rattle.cy_section.specs.declared.types.Header.{Header}
@@ -22,14 +21,13 @@ use Rattle.cy_reader.specs.declared.facts.Counted.{Counted}
 use Rattle.cy_reader.specs.declared.facts.IndexFound.{IndexFound}
 use Rattle.cy_reader.specs.declared.facts.IndexFound.TheVariants.{Present}
 use Rattle.cy_reader.specs.declared.heads.PlacedHead.{PlacedHead}
-use Rattle.cy_reader.specs.Heads.{PlacedIndex, index_head}
-use Rattle.cy_reader.specs.Record.{Message, Contents}
+use Rattle.cy_reader.specs.Heads.{index_head}
 use Rattle.cy_reader.specs.Info.{least, greatest, times_of, channels_of, chunk_bodies, counted_of, index_found, index_read, is_head, file_line, front_lines, index_line, numbered, channel_lines, header_difference, number_differences, message_differences, all_differences, header_differences, entry_line, entry_difference, index_differences, info_text}
 use Rattle.cy_reader.specs.ReadBack.{message_on, heads_from, text_entries, text_index, text_contents}
 use Rattle.cy_reader.proofs.TextSections.{IsSection, kind_at}
 use Rattle.cy_reader.proofs.TextMet.{chunk_parts}
 use Rattle.cy_reader.proofs.TextParts.{entries_fit}
-use Rattle.cy_reader.proofs.TextRead.{IsText, header_of, index_of_text, sections_of, length_is, counts_fit, parts_fit}
+use Rattle.cy_reader.proofs.TextRead.{IsText, header_of, index_of_text, sections_of, length_is, parts_fit}
 
 -- the index is read as its entries
 pub index_told : (channels : List Channel) (chunks : List (List BodyMessage)) (file : List ℕ) → IsText channels chunks file

@@ -18,7 +18,7 @@ use Rattle.cy_reader.specs.declared.facts.Counted.{Counted}
 use Rattle.cy_reader.specs.declared.facts.IndexFound.{IndexFound}
 use Rattle.cy_reader.specs.declared.facts.IndexFound.TheVariants.{Absent, Cut, Unreadable, Present}
 use Rattle.cy_reader.specs.Heads.{PlacedIndex}
-use Rattle.cy_reader.specs.Record.{Source, Message, Contents}
+use Rattle.cy_reader.specs.Record.{Message, Contents}
 
 -- The least and the greatest of some times, 0 where there is none.
 abbrev pub least : List ℕ → ℕ

@@ -1,6 +1,6 @@
 -- The table of the channels of a tape.
 use Rattle.std.proofs.Common.{◌≡◌, ◌≤◌, ◌<◌, ℕ, zero, suc, ◌+◌, List, [], ◌∷◌, ◌++◌, length, set, get_or, take, replicate, refl, ap, sym, ◌∙◌, arith, subst, Some, None, Option, Bool, true, false, ◌||◌, cond, length-append, length-set, eqb, slice_get, ◌⊎◌, inl, inr, ⊎_elim}
-use Rattle.std.specs.Prelude.{◌==◌, not, nat_lt, is_some}
+use Rattle.std.specs.Prelude.{◌==◌, not, nat_lt, is_some, unwrap_or}
 use Rattle.std.specs.List.{list_any, position, position_or_len, IsDistinct}
 use Rattle.std.proofs.lemmas.Grind.{common_steps}
 use Rattle.std.proofs.lemmas.Cmp.{nat_eq_equiv}
@@ -166,12 +166,21 @@ noted order numbers c h here =
 
 -- a channel that stands in the order has a place there
 pub placed_at : (order : List ℕ) (numbers : List (Option ℕ)) (c i : ℕ) → AreNumbered order numbers → slice_get numbers c ≡ Some (Some i)
-    → slice_get order i ≡ Some c
-placed_at order numbers c i h here = first_place c order i (there_of order numbers c (Some i) h here)
+    → position (λ other. c == other) order ≡ Some i
+placed_at order numbers c i h here = there_of order numbers c (Some i) h here
 
 pub unplaced : (order : List ℕ) (numbers : List (Option ℕ)) (c : ℕ) → AreNumbered order numbers → slice_get numbers c ≡ Some None
     → list_any (λ other. c == other) order ≡ true → ⊥
 unplaced order numbers c h here any = let bad : true ≡ false = sym any ∙ absent c order (there_of order numbers c None h here) in cc
+
+-- the place of a channel that stands in an order
+pub place_of : (order : List ℕ) (c : ℕ) → list_any (λ other. c == other) order ≡ true
+    → slice_get order (unwrap_or (position (λ other. c == other) order) 0) ≡ Some c
+place_of order c any = by (position (λ other. c == other) order) refl
+  where
+    by : (o : Option ℕ) → position (λ other. c == other) order ≡ o → slice_get order (unwrap_or o 0) ≡ Some c
+    by (Some i) e = first_place c order i e
+    by None e = absurd (let bad : true ≡ false = sym any ∙ absent c order e in cc)
 
 -- no channel stands twice in the order
 pub order_once : (order : List ℕ) (numbers : List (Option ℕ)) → AreNumbered order numbers → IsOnce order

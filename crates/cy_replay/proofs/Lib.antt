@@ -3,7 +3,6 @@ pub mod Coming
 pub mod Configs
 pub mod Counting
 pub mod Fitting
-pub mod FrontPuts
 pub mod Joined
 pub mod Judged
 pub mod Judging
@@ -11,10 +10,7 @@ pub mod Origins
 pub mod PassTested
 pub mod PassWired
 pub mod Playable
-pub mod RecordBytes
-pub mod RecordCalls
 pub mod RecordChannels
-pub mod RecordChunks
 pub mod Records
 pub mod Setting
 pub mod TapeRecord

@@ -15,7 +15,7 @@ use Rattle.cy_section.specs.declared.types.Channel.{Channel}
 use Rattle.cy_section.specs.declared.types.BodyMessage.{BodyMessage}
 use Rattle.cy_section.specs.RecordText.{IsRecordText, record_bytes, names_after}
 use Rattle.cy_replay.specs.Recording.{Source, IsWritable, channel_of, message_of, numbers_after, channels_of_tape, messages_of_tape, chunks_of_tape}
-use Rattle.cy_replay.proofs.RecordChunks.{are_chunks_given}
+use Rattle.cy_writer.proofs.RecordChunks.{are_chunks_given}
 use Rattle.cy_replay.proofs.TapeRecord.{named, one_channel}
 
 -- with one more, all are still below

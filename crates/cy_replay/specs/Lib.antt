@@ -5,7 +5,6 @@ pub mod Listing
 pub mod Passing
 pub mod RecordLaws
 pub mod RecordSteps
-pub mod RecordWrites
 pub mod Recording
 pub mod Setup
 pub mod Steps

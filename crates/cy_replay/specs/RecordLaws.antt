@@ -1,12 +1,7 @@
 -- What holds of every record that is written of a tape.
 use Rattle.std.specs.Prelude.{ℕ, ◌≡◌, ◌<◌, List, length, slice_get, Some}
-use Rattle.std.specs.FinMap.{insert}
 use Rattle.cy_msg.specs.Once.{IsOnce}
 use Rattle.cy_msg.specs.declared.token.Token.{Token}
-use Rattle.cy_store.specs.Files.{Files}
-use Rattle.cy_store.specs.Write.{after_writes}
-use Rattle.cy_section.specs.declared.types.Channel.{Channel}
-use Rattle.cy_section.specs.declared.types.BodyMessage.{BodyMessage}
 use Rattle.cy_section.specs.RecordText.{IsRecordText, record_bytes}
 use Rattle.cy_msg.specs.declared.play_list.PlayList.{PlayList}
 use Rattle.cy_reader.specs.Record.{Contents}
@@ -14,7 +9,6 @@ use Rattle.cy_reader.specs.Play.{Choice, IsPlayList}
 use Rattle.wake_core.specs.declared.route.Route.{Route}
 use Rattle.wake_core.specs.Run.{Run}
 use Rattle.wake_core.specs.Serial.{SerialRun}
-use Rattle.cy_replay.specs.RecordWrites.{file_writes, record_puts}
 use Rattle.cy_replay.specs.Recording.{Source, IsWritable, channels_of_tape, messages_of_tape}
 use Rattle.cy_replay.specs.Recording.{chunks_of_tape}
 
@@ -23,12 +17,6 @@ abbrev pub WritesText : Type 0
 WritesText = (name : List ℕ) (s : Source) (tape : List Token) → IsOnce s.names → IsWritable s tape
     → IsRecordText (channels_of_tape s tape) (messages_of_tape s tape)
     (record_bytes (channels_of_tape s tape) (chunks_of_tape name s tape))
-
--- The writes of a record leave its bytes under its name, and every other name as it was.
-abbrev pub LeavesRecord : Type 0
-LeavesRecord = (name : List ℕ) (channels : List Channel) (chunks : List (List BodyMessage))
-    (files : Files) → after_writes (file_writes name (record_puts channels chunks)) files
-    ≡ insert files name (record_bytes channels chunks)
 
 -- The places of a play list are places of the record that it is of.
 abbrev pub PlacesAreThere : Type 0

@@ -13,7 +13,7 @@ use Rattle.cy_reader.specs.Record.{Contents}
 use Rattle.cy_reader.specs.Play.{message_at}
 use Rattle.cy_comp.specs.declared.plan.Plan.{Plan}
 use Rattle.cy_replay.specs.declared.played.Played.{Played}
-use Rattle.cy_replay.specs.RecordWrites.{chunks_given}
+use Rattle.cy_writer.specs.RecordWrites.{chunks_given}
 
 -- What the record of a tape is written from: the record that was read, the names of the channels
 -- and the components over them, and the places of the played messages in the record that was read.

@@ -25,8 +25,7 @@ pub use passing::pass_is_wired;
 pub use played::Played;
 pub use read::read_configuration;
 pub use recording::{
-    played_places_are_there, record_writes_leave_the_record, serial_origins_are_there,
-    tape_record_is_its_text, write_record,
+    played_places_are_there, serial_origins_are_there, tape_record_is_its_text, write_record,
 };
 pub use setup::{Components, Replay, Request, set_up};
 pub use text::LONGEST_CONFIG;

@@ -4,35 +4,28 @@ ghost use Rattle.std.specs.Prelude.{slice_get, length, IfOk, OnOk, IfSome, IsErr
 ghost use Rattle.std.specs.Prelude.{option_map};
 ghost use Rattle.std.specs.List.{find};
 ghost use Rattle.cy_msg.specs.Names.{channel_name};
-ghost use Rattle.cy_msg.specs.Once.{IsOnce};
 ghost use Rattle.cy_store.specs.Store.{HasWriteCauses};
 ghost use Rattle.cy_section.specs.declared.types.Channel.{Channel};
-ghost use Rattle.cy_writer.specs.Writes.{Makes, puts_into};
-ghost use Rattle.cy_writer.specs.Given.{Given, with_message, message_on, message_puts};
-ghost use Rattle.cy_writer.specs.Calls.{PutsChannel, GoesOn};
-ghost use Rattle.cy_writer.specs.Stands.{Stands, IsBroken, HasChannel, IsThere};
+ghost use Rattle.cy_writer.specs.Writes.{Makes};
+ghost use Rattle.cy_writer.specs.Record.{channel_shown, channels_shown};
+ghost use Rattle.cy_writer.specs.RecordWrites.{file_writes, record_puts};
 ghost use Rattle.cy_replay.specs.Recording.{IsWritable, source_of, channel_of, channel_made};
-ghost use Rattle.cy_replay.specs.Recording.{known_as, content_by, content_of, played_contents};
-ghost use Rattle.cy_replay.specs.Recording.{channels_of_tape, chunks_of_tape};
-ghost use Rattle.cy_replay.specs.RecordWrites.{file_writes, record_puts, front_puts};
-ghost use Rattle.cy_replay.specs.RecordWrites.{given_channels};
+ghost use Rattle.cy_replay.specs.Recording.{known_as, channels_of_tape, chunks_of_tape};
 
 mod laws;
 mod tape_channels;
+mod tape_messages;
 
 use crate::Played;
 use crate::recording::tape_channels::TapeChannels;
+use crate::recording::tape_messages::TapeMessages;
 use cy_comp::Plan;
 use cy_msg::Token;
 use cy_reader::Record;
 use cy_section::Channel;
 use cy_store::Store;
-use cy_wire::{WireError, Writer, put_whole};
-use cy_writer::{RecordWriter, WriteError};
-pub use laws::{
-    played_places_are_there, record_writes_leave_the_record, serial_origins_are_there,
-    tape_record_is_its_text,
-};
+use cy_writer::{ChannelRef, WriteError};
+pub use laws::{played_places_are_there, serial_origins_are_there, tape_record_is_its_text};
 use std::alloc::Global;
 
 // The component that writes a channel.
@@ -71,137 +64,36 @@ fn form_of<'a>(played: &Played<'a>, channel: u32) -> (&'a str, &'a [u8])
     }
 }
 
-// Puts the section of a channel.
-fn put_channel<S: Store>(
-    alloc: Global,
-    store: &mut S,
-    writer: &mut RecordWriter,
-    played: &Played<'_>,
-    channel: u32,
-) -> Result<(), WriteError>
-    requires named { channel < length (source_of played.now).names }
-    requires there { IsThere writer.old (S.shows store.old).files }
-    ensures puts { PutsChannel (Stands writer.old) (Stands writer.new)
-        (channel_of (source_of played.now) channel) (S.shows store.old) (S.shows store.new) result }
-    ensures goes_on { GoesOn writer.old writer.new (S.shows store.old) (S.shows store.new) result }
+// A channel, as it is written.
+fn written_channel<'a>(played: &Played<'a>, channel: u32) -> ChannelRef<'a>
+    requires { channel < length (source_of played.now).names }
+    ensures { channel_shown result ≡ channel_of (source_of played.now) channel }
 {
     let (message_type, proto_desc) = form_of(played, channel);
-    let name = played.wiring.names.name(channel);
-    writer.channel(alloc, store, name, message_type, proto_desc)
-}
-
-// Makes a file with the header of a record that is still being written and these channels.
-fn start_record<S: Store>(
-    alloc: Global,
-    store: &mut S,
-    name: &str,
-    played: &Played<'_>,
-    channels: &[u32],
-) -> Result<RecordWriter, WriteError>
-    requires named { (n c : ℕ) → slice_get channels.now n ≡ Some c
-        → c < length (source_of played.now).names }
-    requires once { IsOnce channels.now }
-    requires own_names { IsOnce (source_of played.now).names }
-    ensures given { IfOk result (λ w. Stands w
-        (given_channels name.now (map (channel_of (source_of played.now)) channels.now))) }
-    ensures makes { Makes (file_writes name.now
-        (front_puts (map (channel_of (source_of played.now)) channels.now) []))
-        (S.shows store.old) (S.shows store.new) result }
-    ensures there { IfOk result (λ w. IsThere w (S.shows store.new).files) }
-    ensures unbroken { IsErrOf result WriteError.Broken → ⊥ }
-    ensures causes { HasWriteCauses (IsErrOf result WriteError.Failed) (S.shows store.old)
-        (S.shows store.new) }
-{
-    let mut writer = RecordWriter::start(alloc, store, name)?;
-    for channel in channels {
-        put_channel(alloc, store, &mut writer, played, *channel)?;
+    ChannelRef {
+        name: played.wiring.names.name(channel),
+        message_type,
+        proto_desc,
     }
-    Ok(writer)
 }
 
-// A record that is being written, and room for a content that is made.
-#[derive(Drop)]
-struct Recording {
-    writer: RecordWriter,
-    made: Writer,
-}
-
-// The want of memory for which a number was not written.
-fn no_memory_for_number(error: WireError) -> WriteError
-    requires { error ≡ WireError.Memory }
-    ensures { result ≡ WriteError.Memory }
-{
-    let _memory = error;
-    WriteError::Memory
-}
-
-// Writes a value, or nothing, in place of the last content.
-fn make_content(made: &mut Writer, value: Option<i64>) -> Result<(), WriteError>
-    ensures content { (contents : List (List ℕ))
-        → OnOk result (made.new ≡ content_by contents None value) }
+// Channels, as they are written.
+fn written_channels<'a>(
+    alloc: Global,
+    played: &Played<'a>,
+    channels: &[u32],
+) -> Result<Vec<ChannelRef<'a>>, WriteError>
+    requires { (n c : ℕ) → slice_get channels.now n ≡ Some c
+        → c < length (source_of played.now).names }
+    ensures channels { IfOk result (λ v. channels_shown v.items
+        ≡ map (channel_of (source_of played.now)) channels.now) }
     ensures only_memory { IsOkUnless result WriteError.Memory }
 {
-    made.clear();
-    if let Some(value) = value {
-        put_whole(made, value).map_err(no_memory_for_number)?;
+    let mut written = Vec::with_capacity(alloc, channels.len())?;
+    for channel in channels {
+        written.push(written_channel(played, *channel))?;
     }
-    Ok(())
-}
-
-// The content of a played message: a slice of the record that was read.
-fn played_content<'a>(played: &Played<'a>, origin: u32) -> &'a [u8]
-    requires origin { origin < length (source_of played.now).places }
-    requires places { (n place : ℕ) → slice_get (source_of played.now).places n ≡ Some place
-        → place < length (source_of played.now).whole.messages }
-    ensures { Some result.now ≡ slice_get (played_contents (source_of played.now)) origin }
-{
-    let place = played.list.places.as_slice()[origin as usize];
-    played.whole.content(place)
-}
-
-impl Recording {
-    // Takes a message, on the channel of this number in the file.
-    fn add<S: Store>(
-        &mut self,
-        alloc: Global,
-        store: &mut S,
-        played: &Played<'_>,
-        number: u32,
-        token: &Token,
-    ) -> Result<(), WriteError>
-        requires origin { (o : ℕ) → token.now.origin ≡ Some o
-            → o < length (source_of played.now).places }
-        requires places { (n place : ℕ) → slice_get (source_of played.now).places n ≡ Some place
-            → place < length (source_of played.now).whole.messages }
-        requires channel { HasChannel self.old.writer number }
-        requires there { IsThere self.old.writer (S.shows store.old).files }
-        ensures given { (g : Given) (c : Channel) → Stands self.old.writer g
-            → slice_get g.channels number ≡ Some c
-            → OnOk result (Stands self.new.writer (with_message g
-            (message_on c token.now.time (content_of (source_of played.now) token.now)))) }
-        ensures makes { (g : Given) (c : Channel) → Stands self.old.writer g
-            → slice_get g.channels number ≡ Some c
-            → Makes (puts_into g.name (message_puts g
-            (message_on c token.now.time (content_of (source_of played.now) token.now))))
-            (S.shows store.old) (S.shows store.new) result }
-        ensures there { IsThere self.new.writer (S.shows store.new).files }
-        ensures broken { IsErrOf result WriteError.Broken → IsBroken self.old.writer }
-        ensures causes { HasWriteCauses (IsErrOf result WriteError.Failed) (S.shows store.old)
-            (S.shows store.new) }
-    {
-        match token.origin {
-            Some(origin) => {
-                let content = played_content(played, origin);
-                self.writer
-                    .message(alloc, store, number, token.time, content)
-            }
-            None => {
-                make_content(&mut self.made, token.whole)?;
-                self.writer
-                    .message(alloc, store, number, token.time, self.made.done())
-            }
-        }
-    }
+    Ok(written)
 }
 
 /// Writes the record of a tape into the file of a name: the channels that have a message on it, in
@@ -211,7 +103,7 @@ impl Recording {
 /// type, and any other the type and description that it has in the record that was read.
 ///
 /// After an error the writes before the one that failed, or that wanted memory, are done. It takes
-/// the room for its table of channels before it makes the file.
+/// the room for its tables of channels before it makes the file.
 pub fn write_record<S: Store>(
     alloc: Global,
     store: &mut S,
@@ -229,14 +121,7 @@ pub fn write_record<S: Store>(
         (S.shows store.new) }
 {
     let channels = TapeChannels::of(alloc, played.wiring.names.count(), tape)?;
-    let writer = start_record(alloc, store, name, played, &channels.order)?;
-    let mut recording = Recording {
-        writer,
-        made: Writer::new(alloc),
-    };
-    for token in tape {
-        let number = channels.number(token.channel);
-        recording.add(alloc, store, played, number, token)?;
-    }
-    recording.writer.close(alloc, store)
+    let written = written_channels(alloc, played, &channels.order)?;
+    let messages = TapeMessages::new(alloc, played, &channels, tape);
+    cy_writer::write_record(alloc, store, name, &written, messages)
 }

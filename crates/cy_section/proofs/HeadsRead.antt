@@ -1,11 +1,10 @@
 -- A head that was written is read, whatever follows it.
-use Rattle.std.proofs.Common.{◌≡◌, ℕ, ◌^◌, ◌<◌, List, ◌++◌, length, drop, refl, ap, ◌∙◌, arith, append_assoc, lit<, nat_lt, nat_le, false, Ok}
+use Rattle.std.proofs.Common.{◌≡◌, ℕ, ◌^◌, ◌<◌, List, ◌++◌, drop, refl, ap, ◌∙◌, arith, append_assoc, lit<, nat_lt, nat_le, false, Ok}
 use Rattle.std.proofs.Math.Seq.{drop-append_seam}
 use Rattle.std.proofs.lemmas.Bool.{le-ltb}
 use Rattle.std.proofs.lemmas.Grind.{common_steps}
 use Rattle.byteorder.specs.Endian.{little_number, little_bytes}
 use Rattle.byteorder.specs.Numbers.{little_number-reads_back}
-use Rattle.cy_section.specs.declared.types.Head.{Head}
 use Rattle.cy_section.specs.declared.types.SectionKind.{SectionKind}
 use Rattle.cy_section.specs.declared.types.SectionKind.TheVariants as kind
 use Rattle.cy_section.specs.Section.{kind_number, head_bytes}

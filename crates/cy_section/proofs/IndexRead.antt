@@ -1,18 +1,17 @@
 -- The entries of an index that was written are read.
-use Rattle.std.proofs.Common.{◌≡◌, ℕ, ◌+◌, ◌-◌, ◌^◌, ◌<◌, ◌≤◌, List, [], ◌∷◌, ◌++◌, length, refl, ap, ◌∙◌, arith, append_assoc, append-nil, length-append, lit≤, mod-eq_of_lt, Option, Some, None, Result, Ok}
+use Rattle.std.proofs.Common.{◌≡◌, ℕ, ◌+◌, ◌-◌, ◌^◌, ◌<◌, ◌≤◌, List, [], ◌∷◌, ◌++◌, length, refl, ap, ◌∙◌, arith, append_assoc, append-nil, length-append, lit≤, mod-eq_of_lt, Option, Some, None, Ok}
 use Rattle.std.specs.Prelude.{IfSome}
 use Rattle.std.specs.List.{AllByRecursion}
 use Rattle.std.proofs.lemmas.List.Concat.{flat_map-cons}
 use Rattle.cy_wire.specs.Wire.{field_u64, field_bytes}
 use Rattle.cy_wire.specs.Field.{WireField, Fields, Varint, Bytes, with_field, no_fields, fields_of}
 use Rattle.cy_wire.specs.Message.{WireSpan, number_in, span_in, last_number, last_span}
-use Rattle.cy_section.specs.declared.error.SectionError.{SectionError}
 use Rattle.cy_section.specs.declared.types.ChannelCache.{ChannelCache}
 use Rattle.cy_section.specs.declared.types.ChunkHeaderCache.{ChunkHeaderCache}
 use Rattle.cy_section.specs.declared.types.ChunkBodyCache.{ChunkBodyCache}
 use Rattle.cy_section.specs.declared.types.IndexEntry.{IndexEntry}
 use Rattle.cy_section.specs.Section.{optional_field, channel_cache_body, chunk_header_cache_body, chunk_body_cache_body, entry_field, index_body}
-use Rattle.cy_section.specs.Reading.{◌>>=◌, made_of, channel_in, channel_cache_at, chunk_header_cache_in, chunk_header_cache_at, chunk_body_cache_in, chunk_body_cache_at, entry_in, entry_at, entries_of, index_at}
+use Rattle.cy_section.specs.Reading.{made_of, channel_in, channel_cache_at, chunk_header_cache_in, chunk_header_cache_at, chunk_body_cache_in, chunk_body_cache_at, entry_in, entry_at, entries_of, index_at}
 use Rattle.cy_section.specs.ReadBack.{ChannelCacheFits, ChunkHeaderCacheFits, ChunkBodyCacheFits, EntryFits, entry_bytes}
 use Rattle.cy_section.proofs.Lengths.{length-field_u64}
 use Rattle.cy_section.proofs.Texts.{text_of-text}

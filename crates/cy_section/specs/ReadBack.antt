@@ -12,7 +12,6 @@ use Rattle.cy_section.specs.declared.types.ChunkHeaderCache.{ChunkHeaderCache}
 use Rattle.cy_section.specs.declared.types.ChunkBodyCache.{ChunkBodyCache}
 use Rattle.cy_section.specs.declared.types.IndexEntry.{IndexEntry}
 use Rattle.cy_section.specs.declared.types.SectionKind.{SectionKind}
-use Rattle.cy_section.specs.declared.types.Head.{Head}
 use Rattle.cy_section.specs.Section.{header_body, chunk_header_body, chunk_body, channel_body}
 use Rattle.cy_section.specs.Section.{head_bytes, optional_field, channel_cache_body}
 use Rattle.cy_section.specs.Section.{chunk_header_cache_body, chunk_body_cache_body, index_body}

@@ -4,3 +4,9 @@ pub mod Closing
 pub mod Standing
 pub mod Left
 pub mod Cut
+pub mod FrontPuts
+pub mod RecordBytes
+pub mod RecordChunks
+pub mod RecordCalls
+pub mod Giving
+pub mod Starting

@@ -8,3 +8,6 @@ pub mod Calls
 pub mod Steps
 pub mod Whole
 pub mod Laws
+pub mod RecordWrites
+pub mod Messages
+pub mod Record

@@ -1,19 +1,34 @@
 -- What the steps of a writer's calls come to, by what they keep.
-use Rattle.std.specs.Prelude.{ℕ, ◌≡◌, ◌≤◌, ◌+◌, List, length, true, None}
+use Rattle.std.specs.Prelude.{ℕ, ◌≡◌, ◌≤◌, ◌+◌, ◌++◌, ◌∷◌, List, [], length, drop, true, None}
 use Rattle.std.specs.Prelude.{Some, slice_get, vec_len, vec_capacity, Result, IfOk, OnOk, OnErr}
 use Rattle.std.specs.Prelude.{IsErrOf, IsOkUnless}
 use Rattle.cy_store.specs.Store.{StoreView, HasWriteCauses}
+use Rattle.cy_section.specs.declared.types.BodyMessage.{BodyMessage}
 use Rattle.cy_section.specs.declared.types.Channel.{Channel}
+use Rattle.cy_section.specs.Section.{message_field}
 use Rattle.cy_section.specs.Chunks.{takes}
 use Rattle.cy_section.specs.RecordText.{chunk_header_part, chunk_body_part}
 use Rattle.cy_writer.specs.Writes.{Makes, puts_into}
 use Rattle.cy_writer.specs.Calls.{LeavesOut}
 use Rattle.cy_writer.specs.Given.{Given, with_chunk, with_message, message_on, chunk_puts}
-use Rattle.cy_writer.specs.Stands.{StandsFor, IsHeld}
+use Rattle.cy_writer.specs.Kept.{IsChunkOf, BeginsAt}
+use Rattle.cy_writer.specs.RecordWrites.{file_writes, front_puts, given_channels}
+use Rattle.cy_writer.specs.Stands.{Stands, StandsFor, IsHeld, IsThere}
 use Rattle.cy_writer.specs.declared.error.WriteError.{WriteError}
 use Rattle.cy_writer.specs.declared.error.WriteError.TheVariants as write_error
+use Rattle.cy_writer.specs.declared.chunk.Chunk.{Chunk}
 use Rattle.cy_writer.specs.declared.writing.Prepared.{Prepared}
+use Rattle.cy_writer.specs.declared.writer.RecordWriter.{RecordWriter}
 use Rattle.cy_writer.specs.declared.writing.Writing.{Writing}
+
+-- A file is made, and has these channels and no message.
+pub record StartsRecord (name : List ℕ) (channels : List Channel) (old new : StoreView)
+    (result : Result RecordWriter WriteError) : Type 0 where
+  pub given : IfOk result (λ w. Stands w (given_channels name channels))
+  pub there : IfOk result (λ w. IsThere w new.files)
+  pub makes : Makes (file_writes name (front_puts channels [])) old new result
+  pub unbroken : IsErrOf result write_error.Broken → ⊥
+  pub causes : HasWriteCauses (IsErrOf result write_error.Failed) old new
 
 -- All is made that is needed to put the chunk that is gathered, and the writer stands for what it
 -- stood for.
@@ -56,6 +71,27 @@ pub record PutsChunk {T : Type 0} (o p : Writing) (old new : StoreView)
   pub told : OnOk result (new.files ≡ None → old.files ≡ None)
   pub unbroken : IsErrOf result write_error.Broken → ⊥
   pub causes : HasWriteCauses (IsErrOf result write_error.Failed) old new
+
+-- Where a chunk has no message yet, room is made for the head of its section, and its first time is
+-- noted.
+pub record BeginsChunk {T : Type 0} (c d : Chunk) (time : ℕ) (result : Result T WriteError) : Type 0
+  where
+    pub same : (messages : List BodyMessage) → IsChunkOf c messages → IsChunkOf d messages
+    pub first : (messages : List BodyMessage) (m : BodyMessage) → IsChunkOf c messages
+        → m.time ≡ time → OnOk result (BeginsAt d.first_time (messages ++ m ∷ []))
+    pub room : OnOk result (16 ≤ length d.section)
+    pub header : d.header ≡ c.header
+    pub only_memory : IsOkUnless result write_error.Memory
+
+-- A message is put behind the others of a chunk's section. Without memory the section is as it was.
+pub record PutsMessage {T : Type 0} (c d : Chunk) (m : BodyMessage) (result : Result T WriteError) :
+    Type 0 where
+  pub put : OnOk result (drop 16 d.section ≡ drop 16 c.section ++ message_field m)
+  pub same : OnErr result (d.section ≡ c.section)
+  pub room : 16 ≤ length d.section
+  pub header : d.header ≡ c.header
+  pub first : d.first_time ≡ c.first_time
+  pub only_memory : IsOkUnless result write_error.Memory
 
 -- A message that the chunk takes is gathered. Without memory the writer stands for what it stood
 -- for.

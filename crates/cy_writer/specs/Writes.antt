@@ -50,8 +50,8 @@ pub record Makes {T : Type 0} (writes : List Write) (old new : StoreView)
 abbrev pub IsPutOrNot : Write → Option Files → Option Files → Type 0
 IsPutOrNot w old new = (new ≡ old) ⊎ (new ≡ option_map (after_writes (w ∷ [])) old)
 
--- What a call leaves that puts pieces into a file. After Ok the file has at least so many bytes, and
--- a store that tells its files still does; without memory its files are as `short` says.
+-- What a call leaves that puts pieces into a file. After Ok the file has at least so many bytes,
+-- and a store that tells its files still does; without memory its files are as `short` says.
 pub record PutsInto {T : Type 0} (name : List ℕ) (writes : List Write) (end : ℕ)
     (short : Option Files → Type 0) (old new : StoreView)
     (result : Result T WriteError) : Type 0 where

@@ -56,9 +56,10 @@ impl Chunk {
     ghost use Rattle.std.specs.Bool.{Decides};
     ghost use Rattle.cy_section.specs.declared.types.BodyMessage.{BodyMessage};
     ghost use Rattle.cy_section.specs.declared.types.SectionKind.TheVariants as kind;
-    ghost use Rattle.cy_section.specs.Section.{section, message_field, chunk_body};
+    ghost use Rattle.cy_section.specs.Section.{section, chunk_body};
     ghost use Rattle.cy_section.specs.Chunks.{takes, chunk_raw_size};
-    ghost use Rattle.cy_writer.specs.Kept.{IsChunkOf, BeginsAt};
+    ghost use Rattle.cy_writer.specs.Kept.{IsChunkOf};
+    ghost use Rattle.cy_writer.specs.Steps.{BeginsChunk, PutsMessage};
 
     /// No messages yet; this takes no memory.
     pub fn new(alloc: Global) -> Self
@@ -86,7 +87,6 @@ impl Chunk {
     }
 
     // Whether the body with this message isn't longer than a chunk's may be.
-
     fn has_room(&self, name: &str, time: u64, content: &[u8]) -> bool
         ensures { (messages : List BodyMessage) → IsChunkOf self.now messages
             → result ≡ nat_le (length
@@ -106,7 +106,6 @@ impl Chunk {
     }
 
     /// Whether the chunk takes this message.
-
     pub fn takes(&self, name: &str, time: u64, content: &[u8]) -> bool
         ensures takes { (messages : List BodyMessage) → IsChunkOf self.now messages
             → result ≡ takes messages record {
@@ -126,14 +125,7 @@ impl Chunk {
     // Where there is no message yet, makes room for the head, which is set when the chunk is full,
     // and notes the first time.
     fn begin(&mut self, time: u64) -> Result<(), WriteError>
-        ensures same { (messages : List BodyMessage) → IsChunkOf self.old messages
-            → IsChunkOf self.new messages }
-        ensures first { (messages : List BodyMessage) (m : BodyMessage)
-            → IsChunkOf self.old messages → m.time ≡ time
-            → OnOk result (BeginsAt self.new.first_time (messages ++ m ∷ [])) }
-        ensures room { OnOk result (16 ≤ length self.new.section) }
-        ensures header { self.new.header ≡ self.old.header }
-        ensures only_memory { IsOkUnless result WriteError.Memory }
+        ensures { BeginsChunk self.old self.new time result }
     {
         if !self.is_empty() {
             return Ok(());
@@ -147,18 +139,8 @@ impl Chunk {
     // Adds a message to the section, where there is room for the head.
     fn put(&mut self, name: &str, time: u64, content: &[u8]) -> Result<(), WriteError>
         requires { 16 ≤ length self.old.section }
-        ensures ok { OnOk result (drop 16 self.new.section ≡ drop 16 self.old.section
-            ++ message_field record {
-              channel_name = name.now;
-              time = time;
-              content =
-                  content.now;
-            }) }
-        ensures room { 16 ≤ length self.new.section }
-        ensures err { OnErr result (self.new.section ≡ self.old.section) }
-        ensures header { self.new.header ≡ self.old.header }
-        ensures first { self.new.first_time ≡ self.old.first_time }
-        ensures only_memory { IsOkUnless result WriteError.Memory }
+        ensures { PutsMessage self.old self.new
+            record { channel_name = name.now; time = time; content = content.now } result }
     {
         put_message(&mut self.section, name, time, content).map_err(no_memory_for_section)?;
         Ok(())

@@ -3,6 +3,8 @@
 //!
 //! `specs/Given` says what a writer was given and what it puts into its file for it, `specs/Stands`
 //! what it keeps of that, `specs/Writes` what stands in the store where a write fails.
+//! `specs/Record` says what one call comes to that writes a whole record, and `specs/Messages` how
+//! its messages are given.
 #![tactic(auto)]
 
 mod chunk;
@@ -10,11 +12,18 @@ mod error;
 mod headers;
 mod kept;
 mod laws;
+mod messages;
 mod put;
+mod record;
 mod sum;
 mod writer;
 mod writing;
 
 pub use error::WriteError;
-pub use laws::{chunks_end_in_time, messages_stay_in_order};
+pub use laws::{
+    chunks_end_in_time, messages_stand_in_their_chunks, messages_stay_in_order,
+    record_writes_leave_the_record,
+};
+pub use messages::{Messages, Stamp};
+pub use record::{ChannelRef, write_record};
 pub use writer::RecordWriter;

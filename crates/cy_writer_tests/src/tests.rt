@@ -1,6 +1,9 @@
 // Records byte by byte, and puts that fail in turn.
+ghost use Rattle.std.specs.Prelude.{⊤};
+ghost use Rattle.cy_writer_tests.specs.Zeros.{zeros_at};
+
 use cy_store::{MemStore, Store};
-use cy_writer::{RecordWriter, WriteError};
+use cy_writer::{ChannelRef, Messages, RecordWriter, Stamp, WriteError, write_record};
 use std::alloc::Global;
 use std::process::Abort;
 use std::test::Fail;
@@ -98,6 +101,43 @@ fn write_two<S: Store>(alloc: Global, store: &mut S, time: u64) -> Result<(), Wr
     writer.close(alloc, store)
 }
 
+// Messages of 0 on the first channel, at these times.
+#[derive(Drop)]
+struct Zeros<'a> {
+    times: &'a [u64],
+}
+
+impl Messages for Zeros<'_> {
+    ghost can_next = { λ _. ⊤ };
+
+    ghost shows = { λ z. zeros_at z.times.now };
+
+    fn next(&mut self) -> Result<Option<Stamp>, WriteError> {
+        let Some((time, rest)) = self.times.split_first() else {
+            return Ok(None);
+        };
+        self.times = rest;
+        Ok(Some(Stamp {
+            channel: 0,
+            time: *time,
+        }))
+    }
+
+    fn content(&self) -> &[u8] {
+        b"\x08\0"
+    }
+}
+
+// Writes them by one call, on one channel.
+fn write_zeros<S: Store>(alloc: Global, store: &mut S, times: &[u64]) -> Result<(), WriteError> {
+    let channels = [ChannelRef {
+        name: "/a",
+        message_type: "",
+        proto_desc: b"",
+    }];
+    write_record(alloc, store, NAME, &channels, Zeros { times })
+}
+
 // Whether the file is this header, zeros up to the sections, and the sections.
 fn holds(store: &MemStore, header: &[u8], sections: &[u8]) -> bool {
     let Some(bytes) = store.file(NAME) else {
@@ -124,6 +164,9 @@ fn writes_records_byte_by_byte(rt: HostRuntime) -> Result<(), Fail> {
         let mut store = MemStore::new(alloc);
         write_two(alloc, &mut store, time)?;
         assert!(rt; holds(&store, header, sections), "{time}");
+        let mut whole = MemStore::new(alloc);
+        write_zeros(alloc, &mut whole, &[0, time])?;
+        assert!(rt; holds(&whole, header, sections), "{time} by one call");
     }
     Ok(())
 }

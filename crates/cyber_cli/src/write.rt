@@ -2,7 +2,7 @@
 ghost use Rattle.std.specs.Prelude.{[], ◌∷◌, List, ℕ, IsErrOf};
 ghost use Rattle.cy_store.specs.Store.{HasWriteCauses};
 ghost use Rattle.cy_writer.specs.Writes.{Makes};
-ghost use Rattle.cy_replay.specs.RecordWrites.{file_writes};
+ghost use Rattle.cy_writer.specs.RecordWrites.{file_writes};
 
 use cy_store::Store;
 use cy_writer::WriteError;

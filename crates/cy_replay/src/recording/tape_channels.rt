@@ -1,7 +1,7 @@
 // The channels of a tape.
 ghost use Rattle.std.specs.Prelude.{◌≡◌, ◌≤◌, ◌<◌, ℕ, [], Some, length, slice_get, OnOk, IfOk};
 ghost use Rattle.std.specs.Prelude.{IsOkUnless, true, ◌==◌};
-ghost use Rattle.std.specs.List.{list_any};
+ghost use Rattle.std.specs.List.{list_any, position};
 ghost use Rattle.cy_msg.specs.declared.token.Token.{Token};
 ghost use Rattle.cy_replay.specs.Recording.{with_number, numbers_after};
 ghost use Rattle.cy_replay.specs.RecordSteps.{AreNumbered};
@@ -70,7 +70,7 @@ impl TapeChannels {
     pub(crate) fn number(&self, channel: u32) -> u32
         requires numbered { AreNumbered self.now.order.items self.now.numbers.items }
         requires there { list_any (λ other. channel == other) self.now.order.items ≡ true }
-        ensures { slice_get self.now.order.items result ≡ Some channel }
+        ensures { position (λ other. channel == other) self.now.order.items ≡ Some result }
     {
         match self.numbers[channel as usize] {
             Some(number) => number,

@@ -90,7 +90,8 @@ impl FlagTable {
             let Part::Visitor(visitor) = closed.take(2 * c + 2) else {
                 unreachable!()
             };
-            taken.routines.push_reserved(routine.into_routine());
+            let kept = routine.into_routine();
+            taken.routines.push_reserved(kept);
             taken.visitors.push_reserved(visitor);
             taken.spent.push_reserved(closed.word(4 * c + 6) == 1);
         }

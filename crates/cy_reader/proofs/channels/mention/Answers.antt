@@ -1,4 +1,4 @@
-use Rattle.std.proofs.Common.{arith, rules}
+use Rattle.std.proofs.Common.{arith}
 use Rattle.std.proofs.lemmas.Grind.{common_steps}
 use Rattle.cy_reader.proofs.Sums.{places}
 use Rattle.cy_reader.proofs.channels.mention.Goals as goal

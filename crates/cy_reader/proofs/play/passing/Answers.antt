@@ -1,4 +1,4 @@
-use Rattle.std.proofs.Common.{◌≤◌, ◌+◌, arith}
+use Rattle.std.proofs.Common.{arith}
 use Rattle.cy_reader.proofs.Playing.{more-played, more-shadowed, one_at_most, below-more}
 use Rattle.cy_reader.proofs.play.passing.Goals as goal
 

@@ -1,4 +1,4 @@
-use Rattle.std.proofs.Common.{◌≡◌, ◌<◌, ◌≤◌, ◌∙◌, ◌==◌, ℕ, List, [], length, take, get_or, set, ◌+◌, ◌++◌, ◌∷◌, Some, ap, sym, subst, arith, rules, length-take, length-set}
+use Rattle.std.proofs.Common.{◌≡◌, ◌<◌, ◌∙◌, ◌==◌, ℕ, List, [], length, take, get_or, set, ◌+◌, ◌++◌, ◌∷◌, Some, ap, sym, subst, arith, rules, length-take, length-set}
 use Rattle.std.proofs.lemmas.List.{get_or_default}
 use Rattle.cy_reader.specs.declared.play.ChannelUse.{ChannelUse}
 use Rattle.std.specs.Prelude.{filter}

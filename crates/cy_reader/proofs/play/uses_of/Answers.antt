@@ -1,5 +1,5 @@
-use Rattle.std.proofs.Common.{◌≡◌, ◌<◌, ◌∙◌, ℕ, List, length, ap, sym, arith, rules, length-append, [], ◌∷◌}
-use Rattle.cy_reader.specs.Play.{Choice, name_of}
+use Rattle.std.proofs.Common.{◌<◌, ◌∙◌, length, ap, arith, rules, length-append, [], ◌∷◌}
+use Rattle.cy_reader.specs.Play.{Choice}
 use Rattle.cy_reader.specs.Uses.{use_of}
 use Rattle.cy_reader.proofs.Playing.{named-at, uses-more}
 use Rattle.cy_reader.proofs.play.uses_of.Goals as goal

@@ -1,7 +1,6 @@
-use Rattle.std.proofs.Common.{◌≡◌, ℕ, List, length, ap, sym, subst, ◌∙◌, rules}
+use Rattle.std.proofs.Common.{◌≡◌, ℕ, List, length, ap, subst, ◌∙◌, rules}
 use Rattle.cy_reader.specs.declared.facts.Facts.{Facts}
-use Rattle.cy_reader.specs.Record.{Contents, shown}
-use Rattle.cy_reader.specs.Loading.{met_of}
+use Rattle.cy_reader.specs.Record.{Contents}
 use Rattle.cy_reader.specs.Heads.{index_at}
 use Rattle.cy_reader.specs.Kept.{kept_source}
 use Rattle.cy_reader.specs.Facts.{AreFacts}

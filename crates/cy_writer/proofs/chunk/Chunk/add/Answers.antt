@@ -13,4 +13,4 @@ returns-clause-added c messages held =
     chunk_more c.begin.new.self _ messages m begun
     (c.in_ok-header.ensures.counted ∙ ap (λ (h : ChunkHeader). counted_with h m.time (length m.content)) (sym c.begin.ensures.header))
     (rw c.put.ensures.first (c.in_ok-begin.ensures.first messages m held refl))
-    (c.in_ok-put.ensures.ok ∙ ap (λ (bytes : List ℕ). bytes ++ message_field m) begun.body)
+    (c.in_ok-put.ensures.put ∙ ap (λ (bytes : List ℕ). bytes ++ message_field m) begun.body)

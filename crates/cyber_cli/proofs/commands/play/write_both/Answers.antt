@@ -1,7 +1,7 @@
 use Rattle.std.proofs.Common.{◌∙◌}
 use Rattle.wake_core.specs.WorldOf.{plain_of}
 use Rattle.wake_core.specs.Rest.{run_shown}
-use Rattle.cy_replay.specs.RecordWrites.{file_writes}
+use Rattle.cy_writer.specs.RecordWrites.{file_writes}
 use Rattle.cyber_cli.specs.PlayEnds.{source_by}
 use Rattle.cyber_cli.specs.PlayViews.{play_words_of}
 use Rattle.cyber_cli.specs.PlayWork.{run_trace}

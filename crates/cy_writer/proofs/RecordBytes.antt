@@ -15,7 +15,7 @@ use Rattle.cy_section.specs.RecordText.{Part, parts_of, bytes_of, index_section,
 use Rattle.cy_section.proofs.Lengths.{length-header_section}
 use Rattle.cy_writer.specs.Writes.{placed, file_after}
 use Rattle.cy_writer.proofs.Puts.{put_of, get-inserted, written_at-end}
-use Rattle.cy_replay.specs.RecordWrites.{file_writes, record_sections, record_puts}
+use Rattle.cy_writer.specs.RecordWrites.{file_writes, record_sections, record_puts}
 
 -- pieces put behind one another
 

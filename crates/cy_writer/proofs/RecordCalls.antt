@@ -15,10 +15,10 @@ use Rattle.cy_writer.specs.declared.writing.Writing.{Writing}
 use Rattle.cy_writer.specs.Given.{Given, nothing_given, with_channel, with_message, start_puts, channel_puts, message_puts, close_puts, chunks_of, messages_of}
 use Rattle.cy_writer.specs.Stands.{Stands, StandsFor, IsBroken, HasChannel, IsThere}
 use Rattle.cy_writer.specs.Writes.{puts_into, Makes}
-use Rattle.cy_writer.proofs.Puts.{put_of, held_some, map-after_writes, makes_first, makes_then, causes_then, untold_map}
+use Rattle.cy_writer.proofs.Puts.{put_of, held_some, map-after_writes, makes_first, makes_then, makes_none, causes_then, untold_map}
 use Rattle.cy_writer.proofs.Closing.{length-kept_channels}
-use Rattle.cy_replay.specs.RecordWrites.{file_writes, record_puts, given_channels, with_messages, chunks_given, front_puts}
-use Rattle.cy_replay.proofs.FrontPuts.{front-channel, front-message, closing, rest_of, same_given, same_name, same_channels, with_messages-append}
+use Rattle.cy_writer.specs.RecordWrites.{file_writes, record_puts, given_channels, with_messages, chunks_given, front_puts}
+use Rattle.cy_writer.proofs.FrontPuts.{front-channel, front-message, closing, rest_of, same_given, same_name, same_channels, with_messages-append}
 
 -- What a writer stands for tells of it.
 
@@ -158,6 +158,15 @@ makes_step r answer name channels messages m later w old mid new so_far made err
     ∙ ap (record_writes name channels) (append_assoc messages (m ∷ []) later) in
     subst (λ (ws : List Write). Makes ws old new answer) whole
     (makes_then answer front (step ++ rest.0) old mid new so_far.files (makes_first r answer step rest.0 mid new made err passed_on) unbroken)
+
+-- memory ran out before a message
+pub makes_stopped : {T : Type 0} (answer : Result T WriteError) (name : List ℕ) (channels : List Channel) (messages later : List BodyMessage) (w : RecordWriter) (old mid : StoreView)
+    → IsUnderWay name channels messages w old mid → OnOk answer ⊥ → (IsErrOf answer write_error.Failed → ⊥) → (IsErrOf answer write_error.Broken → ⊥)
+    → Makes (record_writes name channels (messages ++ later)) old mid answer
+makes_stopped answer name channels messages later w old mid so_far err unfailed unbroken =
+    let rest = rest_writes name channels messages later in
+    subst (λ (ws : List Write). Makes ws old mid answer) rest.1
+    (makes_then answer (front_writes name channels messages) rest.0 old mid mid so_far.files (makes_none answer rest.0 mid err unfailed) unbroken)
 
 -- all messages were taken, and the record is closed
 pub makes_closed : {T : Type 0} (r : Result T WriteError) (name : List ℕ) (channels : List Channel) (messages : List BodyMessage) (w : RecordWriter) (old mid new : StoreView)

@@ -13,7 +13,7 @@ use Rattle.cy_section.proofs.Lengths.{length-header_section}
 use Rattle.cy_writer.specs.Writes.{placed}
 use Rattle.cy_writer.specs.Given.{Given, with_message, chunks_of, kept_chunk, front_of, chunk_parts, chunk_puts, channel_puts, message_puts, close_puts}
 use Rattle.cy_writer.proofs.Closing.{placed-append, length-sections_of}
-use Rattle.cy_replay.specs.RecordWrites.{record_puts, with_messages, front_puts, given_channels}
+use Rattle.cy_writer.specs.RecordWrites.{record_puts, with_messages, front_puts, given_channels}
 
 -- The sections of parts.
 

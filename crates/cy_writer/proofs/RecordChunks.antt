@@ -5,7 +5,7 @@ use Rattle.cy_section.specs.declared.types.Channel.{Channel}
 use Rattle.cy_section.specs.Chunks.{AreChunksOf}
 use Rattle.cy_writer.specs.Given.{Given, with_message, messages_of, IsCut}
 use Rattle.cy_writer.proofs.Cut.{message_cut, message_last}
-use Rattle.cy_replay.specs.RecordWrites.{given_channels, with_messages, chunks_given}
+use Rattle.cy_writer.specs.RecordWrites.{given_channels, with_messages, chunks_given}
 
 cut_all : (g : Given) (messages : List BodyMessage) → IsCut g → IsCut (with_messages g messages)
 cut_all g [] cut = cut

@@ -1,5 +1,0 @@
-use Rattle.cy_replay.proofs.RecordBytes.{after_record}
-use Rattle.cy_replay.proofs.recording.laws.record_writes_leave_the_record.Goals as goal
-
-pub returns : goal.returns
-returns c = λ name channels chunks files. after_record channels chunks files name

@@ -1,0 +1,8 @@
+//! Tests of the flag table: a table is made of a world, threads take their steps there, and the
+//! world that it gives back has what they did.
+#![tactic(auto)]
+
+#[cfg(test)]
+mod holds;
+#[cfg(test)]
+mod tables;
