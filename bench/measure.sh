@@ -11,7 +11,7 @@ repository() { # the folder of this repository, the program, and the crates
   cd "$work/repository"
   for crate in "$@"; do
     cp -r "$top/crates/$crate" "crates/$crate"
-    grep "^$crate:" "$top/crates.txt" >>crates.txt
+    grep "^$crate[ :]" "$top/crates.txt" >>crates.txt
   done
   echo "$program: $*" >>crates.txt
 }

@@ -1,18 +1,16 @@
 -- Words and slots that are laid out for a world.
-use Rattle.std.proofs.Common.{ℕ, zero, suc, ◌+◌, ◌-◌, ◌*◌, ◌≡◌, ◌≢◌, ◌≤◌, ◌<◌, ◌⊎◌, Bool, true, false, refl, sym, ◌∙◌, ap, ap₂, subst, inl, inr, List, [], ◌∷◌, ◌++◌, length, map, set, replicate, slice_index, slice_get, get_or, get_or-set_same, get_or-set_other, length-set, option_map, Option, Some, None, vec_capacity, arith}
+use Rattle.std.proofs.Common.{ℕ, zero, suc, ◌+◌, ◌-◌, ◌*◌, ◌≡◌, ◌≢◌, ◌≤◌, ◌<◌, ◌⊎◌, true, refl, sym, ◌∙◌, ap, ap₂, subst, inl, inr, List, [], ◌∷◌, ◌++◌, length, map, set, replicate, slice_index, slice_get, get_or, get_or-set_same, get_or-set_other, length-set, option_map, Option, Some, None, vec_capacity, arith}
 use Rattle.std.specs.Option.{option_map_or}
 use Rattle.std.proofs.Math.Seq.{take-length}
 use Rattle.std.proofs.lemmas.List.{length-replicate}
 use Rattle.std.proofs.lemmas.Option.{slice_get_within}
-use mathlib.Core.Option.{some, some-injective, some-ne-none}
+use mathlib.Core.Option.{some, some-ne-none}
 use lib.ListN.{get_elem?}
 use Rattle.atomic_table.specs.Table.{opening}
-use Rattle.cy_msg.specs.declared.token.Token.{Token}
 use Rattle.cy_fuse.specs.Fusion.{Arrival}
 use Rattle.cy_fuse.specs.Visitor.{VisitorView}
 use Rattle.cy_comp.specs.declared.kind.Kind.{Kind}
 use Rattle.cy_comp.specs.declared.kind.Kind.TheVariants.{Pass}
-use Rattle.cy_comp.specs.declared.call.Call.{Call}
 use Rattle.cy_comp.specs.declared.call.Out.{Out}
 use Rattle.cy_comp.specs.Calls.{output}
 use Rattle.cy_comp.specs.Routine.{RoutineView}
@@ -20,14 +18,14 @@ use Rattle.wake_core.specs.declared.route.Route.{Route}
 use Rattle.wake_core.specs.declared.parts.Parts.{Parts}
 use Rattle.wake_core.specs.declared.world.World.{World}
 use Rattle.cy_comp.specs.declared.state.State.{State}
-use Rattle.wake_core.specs.Plain.{Plain, Ready, unsent_of}
+use Rattle.wake_core.specs.Plain.{Plain, Ready}
 use Rattle.wake_core.specs.Fields.{read, no_routine, no_visitor, IsFixed, queue_of}
 use Rattle.wake_core.specs.WorldOf.{plain_of, routes_in, counts_in}
 use Rattle.wake_core.specs.Parts.{routine_in, shown_by, AreFit}
 use Rattle.cy_table.specs.declared.part.Part.{Part}
 use Rattle.cy_table.specs.declared.part.Part.TheVariants as part
 use Rattle.cy_table.specs.Layout.{number_of, yes_or_no}
-use Rattle.cy_table.specs.Seats.{Seat, Seen, TapeView}
+use Rattle.cy_table.specs.Seats.{Seat, TapeView}
 use Rattle.cy_table.specs.Rule.{Rooms, AreRoomy, AreSeen, LiesOpen, kind_at, roles_at, queue_at, out_in, pending_at, routine_at, visitor_at, tape_at}
 use Rattle.cy_table.specs.Steps.{first_seat, at_rest}
 use Rattle.cy_table.specs.Plays.{calls_from, rule_for, seat_for}

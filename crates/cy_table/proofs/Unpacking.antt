@@ -6,15 +6,11 @@ use mathlib.Core.Option.{some, some-injective, some-ne-none}
 use lib.ListN.{get_elem?}
 use Rattle.atomic_table.specs.Table.{Final, Seen}
 use Rattle.cy_msg.specs.declared.token.Token.{Token}
-use Rattle.cy_msg.specs.Tokens.{on_channel}
-use Rattle.cy_fuse.specs.Fusion.{Arrival}
 use Rattle.cy_fuse.specs.Visitor.{VisitorView}
 use Rattle.cy_comp.specs.declared.kind.Kind.TheVariants.{Pass}
 use Rattle.cy_comp.specs.declared.call.Call.{Call}
-use Rattle.cy_comp.specs.declared.call.Out.{Out}
 use Rattle.cy_comp.specs.Calls.{cursor_after, outs, output}
 use Rattle.cy_comp.specs.Routine.{RoutineView}
-use Rattle.wake_core.specs.declared.entries.TheConstants.{MOST_PLANNED}
 use Rattle.wake_core.specs.declared.route.Route.{Route}
 use Rattle.wake_core.specs.declared.parts.Parts.{Parts}
 use Rattle.wake_core.specs.Run.{played_of}
@@ -24,7 +20,7 @@ use Rattle.wake_core.specs.Sound.{Sound}
 use Rattle.wake_core.specs.Fields.{read, no_routine, no_visitor, IsFixed, IsVisited, IsRoomy, queue_of}
 use Rattle.wake_core.specs.WorldOf.{routes_in, counts_in}
 use Rattle.wake_core.specs.WorldCalls.{IsRoutineOf}
-use Rattle.wake_core.specs.Laws.{IsIdle, ThreadLaws, OutsideLaws, LimitLaws, AgreesWithin, SaysNothing}
+use Rattle.wake_core.specs.Laws.{IsIdle, ThreadLaws, OutsideLaws, AgreesWithin, SaysNothing}
 use Rattle.wake_core.specs.Rest.{at_rest}
 use Rattle.wake_core.specs.Parts.{routine_in, shown_by, AreFit}
 use Rattle.wake_core.proofs.Outputs.{outs_at}
@@ -32,7 +28,7 @@ use Rattle.cy_table.specs.declared.part.Part.{Part}
 use Rattle.cy_table.specs.declared.part.Part.TheVariants as part
 use Rattle.cy_table.specs.Layout.{yes_or_no}
 use Rattle.cy_table.specs.Seats.{Seat, Seen as Sight, TapeView}
-use Rattle.cy_table.specs.Rule.{Rooms, Ruled, AreRoomy, AreSeen, Knows, IsEmpty, kind_at, roles_at, queue_at, out_in, pending_at, routine_at, visitor_at, tape_at}
+use Rattle.cy_table.specs.Rule.{Rooms, Ruled, AreRoomy, AreSeen, Knows, IsEmpty, out_in, pending_at, routine_at, visitor_at, tape_at}
 use Rattle.cy_table.specs.Steps.{Sits}
 use Rattle.cy_table.specs.Plays.{HasSeen}
 use Rattle.cy_table.specs.Laws.{TableEnds}

@@ -1,5 +1,5 @@
 -- What is said of numbers that are no component's tells nothing.
-use Rattle.std.proofs.Common.{ℕ, zero, suc, ◌+◌, ◌-◌, ◌≡◌, ◌≢◌, ◌≤◌, ◌<◌, ◌⊎◌, Bool, true, false, refl, sym, ◌∙◌, ap, ap₂, subst, inl, inr, arith, Option, Some, None, List, [], ◌∷◌, length, take, slice_get, option_and_then}
+use Rattle.std.proofs.Common.{ℕ, zero, suc, ◌-◌, ◌≡◌, ◌≤◌, ◌<◌, ◌⊎◌, true, false, refl, sym, ◌∙◌, ap, ap₂, subst, inl, inr, arith, Option, Some, None, List, [], length, take, slice_get, option_and_then}
 use Rattle.std.specs.Option.{option_map_or}
 use mathlib.Core.Path.{fun_ext}
 use Rattle.std.proofs.lemmas.Option.{slice_get_past, slice_get_within}
@@ -8,10 +8,10 @@ use Rattle.cy_fuse.specs.Fusion.{Arrival, fused}
 use Rattle.cy_fuse.specs.Fetch.{fetch}
 use Rattle.cy_comp.specs.declared.call.Call.{Call}
 use Rattle.cy_comp.specs.declared.call.Outcome.{Outcome}
-use Rattle.cy_comp.specs.Calls.{LawfulCalls, cursor_after, last_outcome, is_last, held_until, outs}
+use Rattle.cy_comp.specs.Calls.{cursor_after, last_outcome, is_last, held_until, outs}
 use Rattle.wake_core.specs.Run.{Route}
-use Rattle.wake_core.specs.Plain.{Plain, Hand, hand, State, Ready, DataWait, Sleep, Finished, Phase, reads, lists_reader, last_of, outs_of, made_of, taped_of, tail_at, found_by}
-use Rattle.wake_core.specs.Sound.{Held, Called, Delivered, Causal, Room, Wakes, Timely, Consistent, Sound, NotRunning, IsOutput, WasHeld}
+use Rattle.wake_core.specs.Plain.{Plain, Ready, DataWait, Sleep, Finished, reads, last_of, made_of, taped_of, tail_at, found_by}
+use Rattle.wake_core.specs.Sound.{Held, Called, Delivered, Causal, Room, Wakes, Timely, Sound, IsOutput, WasHeld}
 use Rattle.wake_core.specs.Laws.{AgreesWithin, SaysNothing}
 use Rattle.wake_core.proofs.Delivering.{owes_channel}
 

@@ -1,10 +1,10 @@
 -- What the parts of a world show, and the world that is put together of parts.
-use Rattle.std.proofs.Common.{ℕ, zero, suc, ◌+◌, ◌-◌, ◌*◌, ◌≡◌, ◌≢◌, ◌≤◌, ◌<◌, ◌^◌, ◌⊎◌, ◌==◌, ◌||◌, Bool, true, false, refl, sym, ◌∙◌, ap, subst, inl, inr, arith, Option, Some, None, List, [], ◌∷◌, length, map, filter, take, drop, replicate, cond, is_some, slice_get, option_map, vec_capacity}
+use Rattle.std.proofs.Common.{ℕ, zero, suc, ◌+◌, ◌-◌, ◌≡◌, ◌≤◌, ◌<◌, ◌⊎◌, ◌==◌, ◌||◌, Bool, true, false, refl, sym, ◌∙◌, ap, subst, inl, inr, arith, Option, Some, None, List, [], ◌∷◌, length, map, filter, drop, replicate, cond, is_some, slice_get, option_map, vec_capacity}
 use Rattle.std.specs.Option.{option_map_or}
 use Rattle.std.specs.List.{list_any}
 use mathlib.Core.Path.{fun_ext}
-use Rattle.std.proofs.lemmas.List.{drop_all, length-map}
-use Rattle.std.proofs.lemmas.Option.{slice_get_past, slice_get_within, slice_get-get_or}
+use Rattle.std.proofs.lemmas.List.{drop_all}
+use Rattle.std.proofs.lemmas.Option.{slice_get_within, slice_get-get_or}
 use Rattle.cy_msg.specs.declared.token.Token.{Token}
 use Rattle.cy_msg.specs.Tokens.{on_channel}
 use Rattle.cy_fuse.specs.Visitor.{VisitorView}
@@ -19,12 +19,11 @@ use Rattle.wake_core.specs.declared.parts.Parts.{Parts}
 use Rattle.wake_core.specs.declared.world.World.{World}
 use Rattle.wake_core.specs.WorldOf.{plain_of, routes_in, counts_in}
 use Rattle.wake_core.specs.Run.{Route, readers_of, writes_from}
-use Rattle.wake_core.specs.Plain.{Plain, Hand, hand, Ready, blank, opening_world, outs_of, taped_of, unsent_of}
-use Rattle.wake_core.specs.Sound.{Sound, NotRunning}
+use Rattle.wake_core.specs.Plain.{Plain, Hand, Ready, blank, opening_world, outs_of, taped_of}
+use Rattle.wake_core.specs.Sound.{Sound}
 use Rattle.wake_core.specs.Fields.{read, no_routine, no_visitor, calls_at, shown_calls, fills_of, plain_at, IsFixed, IsStepping, IsWaiting, IsVisited, IsRoomy}
 use Rattle.wake_core.specs.Opening.{IsNothing, AreNothing}
 use Rattle.wake_core.specs.WorldCalls.{IsRoutineOf}
-use Rattle.wake_core.specs.Laws.{IsIdle}
 use Rattle.wake_core.specs.Rest.{IsAtRest, at_rest}
 use Rattle.wake_core.specs.Parts.{routine_in, shown_by, AreFit}
 use Rattle.wake_core.specs.Sent.{outputs_of, waiting_of, sent_of, IsCounted, AreCounted}

@@ -1,5 +1,5 @@
 -- The rule holds of the words and slots that are laid out.
-use Rattle.std.proofs.Common.{ℕ, ◌≡◌, ◌+◌, ◌*◌, ◌∷◌, List, [], length, sym, ap, ap₂, ◌∙◌, subst, arith}
+use Rattle.std.proofs.Common.{ℕ, ◌≡◌, ◌∷◌, List, [], length, sym, ap, ap₂, ◌∙◌, subst, arith}
 use Rattle.atomic_table.specs.Table.{opening}
 use Rattle.cy_comp.specs.Routine.{RoutineView}
 use Rattle.cy_fuse.specs.Visitor.{VisitorView}

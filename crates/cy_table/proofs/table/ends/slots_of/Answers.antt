@@ -1,7 +1,6 @@
-use Rattle.std.proofs.Common.{rules, arith, ◌≡◌, ◌++◌, ◌∷◌, [], List, ap, ◌∙◌}
+use Rattle.std.proofs.Common.{rules, ◌≡◌, ◌++◌, ◌∷◌, [], ap, ◌∙◌}
 use Rattle.std.specs.Vec.Iter.{into_iter_items}
 use Rattle.cy_comp.specs.Routine.{RoutineView}
-use Rattle.cy_fuse.specs.Visitor.{VisitorView}
 use Rattle.cy_table.specs.declared.part.Part.TheVariants as part
 use Rattle.cy_table.proofs.Laying.{laid_step, few_rest}
 use Rattle.cy_table.proofs.table.ends.slots_of.Goals as goal
