@@ -1,0 +1,4 @@
+pub mod Delivering
+pub mod Filled
+pub mod Played
+pub mod Mustered

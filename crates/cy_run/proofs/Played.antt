@@ -1,0 +1,92 @@
+-- The messages of a list, one after another, by the player.
+use Rattle.std.proofs.Common.{ℕ, ◌+◌, ◌≡◌, ◌≤◌, ◌<◌, ◌==◌, ◌∙◌, cond, Bool, true, false, List, [], ◌∷◌, ◌++◌, refl, sym, ap, subst, arith, length, take, get_or, Some, zero, suc}
+use Rattle.std.proofs.lemmas.Bool.Decides.{nat_tests}
+use Rattle.std.proofs.lemmas.List.{take_more, take_all}
+use Rattle.std.proofs.lemmas.Option.{slice_get-get_or}
+use Rattle.std.specs.Prelude.{slice_get, slice_index}
+use Rattle.cy_msg.specs.declared.token.Token.{Token}
+use Rattle.cy_msg.specs.Tokens.{on_channel, IsTimed, IsNumbered}
+use Rattle.wake_core.specs.declared.route.Route.{Route}
+use Rattle.wake_core.specs.Plain.{to_play_from}
+use Rattle.wake_core.specs.Run.{writes_from}
+use Rattle.wake_core.specs.Rest.{IsToPlay}
+use Rattle.wake_core.specs.Serial.{last_clock}
+use Rattle.wake_core.proofs.Listed.{to_play_total}
+use Rattle.cy_table.specs.declared.pass.Pass.{Pass}
+use Rattle.cy_table.specs.declared.table.FlagTable.{FlagTable}
+use Rattle.cy_table.specs.Seats.{Seat}
+use Rattle.cy_table.specs.Steps.{ticking}
+use Rattle.cy_table.specs.Plays.{Thread}
+use Rattle.cy_table.specs.Calls.{made_of, seat_of, thread_of, knowing, Stays, CanClose}
+use Rattle.cy_run.specs.Playing.{IsFreePlayer, IsNextFor, after_play, IsToBePlayed, PlaysOn}
+
+-- There is one message more of its channel in a list than before it.
+one_more : (xs : List Token) (i : ℕ) (t : Token) → slice_get xs i ≡ Some t → length (on_channel t.channel (take i xs)) + 1 ≤ length (on_channel t.channel xs)
+one_more [] i t e = cc
+one_more (x ∷ xs) zero t e = subst (λ (y : Token). 1 ≤ length (on_channel y.channel (x ∷ xs))) (same e) (first (x.channel == x.channel) (equal x.channel))
+  where
+    same : Some x ≡ Some t → x ≡ t
+    same e = cc
+
+    equal : (n : ℕ) → (n == n) ≡ true
+    equal n = grind (arith, nat_tests)
+
+    first : (b : Bool) → b ≡ true → 1 ≤ length (cond b (x ∷ on_channel x.channel xs) (on_channel x.channel xs))
+    first true e = omega arith
+    first false e = cc
+one_more (x ∷ xs) (suc i) t e = by (x.channel == t.channel) (one_more xs i t e)
+  where
+    by : (b : Bool) → length (on_channel t.channel (take i xs)) + 1 ≤ length (on_channel t.channel xs)
+        → length (cond b (x ∷ on_channel t.channel (take i xs)) (on_channel t.channel (take i xs))) + 1 ≤ length (cond b (x ∷ on_channel t.channel xs) (on_channel t.channel xs))
+    by true l = omega (arith, l)
+    by false l = l
+
+within_is : (m n k s : ℕ) → m + 1 ≤ n → s ≡ m + 1 → n ≡ k → s ≤ k
+within_is m n k s a b c = omega (arith, a, b, c)
+
+-- The message at a place.
+at_place : (tokens items : List Token) (i : ℕ) (d : Token) → items ≡ tokens → i < length items → slice_get tokens i ≡ Some (get_or items i d)
+at_place tokens items i d same lt = ap (λ l. slice_get l i) (sym same) ∙ slice_get-get_or items i d lt
+
+pub next_for : (t : FlagTable) (tokens items : List Token) (i : ℕ) (d : Token) (p q : Pass) → IsTimed tokens → IsNumbered tokens → IsToPlay (made_of t) tokens → items ≡ tokens → i < length items
+    → PlaysOn t tokens i p q → IsNextFor (seat_of q) (get_or items i d)
+next_for t tokens items i d p q timed numbered made same lt on =
+    let token = get_or items i d in let at : slice_get tokens i ≡ Some token = at_place tokens items i d same lt in let v = seat_of q in let seated = on.mine.free.seated in record {
+      later = on.clock token at;
+      unwritten = ap (λ (r : List Route). writes_from 0 r token.channel) seated.routes ∙ made.unwritten i token at;
+      next = numbered i token at ∙ ap (λ l. length (on_channel token.channel l) + 1) (sym on.played);
+      within = within_is (length (on_channel token.channel (take i tokens))) (length (on_channel token.channel tokens)) (slice_index v.counts token.channel) token.seq (one_more tokens i token at) (numbered i token at)
+          (made.counted token.channel ∙ ap (λ l. slice_index l token.channel) (sym seated.counts));
+    }
+
+pub plays_more : (t : FlagTable) (tokens items : List Token) (i : ℕ) (d : Token) (p q u : Pass) → IsTimed tokens → items ≡ tokens → i < length items → PlaysOn t tokens i p q
+    → IsFreePlayer t u → seat_of u ≡ after_play (seat_of q) (get_or items i d) → (seat_of u).clock ≤ last_clock → PlaysOn t tokens (i + 1) p u
+plays_more t tokens items i d p q u timed same lt on mine seat bound =
+    let token = get_or items i d in let at : slice_get tokens i ≡ Some token = at_place tokens items i d same lt in record {
+      mine = mine;
+      played = ap (λ (v : Seat). v.played) seat ∙ (ap (λ l. l ++ token ∷ []) on.played ∙ sym (subst (λ l. take (i + 1) l ≡ take i l ++ token ∷ []) same (take_more items i d lt)));
+      split = ap (λ (v : Seat). v.split) seat ∙ on.split;
+      bound = bound;
+      clock = λ later e. subst (λ n. n ≤ later.time) (sym (ap (λ (v : Seat). v.clock) seat)) (timed i token later at e);
+    }
+
+-- At the start of the list.
+pub plays_begin : (t : FlagTable) (tokens : List Token) (p : Pass) → IsToBePlayed t tokens p → PlaysOn t tokens 0 p p
+plays_begin t tokens p o = record {
+  mine = o.mine;
+  played = o.none_played;
+  split = refl;
+  bound = subst (λ n. n ≤ last_clock) (sym o.start) (omega arith);
+  clock = λ token e. subst (λ n. n ≤ token.time) (sym o.start) (omega arith);
+}
+
+-- At its end all was played.
+pub can_close : (t : FlagTable) (tokens items : List Token) (i : ℕ) (p q u : Pass) (time : ℕ) → IsToPlay (made_of t) tokens → items ≡ tokens → length items ≤ i → PlaysOn t tokens i p q → Stays t q u
+    → thread_of u ≡ knowing q (ticking (seat_of q) time) → CanClose t u
+can_close t tokens items i p q u time made same le on s told =
+    let seat : seat_of u ≡ ticking (seat_of q) time = ap (λ (m : Thread). m.0) told in let seated = on.mine.free.seated in record {
+      at = s.at;
+      player = s.number ∙ on.mine.player;
+      all = ap (λ (v : Seat). length v.played) seat ∙ (ap length (on.played ∙ take_all i tokens (subst (λ l. length l ≤ i) same le)) ∙ (sym (to_play_total (made_of t) tokens made)
+          ∙ (ap (λ (r : List Route). to_play_from r 0 (made_of t).counts) (sym (ap (λ (v : Seat). v.routes) seat ∙ seated.routes)) ∙ ap (to_play_from (seat_of u).routes 0) (sym (ap (λ (v : Seat). v.counts) seat ∙ seated.counts)))));
+    }

@@ -1,0 +1,13 @@
+use Rattle.std.proofs.Common.{rules, subst, sym}
+use Rattle.cy_run.specs.Running.{IsCrew}
+use Rattle.cy_run.proofs.Mustered.{hires}
+use Rattle.cy_run.proofs.run.add_workers.Goals as goal
+
+pub loop-preserved : goal.loop-preserved
+loop-preserved c = let i = c.loop.invariant in (
+  subst (λ l. IsCrew c.args.table.now c.args.contexts c.args.processors c.args.player.now c.split.new.pass l) (sym (search rules))
+      (hires c.args.table.now c.args.contexts c.args.processors c.args.player.now c.loop.player c.split.new.pass c.in_ok-pass.pass c.loop.crew.items c.args.plan c.len-me.result i.0 c.split.ensures.same
+      c.in_ok-pass.ensures.split.0 c.in_ok-pass.ensures.split.1 c.in_ok-pass.ensures.split.2 c.requires.plan (search rules) (search rules)),
+  search rules,
+  search rules,
+)

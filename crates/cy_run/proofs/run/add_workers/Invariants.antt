@@ -1,0 +1,7 @@
+use Rattle.std.proofs.Common.{◌≡◌, ◌+◌, vec_len, vec_capacity}
+use Rattle.cy_run.specs.Running.{IsCrew}
+use Rattle.cy_run.proofs.run.add_workers.Given as goal
+
+abbrev pub invariant-loop : goal.invariant-loop
+invariant-loop l = IsCrew l.table l.contexts l.processors l.initial.player l.player l.crew.items
+    × (vec_len l.crew ≡ vec_len l.initial.crew + l.counter) × (vec_capacity l.crew ≡ vec_capacity l.initial.crew)

@@ -1,0 +1,8 @@
+use Rattle.std.proofs.Common.{◌≡◌, ◌≤◌, take, length, vec_len, vec_capacity}
+use Rattle.cy_msg.specs.Placement.{processors_of}
+use Rattle.cy_run.specs.Running.{IsCrew}
+use Rattle.cy_run.proofs.run.crew_of.Given as goal
+
+abbrev pub invariant-loop-plan : goal.invariant-loop-plan
+invariant-loop-plan l = IsCrew l.table (length l.plans) l.processors l.initial.player l.player l.crew.items
+    × (vec_len l.crew ≡ processors_of (take l.plan l.plans)) × (l.processors ≤ vec_capacity l.crew)

@@ -1,0 +1,61 @@
+-- What the player does.
+use Rattle.std.specs.Prelude.{ℕ, ◌+◌, ◌≡◌, ◌≤◌, true, List, [], ◌∷◌, ◌++◌, length, slice_get}
+use Rattle.std.specs.Prelude.{slice_index, take, Some, None}
+use Rattle.cy_msg.specs.declared.token.Token.{Token}
+use Rattle.cy_msg.specs.Tokens.{on_channel}
+use Rattle.wake_core.specs.Run.{writes_from}
+use Rattle.wake_core.specs.Rest.{IsToPlay}
+use Rattle.wake_core.specs.Serial.{last_clock}
+use Rattle.cy_table.specs.declared.pass.Pass.{Pass}
+use Rattle.cy_table.specs.declared.table.FlagTable.{FlagTable}
+use Rattle.cy_table.specs.Seats.{Seat}
+use Rattle.cy_table.specs.Calls.{made_of, seat_of, number_of}
+use Rattle.cy_run.specs.Passes.{IsFree}
+
+-- The player's pass, with nothing in hand and nothing owed.
+pub record IsFreePlayer (t : FlagTable) (p : Pass) : Type 0 where
+  pub free : IsFree t p
+  pub player : number_of p ≡ 0
+
+-- A message may come next on the tape, once the clock is set to its time.
+pub record IsNextFor (v : Seat) (token : Token) : Type 0 where
+  pub later : v.clock ≤ token.time
+  pub unwritten : writes_from 0 v.routes token.channel ≡ None
+  pub next : token.seq ≡ length (on_channel token.channel v.played) + 1
+  pub within : token.seq ≤ slice_index v.counts token.channel
+
+-- It was played.
+abbrev pub after_play : Seat → Token → Seat
+after_play v token = record v {
+  visit = None;
+  tape = None;
+  fills = [];
+  news = [];
+  token = token;
+  played = v.played ++ token ∷ [];
+  clock = token.time;
+}
+
+-- The table's world was made for this list and is at its beginning, for all that the player knows.
+pub record IsToBePlayed (t : FlagTable) (tokens : List Token) (p : Pass) : Type 0 where
+  pub mine : IsFreePlayer t p
+  pub made : IsToPlay (made_of t) tokens
+  pub none_played : (seat_of p).played ≡ []
+  pub start : (seat_of p).clock ≡ 0
+
+-- The list was played: just its messages, in order; the clock is at its greatest value; and the
+-- player said that all was played.
+pub record IsPlayed (t : FlagTable) (tokens : List Token) (p q : Pass) : Type 0 where
+  pub mine : IsFreePlayer t q
+  pub exact : (seat_of q).played ≡ tokens
+  pub clock : (seat_of q).clock ≡ last_clock
+  pub closed : (seat_of q).closing ≡ true
+  pub split : (seat_of q).split ≡ (seat_of p).split
+
+-- So many messages of the list were played.
+pub record PlaysOn (t : FlagTable) (tokens : List Token) (n : ℕ) (p q : Pass) : Type 0 where
+  pub mine : IsFreePlayer t q
+  pub played : (seat_of q).played ≡ take n tokens
+  pub split : (seat_of q).split ≡ (seat_of p).split
+  pub bound : (seat_of q).clock ≤ last_clock
+  pub clock : (token : Token) → slice_get tokens n ≡ Some token → (seat_of q).clock ≤ token.time

@@ -1,0 +1,81 @@
+// What a processor passes before each call of a component.
+ghost use Rattle.std.specs.Prelude.{◌≡◌, ◌≢◌, length, None};
+ghost use Rattle.cy_table.specs.Calls.{component_of, routine_of, to_step};
+
+use cy_table::Hold;
+use std::sync::Wait;
+use std::sync::atomic::{AtomicBool, Ordering};
+use std::thread;
+
+/// What a processor passes before each call of a component.
+pub trait Gate: Sync {
+    /// Before a call of a component, which has the croutine `hold` in hand. The calls of a component
+    /// are numbered from 1. It may wait, and changes nothing of the run.
+    fn before_call<R: Wait>(&self, rt: &R, component: u32, call: u32, hold: &Hold)
+        requires in_hand { component_of hold.now ≡ component }
+        requires fetched { to_step hold.now ≢ None }
+        requires numbered { call ≡ length (routine_of hold.now).calls };
+}
+
+/// A gate that does nothing.
+#[derive(Drop)]
+pub struct OpenGate;
+
+impl Gate for OpenGate {
+    fn before_call<R: Wait>(&self, _rt: &R, _component: u32, _call: u32, _hold: &Hold) {}
+}
+
+/// A gate that holds the first call of one component until the first call of another is entered, or
+/// until it has looked for that so many times.
+#[derive(Drop)]
+pub struct MeetGate {
+    first: u32,
+    second: u32,
+    turns: u32,
+    entered: AtomicBool,
+    met: AtomicBool,
+}
+
+impl MeetGate {
+    /// The gate that holds the first call of component `first` until that of `second` is entered,
+    /// for at most so many turns. A turn is one look that finds it not entered.
+    pub fn new(first: u32, second: u32, turns: u32) -> Self {
+        MeetGate {
+            first,
+            second,
+            turns,
+            entered: AtomicBool::new(false),
+            met: AtomicBool::new(false),
+        }
+    }
+
+    /// Whether the first call of `second` was entered while that of `first` was held.
+    pub fn met(&self) -> bool {
+        self.met.load(Ordering::SeqCst)
+    }
+
+    // Holds the first call of `first`.
+    fn hold(&self) {
+        for _ in 0..self.turns {
+            if self.entered.load(Ordering::SeqCst) {
+                self.met.store(true, Ordering::SeqCst);
+                return;
+            }
+            thread::yield_now();
+        }
+    }
+}
+
+impl Gate for MeetGate {
+    fn before_call<R: Wait>(&self, _rt: &R, component: u32, call: u32, _hold: &Hold) {
+        if call != 1 {
+            return;
+        }
+        if component == self.second {
+            self.entered.store(true, Ordering::SeqCst);
+        }
+        if component == self.first {
+            self.hold();
+        }
+    }
+}

@@ -1,0 +1,27 @@
+//! Runs: a player that plays messages at a table, and processors that run components there, each in
+//! a thread of its own; and the serial run.
+//!
+//! `specs/Passes` says what a thread has between its steps, `specs/Sending` what the messages that
+//! it sends leave, `specs/Serving` what it does with a croutine in hand, `specs/Playing` what the
+//! player needs and leaves, `specs/Working` how a processor's work ends, `specs/Driving` what a
+//! drive of a whole list needs and leaves, `specs/Running` what a run needs.
+#![tactic(auto)]
+
+mod crew;
+mod deliver;
+mod driving;
+mod error;
+mod gate;
+mod idle;
+mod play;
+mod processor;
+mod run;
+mod serve;
+
+pub use crew::Worker;
+pub use driving::drive;
+pub use error::RunError;
+pub use gate::{Gate, MeetGate, OpenGate};
+pub use idle::Idle;
+pub use processor::work;
+pub use run::{run_serial, run_threads};

@@ -1,0 +1,57 @@
+// The player: it plays the messages of a list at the table, and closes.
+ghost use Rattle.std.specs.Prelude.{◌≡◌, ◌≤◌};
+ghost use Rattle.wake_core.specs.Serial.{last_clock};
+ghost use Rattle.cy_table.specs.Calls.{seat_of, Stays};
+ghost use Rattle.cy_run.specs.Passes.{IsMadeOf};
+ghost use Rattle.cy_run.specs.Playing.{IsFreePlayer, IsNextFor, after_play, IsToBePlayed, IsPlayed};
+
+use crate::Idle;
+use crate::deliver::deliver;
+use cy_comp::Wiring;
+use cy_msg::{PlayList, Token};
+use cy_table::{FlagTable, Pass};
+use std::sync::Wait;
+
+// Plays the messages of a list, one after another. Then it sets the clock to its greatest value and
+// says that all was played.
+pub(crate) fn play_all<R: Wait>(
+    rt: &R,
+    table: &FlagTable,
+    player: &mut Pass,
+    idle: &Idle,
+    wiring: &Wiring,
+    list: &PlayList,
+)
+    requires made { IsMadeOf table.now wiring.now.plans }
+    requires list { IsToBePlayed table.now list.now.tokens player.old }
+    ensures same { Stays table.now player.old player.new }
+    ensures played { IsPlayed table.now list.now.tokens player.old player.new }
+{
+    for token in list.tokens.as_slice() {
+        play(rt, table, player, token, idle, wiring);
+    }
+    table.tick(player, u64::MAX);
+    table.set_closing(player);
+    idle.wake();
+}
+
+// Plays the next message: the clock is set to its time, and it is taped and delivered.
+fn play<R: Wait>(
+    rt: &R,
+    table: &FlagTable,
+    player: &mut Pass,
+    token: &Token,
+    idle: &Idle,
+    wiring: &Wiring,
+)
+    requires made { IsMadeOf table.now wiring.now.plans }
+    requires mine { IsFreePlayer table.now player.old }
+    requires next { IsNextFor (seat_of player.old) token.now }
+    ensures mine { IsFreePlayer table.now player.new }
+    ensures seat { seat_of player.new ≡ after_play (seat_of player.old) token.now }
+    ensures bound { (seat_of player.new).clock ≤ last_clock }
+{
+    table.tick(player, token.time);
+    table.tape(rt, player, *token);
+    deliver(rt, table, player, *token, idle, wiring);
+}

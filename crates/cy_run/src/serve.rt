@@ -1,0 +1,177 @@
+// A call of a component by the processor that has it in hand, outside every lock and door.
+ghost use Rattle.std.specs.Prelude.{◌≡◌, Some};
+ghost use Rattle.cy_comp.specs.Calls.{last_outcome, held_until};
+ghost use Rattle.wake_core.specs.declared.phase.Phase.TheVariants.{Running, Done};
+ghost use Rattle.wake_core.specs.Events.{state_after};
+ghost use Rattle.wake_core.specs.Turns.{is_held};
+ghost use Rattle.cy_table.specs.Calls.{Stays, IsStepped, ShowsTheSame, routine_of, to_step};
+ghost use Rattle.cy_run.specs.Passes.{IsMadeOf, IsFree, IsInPhase};
+ghost use Rattle.cy_run.specs.Serving.{IsReady, HoldsNone, MaySendOut, IsSent, IsSentOut};
+
+use crate::deliver::deliver;
+use crate::{Gate, Idle};
+use cy_comp::{Outcome, State, Wiring};
+use cy_msg::Tuple;
+use cy_table::{FlagTable, Hold, Pass};
+use std::sync::Wait;
+
+// Resumes the READY croutine in hand, and gives it back.
+pub(crate) fn serve<G: Gate, R: Wait>(
+    rt: &R,
+    table: &FlagTable,
+    pass: &mut Pass,
+    mut hold: Hold,
+    idle: &Idle,
+    wiring: &Wiring,
+    gate: &G,
+)
+    requires made { IsMadeOf table.now wiring.now.plans }
+    requires ready { IsReady table.now pass.old hold }
+    ensures same { Stays table.now pass.old pass.new }
+    ensures free { IsFree table.now pass.new }
+{
+    resume(rt, table, pass, &mut hold, idle, wiring, gate);
+    table.release(pass, hold);
+}
+
+// Sends the output that was held back, where there is one; else calls the component on what a fetch
+// finds. Then it stores what the croutine is to do next.
+fn resume<G: Gate, R: Wait>(
+    rt: &R,
+    table: &FlagTable,
+    pass: &mut Pass,
+    hold: &mut Hold,
+    idle: &Idle,
+    wiring: &Wiring,
+    gate: &G,
+)
+    requires made { IsMadeOf table.now wiring.now.plans }
+    requires ready { IsReady table.now pass.old hold.old }
+    ensures same { Stays table.now pass.old pass.new }
+    ensures done { IsInPhase table.now Done pass.new hold.new }
+{
+    match hold.token() {
+        Some(_) => {
+            send(rt, table, pass, hold, idle, wiring);
+            table.yield_as(pass, hold, State::Ready);
+        }
+        None => call(rt, table, pass, hold, idle, wiring, gate),
+    }
+}
+
+// Fetches, and calls the component on what was found.
+fn call<G: Gate, R: Wait>(
+    rt: &R,
+    table: &FlagTable,
+    pass: &mut Pass,
+    hold: &mut Hold,
+    idle: &Idle,
+    wiring: &Wiring,
+    gate: &G,
+)
+    requires made { IsMadeOf table.now wiring.now.plans }
+    requires none_held { HoldsNone table.now pass.old hold.old }
+    ensures same { Stays table.now pass.old pass.new }
+    ensures done { IsInPhase table.now Done pass.new hold.new }
+{
+    table.ask(pass, hold);
+    match table.fetch(rt, pass, hold) {
+        Some(tuple) => {
+            let outcome = step(rt, hold, &tuple, gate);
+            follow(rt, table, pass, hold, &outcome, idle, wiring);
+        }
+        None => table.yield_as(pass, hold, State::DataWait),
+    }
+}
+
+// Steps the component, once the gate let it pass.
+fn step<G: Gate, R: Wait>(rt: &R, hold: &mut Hold, tuple: &Tuple, gate: &G) -> Outcome
+    requires { to_step hold.old ≡ Some tuple.now }
+    ensures same { ShowsTheSame hold.old hold.new }
+    ensures stepped { IsStepped hold.new }
+    ensures outcome { last_outcome (routine_of hold.new).kind (routine_of hold.new).calls
+        ≡ Some result }
+{
+    gate.before_call(rt, hold.component(), hold.calls(), hold);
+    hold.step(tuple)
+}
+
+// Sends the output of the call, where it is not held back, and stores what the outcome says that
+// the croutine is to do next.
+fn follow<R: Wait>(
+    rt: &R,
+    table: &FlagTable,
+    pass: &mut Pass,
+    hold: &mut Hold,
+    outcome: &Outcome,
+    idle: &Idle,
+    wiring: &Wiring,
+)
+    requires made { IsMadeOf table.now wiring.now.plans }
+    requires running { IsInPhase table.now Running pass.old hold.old }
+    requires outcome { last_outcome (routine_of hold.old).kind (routine_of hold.old).calls
+        ≡ Some outcome.now }
+    ensures same { Stays table.now pass.old pass.new }
+    ensures done { IsInPhase table.now Done pass.new hold.new }
+{
+    send_out(rt, table, pass, hold, outcome, idle, wiring);
+    table.yield_as(pass, hold, state_of(outcome));
+}
+
+// Sends the output of the call, where there is one that isn't held back.
+fn send_out<R: Wait>(
+    rt: &R,
+    table: &FlagTable,
+    pass: &mut Pass,
+    hold: &mut Hold,
+    outcome: &Outcome,
+    idle: &Idle,
+    wiring: &Wiring,
+)
+    requires made { IsMadeOf table.now wiring.now.plans }
+    requires running { IsInPhase table.now Running pass.old hold.old }
+    requires outcome { last_outcome (routine_of hold.old).kind (routine_of hold.old).calls
+        ≡ Some outcome.now }
+    ensures same { Stays table.now pass.old pass.new }
+    ensures sent { IsSentOut table.now outcome.now pass.new hold.new }
+{
+    if !holds(outcome) && hold.token().is_some() {
+        send(rt, table, pass, hold, idle, wiring);
+    }
+}
+
+// Sends the output of the croutine in hand that waits, and delivers it.
+fn send<R: Wait>(
+    rt: &R,
+    table: &FlagTable,
+    pass: &mut Pass,
+    hold: &mut Hold,
+    idle: &Idle,
+    wiring: &Wiring,
+)
+    requires made { IsMadeOf table.now wiring.now.plans }
+    requires waits { MaySendOut table.now pass.old hold.old }
+    ensures same { Stays table.now pass.old pass.new }
+    ensures sent { IsSent table.now pass.old pass.new hold.new }
+{
+    let token = table.send(rt, pass, hold);
+    deliver(rt, table, pass, token, idle, wiring);
+}
+
+// Whether an outcome holds its output back.
+fn holds(outcome: &Outcome) -> bool
+    ensures { result ≡ is_held (held_until (Some outcome.now)) }
+{
+    matches!(*outcome, Outcome::Hold { .. })
+}
+
+// What an outcome says that the croutine is to do next.
+fn state_of(outcome: &Outcome) -> State
+    ensures { result ≡ state_after outcome.now }
+{
+    match *outcome {
+        Outcome::Emit(_) => State::Ready,
+        Outcome::Hold { until, .. } => State::Sleep { until },
+        Outcome::Last(_) => State::Finished,
+    }
+}
