@@ -1,12 +1,12 @@
 #!/usr/bin/env bash
-# Measures `cyber play --serial` of four components over a record of a million messages, beside `cp` of what it writes, in one run.
+# Measures `cyber make` of a million messages, `cyber play --serial` of the files that it makes, and `cp` of what each writes, in one run.
 set -euo pipefail
 top=$(cd "$(dirname "$0")/.." && pwd)
 work=$(mktemp -d)
 trap 'rm -rf "$work"' EXIT
 . "$top/bench/measure.sh"
 
-python3 "$top/bench/made.py" 1000000 "$work/m"
+"$top/cyber" make 1000000 "$work/m"
 words=(play --serial --dag "$work/m.dag" --record "$work/m.record" --out "$work/out.record" --trace "$work/out.trace")
 "$top/cyber" "${words[@]}"
 
@@ -14,5 +14,6 @@ written=$(($(stat -c %s "$work/out.record") + $(stat -c %s "$work/out.trace")))
 bytes=$(($(stat -c %s "$work/m.record") + written))
 mkdir "$work/copy"
 # The program itself, since the launcher first looks whether it is up to date.
+measure "cyber make 1000000" "$bytes" "$top/crates/cyber/out/cyber" make 1000000 "$work/m"
 measure "cyber play --serial" "$bytes" "$top/crates/cyber/out/cyber" "${words[@]}"
 measure "cp of what it writes" "$((2 * written))" cp "$work/out.record" "$work/out.trace" "$work/copy"

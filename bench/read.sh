@@ -6,7 +6,7 @@ work=$(mktemp -d)
 trap 'rm -rf "$work"' EXIT
 . "$top/bench/measure.sh"
 
-python3 "$top/bench/made.py" 1000000 "$work/m"
+"$top/cyber" make 1000000 "$work/m"
 "$top/cyber" info "$work/m.record"
 
 bytes=$(stat -c %s "$work/m.record")

@@ -10,13 +10,14 @@ use Rattle.cy_store.specs.Reads.{Reads, Accepts, Refuses, Absent}
 use Rattle.cy_replay.specs.declared.error.Refusal.{Refusal}
 use Rattle.cy_reader.specs.declared.error.LoadError.{LoadError}
 use Rattle.cy_reader.specs.Record.{Contents}
+use Rattle.cyber_cli.specs.MakeWords.{MakeWords}
 use Rattle.cyber_cli.specs.PlayWords.{PlayWords}
 use Rattle.cyber_cli.specs.PlayWork.{replayed_in}
 use Rattle.cyber_cli.specs.Words.{CheckWords, InfoWords}
 use Rattle.cyber_cli.specs.Info.{told_of, load_status}
 use Rattle.cyber_cli.specs.Check.{checked_in}
 use Rattle.cyber_cli.specs.ConfigText.{fault_status}
-use Rattle.cyber_cli.specs.Command.{Command, Check, Info, Play, Work, command_of}
+use Rattle.cyber_cli.specs.Command.{Command, Check, Info, Play, Make, Work, command_of}
 use Rattle.cyber_cli.specs.Outcome.{IsAccepted, IsTaken, IsRefused, IsAbsent}
 use Rattle.cyber_cli.specs.Due.{Sinks, Answers, IsDue, IsDueFor, IsMisused, IsTold, IsUntold, CallsFor, IsComplete}
 
@@ -50,6 +51,7 @@ taken : (c : Command) (m : Files) (work : Work) → IsAccepted c (Some m) work �
 taken (Check w) m work a = (a.read, a.accepted)
 taken (Info w) m work a = (a.read, a.accepted)
 taken (Play w) m work a = (a.read, a.accepted)
+taken (Make w) m work a = tt
 
 -- what is due is called for, where no faults rose
 called : (c : Command) (old new : StoreView) (m : Files) (due : Status) (line : List ℕ) → old.files ≡ Some m → (Rose old.faults new.faults → ⊥)
@@ -110,10 +112,21 @@ play_status w m SinkFault h = absurd h
 play_status w m Limit h = h.1.status ∙ ap status_of (sym h.1.refused)
 play_status w m Memory h = absurd h
 
+-- and `make` is always done
+make_status : (w : MakeWords) (m : Files) (due : Status) → CallsFor (Make w) m due → due ≡ Done
+make_status w m Done h = refl
+make_status w m Refused h = absurd h.1
+make_status w m Usage h = absurd h
+make_status w m StoreFault h = absurd h.1
+make_status w m SinkFault h = absurd h
+make_status w m Limit h = absurd h.1
+make_status w m Memory h = absurd h
+
 one_call : (c : Command) (m : Files) (a b : Status) → CallsFor c m a → CallsFor c m b → a ≡ b
 one_call (Check w) m a b x y = check_status w m a x ∙ sym (check_status w m b y)
 one_call (Info w) m a b x y = info_status w m a x ∙ sym (info_status w m b y)
 one_call (Play w) m a b x y = play_status w m a x ∙ sym (play_status w m b y)
+one_call (Make w) m a b x y = make_status w m a x ∙ sym (make_status w m b y)
 
 pub complete : (words : List (List ℕ)) (old_store new_store : StoreView) (old new : Sinks) (answer : Status) → Answers words old_store new_store old new answer
     → IsComplete words old_store new_store old new answer

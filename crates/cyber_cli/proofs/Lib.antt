@@ -1,9 +1,11 @@
 pub mod Asked
 pub mod CheckExits
+pub mod NoCommand
 pub mod Complete
 pub mod DoneLine
 pub mod Fronts
 pub mod InfoExits
+pub mod MakeExits
 pub mod Named
 pub mod PlayExits
 pub mod PlayRuns

@@ -77,7 +77,7 @@ leaves w x world m =
     ∙ after_file trace_puts (insert m w.output (tape_record w s world.tape)) w.trace
     ∙ ap (insert (insert m w.output (tape_record w s world.tape)) w.trace) (written_at-end [] trace 0 refl)
 
-accepted : (w : PlayWords) (x : Replay) (world : Plain) (files : Option Files) → IfSome files (λ m. replayed_in w m ≡ Accepts (replayed x)) → IsSetUp w.request.filter x → HasRun x world → IsPlayWork w files (work_of w x world)
+pub accepted : (w : PlayWords) (x : Replay) (world : Plain) (files : Option Files) → IfSome files (λ m. replayed_in w m ≡ Accepts (replayed x)) → IsSetUp w.request.filter x → HasRun x world → IsPlayWork w files (work_of w x world)
 accepted w x world files read s h = record {
   read = replayed x;
   accepted = read;

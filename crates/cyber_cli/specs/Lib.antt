@@ -8,6 +8,9 @@ pub mod InfoEnds
 pub mod Line
 pub mod Lines
 pub mod LoadText
+pub mod MakeEnds
+pub mod MakeWords
+pub mod MakeWork
 pub mod Outcome
 pub mod PassWords
 pub mod PlayEnds

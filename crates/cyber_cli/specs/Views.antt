@@ -1,11 +1,13 @@
 -- What the program's own types stand for.
-use Rattle.std.specs.Prelude.{⊤, option_map}
+use Rattle.std.specs.Prelude.{◌≤◌, ◌<◌, ⊤, option_map}
 use Rattle.cy_replay.specs.Setup.{HasReader}
+use Rattle.cyber_cli.specs.declared.make_words.Make.{Make}
 use Rattle.cyber_cli.specs.declared.words.Check.{Check}
 use Rattle.cyber_cli.specs.declared.words.Info.{Info}
 use Rattle.cyber_cli.specs.declared.words.Given as given
 use Rattle.cyber_cli.specs.declared.words.Command as code
 use Rattle.cyber_cli.specs.declared.words.Command.TheVariants as asked
+use Rattle.cyber_cli.specs.MakeWords.{MakeWords, most_made}
 use Rattle.cyber_cli.specs.PlayViews.{play_words_of}
 use Rattle.cyber_cli.specs.Words.{CheckWords, InfoWords, Given}
 use Rattle.cyber_cli.specs.Command as command
@@ -20,13 +22,19 @@ check_words_of w = record { dag = w.dag.now; sched = option_map (λ name. name.n
 abbrev pub info_words_of : Info → InfoWords
 info_words_of w = record { file = w.file.now }
 
--- The command that is asked for, and that a channel which it reads has a name.
+abbrev pub make_words_of : Make → MakeWords
+make_words_of w = record { count = w.count; prefix = w.prefix.now }
+
+-- The command that is asked for, and that a channel which it reads has a name, or that so many
+-- messages are made.
 abbrev pub command_asked : code.Command → command.Command
 command_asked (asked.Check w) = command.Check (check_words_of w)
 command_asked (asked.Info w) = command.Info (info_words_of w)
 command_asked (asked.Play w) = command.Play (play_words_of w)
+command_asked (asked.Make w) = command.Make (make_words_of w)
 
 abbrev pub IsInForm : code.Command → Type 0
 IsInForm (asked.Check w) = ⊤
 IsInForm (asked.Info w) = ⊤
 IsInForm (asked.Play w) = HasReader (play_words_of w).request.components
+IsInForm (asked.Make w) = (0 < w.count) × (w.count ≤ most_made)

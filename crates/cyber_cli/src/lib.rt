@@ -2,8 +2,8 @@
 //! components.
 //!
 //! `specs/Due` says what they answer, `specs/Command` which commands there are and which words ask
-//! for them, `specs/Outcome` what the files are to each: by `specs/PlayWork`, `specs/Check` and
-//! `specs/Info`.
+//! for them, `specs/Outcome` what the files are to each: by `specs/PlayWork`,
+//! `specs/MakeWork`, `specs/Check` and `specs/Info`.
 #![tactic(auto)]
 
 mod commands;
@@ -13,6 +13,7 @@ mod failure;
 mod fault_text;
 mod line;
 mod load_text;
+mod make_words;
 mod pass_words;
 mod play_words;
 mod status;

@@ -212,7 +212,7 @@ fn with_digit(value: u64, byte: u8) -> Option<u64>
 
 // A number of at most 20 digits, where it has 64 bits.
 #[tactic(auto, unfolding(crate::specs::PlayWords::number_of))]
-fn number_of(text: &str) -> Option<u64>
+pub(crate) fn number_of(text: &str) -> Option<u64>
     ensures { result ≡ number_of text.now }
 {
     if text.len() > 20 {

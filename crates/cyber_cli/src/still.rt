@@ -4,7 +4,7 @@ ghost use Rattle.cyber_cli.specs.Line.{bytes_of_line};
 ghost use Rattle.cyber_cli.specs.Due.{IsDue, IsTold, GetsFront, Answers, IsComplete};
 ghost use Rattle.cy_store.specs.Store.{SinkView};
 
-use crate::commands::{run_check, run_info, run_play};
+use crate::commands::{run_check, run_info, run_make, run_play};
 use crate::due::Due;
 use crate::fault_text::{OUTPUT_LINE, USAGE_LINE};
 use crate::line::{Line, write_line};
@@ -23,6 +23,7 @@ fn due_of<'a, S: Store>(alloc: Global, words: &'a [Text], store: &mut S) -> Due<
         Some(Command::Check(check)) => run_check(alloc, &check, store),
         Some(Command::Info(info)) => run_info(alloc, &info, store),
         Some(Command::Play(play)) => run_play(alloc, &play, store),
+        Some(Command::Make(make)) => run_make(alloc, &make, store),
         None => Due {
             status: Status::Usage,
             line: Line::Fixed(USAGE_LINE),
@@ -94,6 +95,9 @@ fn tell<O: Sink, E: Sink>(due: &Due, out: &mut O, err: &mut E) -> Status
 ///
 /// `check --dag F [--sched F]` prints what configuration files say, and `info FILE` what a record
 /// is.
+///
+/// `make N PREFIX` makes the files of a play of N messages, whose names begin with PREFIX, and plays
+/// them.
 ///
 /// The text or the line that tells what was done goes to `out`, and one that tells of a refusal or
 /// a fault goes to `err`. The answer is one of the seven statuses; its contract says which is due,

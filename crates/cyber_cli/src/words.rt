@@ -6,6 +6,7 @@ ghost use Rattle.cyber_cli.specs.Command.{command_of};
 ghost use Rattle.cyber_cli.specs.Views.{check_words_of, given_of, info_words_of, command_asked};
 ghost use Rattle.cyber_cli.specs.Views.{IsInForm};
 
+use crate::make_words::{Make, make_words};
 use crate::pass_words::pass_words;
 use crate::play_words::{Play, play_words};
 use cy_msg::Text;
@@ -38,6 +39,8 @@ pub enum Command<'a> {
     Info(Info<'a>),
     /// To play a record serially through components.
     Play(Play<'a>),
+    /// To make the files of a play, and to play them.
+    Make(Make<'a>),
 }
 
 // An option: its name, its value, and the words behind it.
@@ -164,6 +167,7 @@ pub fn command_of<'a>(words: &'a [Text]) -> Option<Command<'a>>
         "check" => Some(Command::Check(check_words(words)?)),
         "info" => Some(Command::Info(info_words(words)?)),
         "play" => Some(Command::Play(play_words(words)?)),
+        "make" => Some(Command::Make(make_words(words)?)),
         _ => None,
     }
 }

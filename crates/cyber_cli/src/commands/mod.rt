@@ -2,8 +2,10 @@
 // due.
 mod check;
 mod info;
+mod make;
 mod play;
 
 pub use check::run_check;
 pub use info::run_info;
+pub use make::run_make;
 pub use play::run_play;

@@ -101,7 +101,11 @@ fn filter_of(alloc: Global, play: &Play) -> Result<Filter, SetupError>
 }
 
 // Reads the files, and sets up what is played.
-fn read_files<S: Store>(alloc: Global, store: &mut S, play: &Play) -> Result<Replay, SetupError>
+pub(super) fn read_files<S: Store>(
+    alloc: Global,
+    store: &mut S,
+    play: &Play,
+) -> Result<Replay, SetupError>
     requires { HasReader (play_words_of play.now).request.components }
     ensures comes { ComesTo replayed (replayed_in (play_words_of play.now))
         (IsAsked (play_words_of play.now).request (S.shows store.old).files)
@@ -118,7 +122,7 @@ fn read_files<S: Store>(alloc: Global, store: &mut S, play: &Play) -> Result<Rep
 }
 
 // The world after a replay was played serially.
-fn played_world(alloc: Global, play: &Play, replay: &Replay) -> Result<World, Failure>
+pub(super) fn played_world(alloc: Global, play: &Play, replay: &Replay) -> Result<World, Failure>
     requires { IsSetUp (play_words_of play.now).request.filter replay.now }
     ensures run { IfOk result (λ w. HasRun replay.now (plain_of w)) }
     ensures only_memory { IsOkUnless result Failure.Memory }
@@ -187,7 +191,7 @@ fn unwritten(file: File, error: WriteError) -> Failure
 }
 
 // Writes the record of a replay's run, and then its trace. Answers the line that tells of it.
-fn write_both<S: Store>(
+pub(super) fn write_both<S: Store>(
     alloc: Global,
     store: &mut S,
     play: &Play,

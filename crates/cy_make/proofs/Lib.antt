@@ -1,0 +1,5 @@
+pub mod MessageSteps
+pub mod RecordText
+pub mod Writing
+pub mod Leaving
+pub mod Rows

@@ -1,0 +1,4 @@
+pub mod Messages
+pub mod Texts
+pub mod Inputs
+pub mod Steps

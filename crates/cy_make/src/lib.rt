@@ -1,0 +1,22 @@
+//! The files that are made for a play of any length: the component files and the DAG of four
+//! components, and a record of so many messages.
+//!
+//! `specs/Texts` says what the configuration files say, `specs/Messages` which messages the record
+//! has, and `specs/Inputs` in which order all of them are written, and what stands afterwards.
+#![tactic(auto)]
+
+mod config;
+mod dag;
+mod error;
+mod file;
+mod inputs;
+mod laws;
+mod messages;
+mod record;
+mod value;
+
+pub use config::Config;
+pub use dag::name_with;
+pub use error::MakeError;
+pub use inputs::write_inputs;
+pub use laws::{input_writes_leave_the_inputs, made_record_is_its_text};
