@@ -51,8 +51,9 @@ pub fn run_threads<G: Gate, R: Threads + Wait + Sync>(
 ) -> Result<World, RunError>
     requires { MayRun (plain_of world) wiring.now.plans list.now.tokens
         (scan_of placement.now.contexts) }
-    ensures { IfOk result (λ w. LawfulRun list.now.tokens (routes_of wiring.now.plans)
+    ensures lawful { IfOk result (λ w. LawfulRun list.now.tokens (routes_of wiring.now.plans)
         (plain_of w)) }
+    ensures counts { IfOk result (λ w. (plain_of w).counts ≡ (plain_of world).counts) }
 {
     let plans = placement.contexts.as_slice();
     let processors = processors_in(placement);

@@ -1,6 +1,6 @@
 // Two passes, of which one finds the croutine held.
 ghost use Rattle.std.specs.Prelude.{◌≡◌, IfSome, IfNone};
-ghost use Rattle.cy_table.specs.Calls.{number_of};
+ghost use Rattle.cy_table.specs.Calls.{number_of, seat_of, state_of};
 ghost use Rattle.cy_table_tests.specs.Passes.{IsFree, IsOfOne, HasKnown};
 
 use crate::tables::{one_more, table_of_one, take_in, world_of};
@@ -14,6 +14,7 @@ pub(crate) fn take(table: &FlagTable, pass: &mut Pass) -> Option<(Hold, State)>
     requires one { IsOfOne table.now }
     ensures number { number_of pass.new ≡ number_of pass.old }
     ensures taken { IfSome result (λ r. HasKnown table.now pass.new r.0) }
+    ensures state { IfSome result (λ r. r.1 ≡ state_of (seat_of pass.new)) }
     ensures busy { IfNone result (IsFree table.now pass.new) }
 {
     match table.acquire(pass, 0) {
@@ -50,9 +51,13 @@ fn is_busy(table: &FlagTable, pass: &mut Pass) -> bool
     }
 }
 
-// Takes component 0, and gives it back after the other pass has tried to take it. The state after
-// the update, and whether the other found it held; none where the first one did.
-fn take_beside(table: &FlagTable, first: &mut Pass, second: &mut Pass) -> Option<(State, bool)>
+/// Takes component 0, and gives it back after the other pass has tried to take it. The state after
+/// the update, and whether the other found it held; none where the first one did.
+pub(crate) fn take_beside(
+    table: &FlagTable,
+    first: &mut Pass,
+    second: &mut Pass,
+) -> Option<(State, bool)>
     requires first { IsFree table.now first.old }
     requires second { IsFree table.now second.old }
     requires one { IsOfOne table.now }

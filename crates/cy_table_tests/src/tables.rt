@@ -3,7 +3,7 @@ ghost use Rattle.std.specs.Prelude.{ℕ, ◌≡◌, None, length, IfOk};
 ghost use Rattle.cy_table_tests.specs.PassWiring.{IsPassWiring};
 ghost use Rattle.wake_core.specs.WorldOf.{plain_of, to_step};
 ghost use Rattle.cy_table.specs.Calls.{number_of};
-ghost use Rattle.cy_table_tests.specs.Passes.{IsFree, IsOfOne};
+ghost use Rattle.cy_table_tests.specs.Passes.{IsFree, IsFirst, IsOfOne};
 
 use cy_comp::{Kind, Plan, Wiring};
 use cy_msg::{Items, Names, Text};
@@ -34,9 +34,7 @@ fn pass_wiring(rt: &HostRuntime) -> Result<Wiring, Fail>
 
 /// The table of that component, for one message of /a, and the player's pass.
 pub(crate) fn table_of_one(rt: &HostRuntime) -> Result<(FlagTable, Pass), Fail>
-    ensures free { IfOk result (λ r. IsFree r.0 r.1) }
-    ensures player { IfOk result (λ r. number_of r.1 ≡ 0) }
-    ensures one { IfOk result (λ r. IsOfOne r.0) }
+    ensures { IfOk result (λ r. IsFirst r.0 r.1) }
 {
     let wiring = pass_wiring(rt)?;
     let world = World::new(rt.alloc(), &wiring, &[1, 0])?;
