@@ -7,6 +7,8 @@ mod messages;
 #[cfg(test)]
 mod played;
 #[cfg(test)]
+mod threads;
+#[cfg(test)]
 mod wired;
 #[cfg(test)]
 mod worlds;

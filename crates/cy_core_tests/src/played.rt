@@ -115,3 +115,22 @@ pub(crate) fn placed(rt: &HostRuntime, size: usize, backwards: bool) -> Result<P
         _ => Err(Fail::from("one or two components")),
     }
 }
+
+/// Two contexts of one processor each, for components 0 and 1.
+pub(crate) fn pinned(rt: &HostRuntime) -> Result<Placement, Fail>
+    ensures { IfOk result (λ p. IsScanOf 2 (scan_of p.contexts)) }
+{
+    let first = ContextPlan {
+        name: Text::new(rt.alloc(), "first")?,
+        pinned: true,
+        processors: 1,
+        order: Items::new(vec![in rt.alloc(); 0]?),
+    };
+    let second = ContextPlan {
+        name: Text::new(rt.alloc(), "second")?,
+        pinned: true,
+        processors: 1,
+        order: Items::new(vec![in rt.alloc(); 1]?),
+    };
+    Ok(Placement::new(Items::new(vec![in rt.alloc(); first, second]?)))
+}
