@@ -12,3 +12,4 @@ pub mod RunFits
 pub mod RunTexts
 pub mod StepSuits
 pub mod Starts
+pub mod TextRead

@@ -14,6 +14,7 @@ mod name;
 mod read;
 mod text;
 mod trace;
+mod typed;
 mod word;
 
 pub use error::TraceError;

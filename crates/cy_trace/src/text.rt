@@ -4,10 +4,14 @@ ghost use Rattle.wake_core.specs.Run.{routes_of};
 ghost use Rattle.wake_core.specs.WorldOf.{plain_of};
 ghost use Rattle.wake_core.specs.LawfulRun.{Quiet};
 ghost use Rattle.wake_core.specs.Rest.{run_shown};
+ghost use Rattle.wake_core.specs.declared.entries.TheConstants.{MOST_PLANNED};
+ghost use Rattle.wake_core.specs.Planned.{planned};
+ghost use Rattle.cy_trace.specs.TraceForm.{IsTraceText};
 ghost use Rattle.cy_trace.specs.TraceText.{components_text, trace_text as text_of};
 
 use crate::TraceError;
 use crate::lines::{push_component, push_head, push_tape_lines};
+use crate::typed::is_read_back;
 use cy_comp::{Call, Plan, Wiring};
 use cy_msg::Bytes;
 use std::alloc::{AllocError, Global};
@@ -15,7 +19,8 @@ use wake_core::World;
 
 /// The trace of a world that was made for this wiring and whose run has come to its end: what was
 /// played and how many messages were shadowed, each component's arrivals, calls and end, and the
-/// tape. Its only error is `Memory`.
+/// tape. `read_trace` reads it back, since no more is planned than a world keeps. Its only error is
+/// `Memory`.
 pub fn trace_text(
     alloc: Global,
     world: &World,
@@ -27,8 +32,11 @@ pub fn trace_text(
     requires channels { length (plain_of world.now).counts ≡ length wiring.now.names }
     ensures text { IfOk result (λ t. t ≡ text_of wiring.now.names wiring.now.plans shadowed
         (run_shown (plain_of world.now))) }
+    ensures read { planned (plain_of world.now).routes (plain_of world.now).counts ≤ MOST_PLANNED
+        → IfOk result IsTraceText }
     ensures memory { IfErr result (λ e. e ≡ TraceError.Memory) }
 {
+    is_read_back(world, wiring, shadowed);
     let mut to = Vec::new(alloc);
     push_trace(alloc, &mut to, world, wiring, shadowed)?;
     Ok(Bytes::from_vec(to))

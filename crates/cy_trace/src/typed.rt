@@ -1,0 +1,72 @@
+// That a world's trace is read back, by what the types of the code keep of it.
+ghost use Rattle.std.specs.Prelude.{◌≡◌, ◌≤◌, ℕ, List, Some, length, slice_get};
+ghost use Rattle.std.specs.Str.{IsUtf8};
+ghost use Rattle.cy_msg.specs.declared.token.Token.{Token};
+ghost use Rattle.cy_comp.specs.declared.plan.Plan.{Plan};
+ghost use Rattle.wake_core.specs.declared.entries.TheConstants.{MOST_PLANNED};
+ghost use Rattle.wake_core.specs.Planned.{planned};
+ghost use Rattle.wake_core.specs.Rest.{run_shown};
+ghost use Rattle.wake_core.specs.Run.{routes_of};
+ghost use Rattle.wake_core.specs.WorldOf.{plain_of};
+ghost use Rattle.cy_trace.specs.Laws.{Suits};
+ghost use Rattle.cy_trace.specs.TraceForm.{IsTraceText};
+ghost use Rattle.cy_trace.specs.TraceText.{trace_text as text_of};
+
+use crate::laws::{runs_are_read_back, runs_are_traces};
+use cy_comp::{Plan, Wiring};
+use cy_msg::{Names, Token};
+use wake_core::World;
+
+// Names are texts.
+fn names_are_texts(names: &Names)
+    ensures { (n : ℕ) (name : List ℕ) → slice_get names.now n ≡ Some name → IsUtf8 name }
+{
+    for number in 0..names.count() {
+        let _name = names.name(number);
+    }
+}
+
+// So are the names of components.
+fn components_have_texts(plans: &[Plan])
+    ensures { (c : ℕ) (p : Plan) → slice_get plans.now c ≡ Some p → IsUtf8 p.name }
+{
+    for plan in plans {
+        let _name = plan.name.as_str();
+    }
+}
+
+// The time and the value of a message fit 64 bits.
+fn suits(message: Token)
+    ensures { Suits message }
+{
+    let _time = message.time;
+    if let Some(value) = message.whole {
+        let _value = value;
+    }
+}
+
+// So it is with all messages.
+fn messages_suit(messages: &[Token])
+    ensures { (n : ℕ) (t : Token) → slice_get messages.now n ≡ Some t → Suits t }
+{
+    for message in messages {
+        suits(*message);
+    }
+}
+
+// What is written of a world is the text of a trace, where no more is planned than a world keeps.
+#[tactic(auto, using(crate::proofs::TextRead::text_is_read))]
+pub(crate) fn is_read_back(world: &World, wiring: &Wiring, shadowed: u32)
+    requires routes { (plain_of world.now).routes ≡ routes_of wiring.now.plans }
+    requires channels { (length (plain_of world.now).counts) ≡ length wiring.now.names }
+    ensures { planned (plain_of world.now).routes (plain_of world.now).counts ≤ MOST_PLANNED
+        → IsTraceText (text_of wiring.now.names wiring.now.plans shadowed
+        (run_shown (plain_of world.now))) }
+{
+    names_are_texts(&wiring.names);
+    components_have_texts(wiring.plans.as_slice());
+    messages_suit(world.tape_list());
+    runs_are_read_back();
+    runs_are_traces();
+    world.sound();
+}
