@@ -16,7 +16,7 @@ cat >src/main.rt <<'P'
 #![tactic(auto)]
 
 ghost use Rattle.std.specs.Prelude.{IfSome};
-ghost use Rattle.wake_core.specs.PassWiring.{IsPassWiring};
+ghost use Rattle.table_bench.specs.PassWiring.{IsPassWiring};
 ghost use Rattle.wake_core.specs.Rest.{IsAtRest};
 ghost use Rattle.wake_core.specs.WorldOf.{plain_of};
 ghost use Rattle.table_bench.specs.Turns.{IsFree, IsIdle};
@@ -122,8 +122,10 @@ fn main(rt: HostRuntime) -> io::Result<()> {
 }
 P
 cat >specs/Lib.antt <<'P'
+pub mod PassWiring
 pub mod Turns
 P
+cp "$top/crates/cy_table_tests/specs/PassWiring.antt" specs/
 cat >specs/Turns.antt <<'P'
 -- What is so between two turns.
 use Rattle.std.specs.Prelude.{◌≡◌, length, None}
