@@ -1,5 +1,5 @@
-//! Tests of the plain types, of the serial run and of the text of its trace: worked examples, and
-//! that calls succeed where there is memory.
+//! Tests of the plain types, of the serial run and of the text of its trace, and of runs on
+//! threads: worked examples, and that calls succeed where there is memory.
 #![tactic(auto)]
 
 #[cfg(test)]

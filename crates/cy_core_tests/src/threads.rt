@@ -1,4 +1,4 @@
-// Runs on threads: that the calls of two components overlap, and that threads make the calls.
+// Runs on threads: whether the calls of two components overlap, and that threads make the calls.
 ghost use Rattle.std.specs.Prelude.{ℕ, ◌≡◌, ◌≤◌, ◌-◌, None, length, IfOk};
 ghost use Rattle.cy_msg.specs.Placement.{scan_of};
 ghost use Rattle.wake_core.specs.Run.{routes_of};
@@ -11,7 +11,7 @@ use crate::played::{counts, list, pinned, placed};
 use crate::wired::wiring;
 use cy_comp::{Kind, Wiring};
 use cy_msg::{Placement, PlayList};
-use cy_run::{Gate, MeetGate, run_threads};
+use cy_run::{Gate, MeetGate, OpenGate, run_threads};
 use cy_table::Hold;
 use std::sync::Wait;
 use std::sync::atomic::{AtomicU64, Ordering};
@@ -19,16 +19,41 @@ use std::test::Fail;
 use std::thread::Threads;
 use wake_core::World;
 
-// A gate that counts the calls which pass it: those that processors make, and not those that are
-// left for the end of a run.
+// A gate that counts the calls of components 0 and 1 which pass it, before another gate: those that
+// processors make, and not those that are left for the end of a run.
 #[derive(Drop)]
-struct CountGate {
-    passed: AtomicU64,
+struct CountGate<G> {
+    of_first: AtomicU64,
+    of_second: AtomicU64,
+    then: G,
 }
 
-impl Gate for CountGate {
-    fn before_call<R: Wait>(&self, _rt: &R, _component: u32, _call: u32, _hold: &Hold) {
-        self.passed.fetch_add(1, Ordering::SeqCst);
+impl<G: Gate> CountGate<G> {
+    fn before(then: G) -> Self {
+        CountGate {
+            of_first: AtomicU64::new(0),
+            of_second: AtomicU64::new(0),
+            then,
+        }
+    }
+
+    // How many calls of each component passed.
+    fn passed(&self) -> [u64; 2] {
+        [
+            self.of_first.load(Ordering::SeqCst),
+            self.of_second.load(Ordering::SeqCst),
+        ]
+    }
+}
+
+impl<G: Gate> Gate for CountGate<G> {
+    fn before_call<R: Wait>(&self, rt: &R, component: u32, call: u32, hold: &Hold) {
+        let passed = match component {
+            0 => &self.of_first,
+            _ => &self.of_second,
+        };
+        passed.fetch_add(1, Ordering::SeqCst);
+        self.then.before_call(rt, component, call, hold);
     }
 }
 
@@ -57,6 +82,17 @@ fn played<G: Gate, R: Threads + Wait + Sync>(
     Ok(world)
 }
 
+// How many calls the two components of a world have.
+fn calls_of_two(world: &World) -> [u64; 2]
+    requires routes { length (plain_of world.now).routes ≡ 2 }
+    requires stepped { (c : ℕ) → to_step world.now c ≡ None }
+{
+    [
+        world.routine(0).calls().len() as u64,
+        world.routine(1).calls().len() as u64,
+    ]
+}
+
 #[test]
 fn overlaps_the_calls_of_two_components(rt: HostRuntime) -> Result<(), Fail> {
     let wiring = wiring(
@@ -68,8 +104,7 @@ fn overlaps_the_calls_of_two_components(rt: HostRuntime) -> Result<(), Fail> {
     let gate = MeetGate::new(0, 1, 10_000_000);
     let world = played(&rt, &rt, &wiring, &list, &pinned(&rt)?, &gate)?;
     assert!(rt; gate.met());
-    assert_eq!(rt; world.routine(0).calls().len(), 1);
-    assert_eq!(rt; world.routine(1).calls().len(), 1);
+    assert_eq!(rt; calls_of_two(&world), [1, 1]);
     Ok(())
 }
 
@@ -87,12 +122,52 @@ fn makes_all_calls_of_one_context_on_its_processor(rt: HostRuntime) -> Result<()
         (0, 4, Some(4)),
     ];
     let list = list(&rt, wiring.names.count() - 2, &messages)?;
-    let gate = CountGate {
-        passed: AtomicU64::new(0),
-    };
+    let gate = CountGate::before(OpenGate);
     let world = played(&rt, &rt, &wiring, &list, &placed(&rt, 2, false)?, &gate)?;
-    let calls = world.routine(0).calls().len() + world.routine(1).calls().len();
-    assert!(rt; calls >= 2);
-    assert_eq!(rt; gate.passed.load(Ordering::SeqCst), calls as u64);
+    let calls = calls_of_two(&world);
+    assert!(rt; calls[0] >= 1 && calls[1] >= 1);
+    assert_eq!(rt; gate.passed(), calls);
+    Ok(())
+}
+
+// What playing one message comes to where a component passes it on to another: how many calls the
+// components have, how many of them processors made, and whether these overlapped. They never do,
+// since the second component is called on what the call of the first put out.
+fn chain_calls<R: Threads + Wait + Sync>(
+    rt: &R,
+    host: &HostRuntime,
+    placement: &Placement,
+) -> Result<([u64; 2], [u64; 2], bool), Fail>
+    requires { IsScanOf 2 (scan_of placement.now.contexts) }
+{
+    let wiring = wiring(
+        host,
+        &["/a", "/o", "/z"],
+        &[(Kind::Pass, &[0]), (Kind::Pass, &[1])],
+    )?;
+    let list = list(host, wiring.names.count() - 2, &[(0, 1, Some(1))])?;
+    let gate = CountGate::before(MeetGate::new(0, 1, 10));
+    let world = played(rt, host, &wiring, &list, placement, &gate)?;
+    Ok((calls_of_two(&world), gate.passed(), gate.then.met()))
+}
+
+#[test]
+fn overlaps_no_calls_of_one_processor(rt: HostRuntime) -> Result<(), Fail> {
+    assert_eq!(rt;
+        chain_calls(&rt, &rt, &placed(&rt, 2, false)?)?,
+        ([1, 1], [1, 1], false)
+    );
+    Ok(())
+}
+
+// The processor of the first component makes its call. That of the second may have ended by then,
+// and leave that call for the end of the run.
+#[test]
+fn makes_the_call_on_a_played_message_on_a_processor(rt: HostRuntime) -> Result<(), Fail> {
+    let (calls, passed, met) = chain_calls(&rt, &rt, &pinned(&rt)?)?;
+    assert_eq!(rt; calls, [1, 1]);
+    assert_eq!(rt; passed[0], 1);
+    assert!(rt; passed[1] <= 1);
+    assert!(rt; !met);
     Ok(())
 }

@@ -53,17 +53,17 @@ if-any P true x p = p
 if-any P false x p = tt
 
 module _ (Q : Option ℕ → Type 0) (none : Q None) where
-  abbrev Good : Token → Type 0
+  abbrev pub Good : Token → Type 0
   Good t = Q t.origin
 
   abbrev GoodArrival : Arrival → Type 0
   GoodArrival a = Good a.1
 
-  abbrev GoodOut : Option Out → Type 0
+  abbrev pub GoodOut : Option Out → Type 0
   GoodOut None = Unit {0}
   GoodOut (Some out) = Q out.origin
 
-  abbrev GoodTuple : Tuple → Type 0
+  abbrev pub GoodTuple : Tuple → Type 0
   GoodTuple (One a) = Good a
   GoodTuple (Two a b) = Good a × Good b
   GoodTuple (Three a b c) = Good a × Good b × Good c
@@ -119,7 +119,7 @@ module _ (Q : Option ℕ → Type 0) (none : Q None) where
   answer-good (kind.Hold delay) kept t g = first-good t g
   answer-good (kind.Take n) kept t g = if-outcomes _ (Last (Some (passed_at (first_of t).time (first_of t)))) (passes (first_of t)) (first-good t g) (first-good t g)
 
-  outcome-good : (k : Kind) (earlier : List Tuple) (t : Tuple) → GoodTuple t → GoodOut (out_of (outcome_after k earlier t))
+  pub outcome-good : (k : Kind) (earlier : List Tuple) (t : Tuple) → GoodTuple t → GoodOut (out_of (outcome_after k earlier t))
   unfolding outcome_after
   outcome-good k earlier t g = answer-good k (kept_after k (opening_of k) earlier) t g
 
@@ -279,6 +279,12 @@ behind-good number whole n before (place ∷ rest) few =
       λ o e. let same : length before ≡ o = cc in omega (arith, few, same),
       behind-good number whole n (before ++ place ∷ []) rest (omega (arith, few, long)),
     )
+
+-- the messages of a play list come from its places
+pub list_origins : (whole : Contents) (choice : Choice) (list : PlayList) → IsPlayList whole choice list → (n : ℕ) (t : Token) → slice_get list.tokens n ≡ Some t → IsAmong (length list.places) t.origin
+list_origins whole choice list is n t at =
+    each-at (λ (u : Token). IsAmong (length list.places) u.origin) list.tokens n t
+    (subst (Each (λ (u : Token). IsAmong (length list.places) u.origin)) (sym is.tokens) (behind-good (number_at whole choice) whole (length list.places) [] list.places (omega arith))) at
 
 -- the messages of a tape come from places of the list, if from any
 pub tape_origins : (whole : Contents) (choice : Choice) (list : PlayList) (routes : List Route) (scan : List ℕ) (w : Run) → IsPlayList whole choice list → SerialRun routes scan list.tokens w

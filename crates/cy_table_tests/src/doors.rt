@@ -110,8 +110,8 @@ fn follow<R: Wait>(
     }
 }
 
-// Resumes component 0, which is READY: what it fetched, and what it sent.
-fn resume<R: Wait>(
+/// Resumes component 0, which is READY: what it fetched, and what it sent.
+pub(crate) fn resume<R: Wait>(
     rt: &R,
     table: &FlagTable,
     pass: &mut Pass,

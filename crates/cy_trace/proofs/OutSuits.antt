@@ -21,7 +21,7 @@ use Rattle.cy_trace.specs.Laws.{Suits}
 use Rattle.cy_trace.proofs.StepSuits.{AllSuit, SuitsOut, outcome_suits}
 
 -- What holds of each message of a tape holds of each on a channel.
-on_each : (P : Token → Type 0) (tape : List Token) → ((n : ℕ) (t : Token) → slice_get tape n ≡ Some t → P t) → (channel i : ℕ) (m : Token) → slice_get (on_channel channel tape) i ≡ Some m → P m
+pub on_each : (P : Token → Type 0) (tape : List Token) → ((n : ℕ) (t : Token) → slice_get tape n ≡ Some t → P t) → (channel i : ℕ) (m : Token) → slice_get (on_channel channel tape) i ≡ Some m → P m
 on_each P [] all channel i m at = absurd (none-some m at)
 on_each P (t ∷ tape) all channel i m at = go (t.channel == channel) (on_each P tape (λ n. all (suc n)) channel) i at
   where
@@ -31,7 +31,7 @@ on_each P (t ∷ tape) all channel i m at = go (t.channel == channel) (on_each P
     go false rest j e = rest j m e
 
 -- What stands among the first so many stands there.
-taken_at : {X : Type 0} (k : ℕ) (xs : List X) (j : ℕ) (x : X) → slice_get (take k xs) j ≡ Some x → (j < k) × (slice_get xs j ≡ Some x)
+pub taken_at : {X : Type 0} (k : ℕ) (xs : List X) (j : ℕ) (x : X) → slice_get (take k xs) j ≡ Some x → (j < k) × (slice_get xs j ≡ Some x)
 taken_at zero xs j x e = absurd (none-some x e)
 taken_at (suc k) [] j x e = absurd (none-some x e)
 taken_at (suc k) (y ∷ xs) zero x e = (omega arith, e)
@@ -77,13 +77,13 @@ tails_rise calls rise (suc m) i x y at on less = by (slice_get calls m) refl (ta
     ]
 
 -- What calls put out is the output of one of them.
-record Made (channel before : ℕ) (calls : List Call) (t : Token) : Type 0 where
-  place : ℕ
-  call : Call
-  made : slice_get calls place ≡ Some call
-  out : Out
-  some : call.out ≡ Some out
-  token : t ≡ output channel (before + length (outs_after channel before (take place calls)) + 1) out
+pub record Made (channel before : ℕ) (calls : List Call) (t : Token) : Type 0 where
+  pub place : ℕ
+  pub call : Call
+  pub made : slice_get calls place ≡ Some call
+  pub out : Out
+  pub some : call.out ≡ Some out
+  pub token : t ≡ output channel (before + length (outs_after channel before (take place calls)) + 1) out
 
 made_by : (channel before : ℕ) (calls : List Call) (m : ℕ) (t : Token) → slice_get (outs_after channel before calls) m ≡ Some t → Made channel before calls t
 made_by channel before [] m t e = absurd (none-some t e)
@@ -115,16 +115,16 @@ made_by channel before (x ∷ calls) m t e = by x.out refl (made_by channel befo
     by (Some o) is same more (suc m) e = later (Some o) is (before + 1)
         (λ ys. ap (λ o. before + length (numbered channel before o (λ n. outs_after channel n ys))) is ∙ omega arith) (more m t e)
 
-outs_count : (channel : ℕ) (calls : List Call) → 0 + length (outs_after channel 0 calls) + 1 ≡ length (outs channel calls) + 1
+pub outs_count : (channel : ℕ) (calls : List Call) → 0 + length (outs_after channel 0 calls) + 1 ≡ length (outs channel calls) + 1
 unfolding outs
 outs_count channel calls = omega arith
 
-outs_made : (channel : ℕ) (calls : List Call) (m : ℕ) (t : Token) → slice_get (outs channel calls) m ≡ Some t → Made channel 0 calls t
+pub outs_made : (channel : ℕ) (calls : List Call) (m : ℕ) (t : Token) → slice_get (outs channel calls) m ≡ Some t → Made channel 0 calls t
 unfolding outs
 outs_made channel calls m t e = made_by channel 0 calls m t e
 
 -- What passes a test is among those that pass.
-passing : (p : Token → Bool) (tape : List Token) (i : ℕ) (t : Token) → slice_get tape i ≡ Some t → p t ≡ true → (k : ℕ) × (slice_get (filter p tape) k ≡ Some t)
+pub passing : (p : Token → Bool) (tape : List Token) (i : ℕ) (t : Token) → slice_get tape i ≡ Some t → p t ≡ true → (k : ℕ) × (slice_get (filter p tape) k ≡ Some t)
 passing p [] i t e is = absurd (none-some t e)
 passing p (s ∷ tape) zero t e is = let same : s ≡ t = same_Some s t e in (0, ap (λ b. slice_get (cond b (s ∷ filter p tape) (filter p tape)) 0) (ap p same ∙ is) ∙ e)
 passing p (s ∷ tape) (suc i) t e is = by (p s) (passing p tape i t e is)

@@ -2,8 +2,9 @@
 #![tactic(auto)]
 
 use cy_msg::Text;
+use cy_run::OpenGate;
 use cy_store::{RealSink, RealStore};
-use cyber_cli::{Status, cyber_still};
+use cyber_cli::{Status, cyber};
 use std::alloc::AllocError;
 use std::env;
 use std::io::ErrorKind;
@@ -24,17 +25,21 @@ fn program_words(rt: &HostRuntime) -> Result<Vec<Text>, AllocError> {
     Ok(words)
 }
 
-// Does what the program's words ask for, on the files and streams of the machine.
-fn run(rt: &HostRuntime) -> Status {
-    let Ok(words) = program_words(rt) else {
-        return Status::Memory;
+fn main(rt: HostRuntime) -> ExitCode {
+    let Ok(words) = program_words(&rt) else {
+        return ExitCode::from(Status::Memory.code());
     };
-    let mut store = RealStore::new(rt);
+    let mut store = RealStore::new(&rt);
     let mut out = RealSink::new(rt.stdout());
     let mut err = RealSink::new(rt.stderr());
-    cyber_still(rt.alloc(), &words, &mut store, &mut out, &mut err)
-}
-
-fn main(rt: HostRuntime) -> ExitCode {
-    ExitCode::from(run(&rt).code())
+    let status = cyber(
+        &rt,
+        rt.alloc(),
+        &words,
+        &mut store,
+        &mut out,
+        &mut err,
+        &OpenGate,
+    );
+    ExitCode::from(status.code())
 }

@@ -17,7 +17,7 @@ use Rattle.cyber_cli.specs.Words.{CheckWords, InfoWords}
 use Rattle.cyber_cli.specs.Info.{told_of, load_status}
 use Rattle.cyber_cli.specs.Check.{checked_in}
 use Rattle.cyber_cli.specs.ConfigText.{fault_status}
-use Rattle.cyber_cli.specs.Command.{Command, Check, Info, Play, Make, Work, command_of}
+use Rattle.cyber_cli.specs.Command.{Command, Check, Info, Play, Make, Work}
 use Rattle.cyber_cli.specs.Outcome.{IsAccepted, IsTaken, IsRefused, IsAbsent}
 use Rattle.cyber_cli.specs.Due.{Sinks, Answers, IsDue, IsDueFor, IsMisused, IsTold, IsUntold, CallsFor, IsComplete}
 
@@ -128,9 +128,9 @@ one_call (Info w) m a b x y = info_status w m a x ∙ sym (info_status w m b y)
 one_call (Play w) m a b x y = play_status w m a x ∙ sym (play_status w m b y)
 one_call (Make w) m a b x y = make_status w m a x ∙ sym (make_status w m b y)
 
-pub complete : (words : List (List ℕ)) (old_store new_store : StoreView) (old new : Sinks) (answer : Status) → Answers words old_store new_store old new answer
-    → IsComplete words old_store new_store old new answer
-complete words old_store new_store old new answer a c m due asked told call store out err =
+pub complete : (asked : Option Command) (old_store new_store : StoreView) (old new : Sinks) (answer : Status) → Answers asked old_store new_store old new answer
+    → IsComplete asked old_store new_store old new answer
+complete asked old_store new_store old new answer a c m due is told call store out err =
     elim (told_so a.due a.line old new answer a.is_told) [
       | inl same ↦ elim (called c old_store new_store m a.due a.line told store is_due) [
         | inl memory ↦ inr (same ∙ memory)
@@ -143,11 +143,11 @@ complete words old_store new_store old new answer a c m due asked told call stor
     ]
   where
     is_due : IsDueFor c old_store new_store a.due a.line
-    is_due = MatchOption-at_some (IsMisused old_store new_store a.due a.line) (λ c. IsDueFor c old_store new_store a.due a.line) c asked a.is_due
+    is_due = MatchOption-at_some (IsMisused old_store new_store a.due a.line) (λ c. IsDueFor c old_store new_store a.due a.line) c is a.is_due
 
 -- a fault of a sink is never due
-pub not_sink : (words : List (List ℕ)) (old new : StoreView) (due : Status) (line : List ℕ) → IsDue words old new due line → due ≡ SinkFault → ⊥
-not_sink words old new due line d e = by (command_of words) (subst (λ (s : Status). IsDue words old new s line) e d)
+pub not_sink : (asked : Option Command) (old new : StoreView) (due : Status) (line : List ℕ) → IsDue asked old new due line → due ≡ SinkFault → ⊥
+not_sink asked old new due line d e = by asked (subst (λ (s : Status). IsDue asked old new s line) e d)
   where
     by : (o : Option Command) → MatchOption o (IsMisused old new SinkFault line) (λ c. IsDueFor c old new SinkFault line) → ⊥
     by None m = let no : SinkFault ≡ Usage = m.usage in cc

@@ -1,4 +1,3 @@
-pub mod Asked
 pub mod CheckExits
 pub mod NoCommand
 pub mod Complete
@@ -10,4 +9,5 @@ pub mod Named
 pub mod PlayExits
 pub mod PlayRuns
 pub mod PlayWriting
+pub mod Taped
 pub mod Telling

@@ -1,5 +1,5 @@
 -- How `make` ends, at each place where it may.
-use Rattle.std.proofs.Common.{ℕ, ◌≡◌, ◌<◌, List, [], ◌∷◌, ◌++◌, Option, Some, None, Result, Ok, Err, IsErrOf, IfSome, codes, refl, sym, ap, subst, ◌∙◌, inl, inr, arith, append_assoc}
+use Rattle.std.proofs.Common.{ℕ, true, ◌≡◌, ◌<◌, List, [], ◌∷◌, ◌++◌, Option, Some, None, Result, Ok, Err, IsErrOf, IfSome, codes, refl, sym, ap, subst, ◌∙◌, inl, inr, arith, append_assoc}
 use Rattle.std.specs.Option.{option_map}
 use Rattle.std.specs.FinMap.{empty}
 use Rattle.cy_store.specs.Files.{Files}
@@ -38,7 +38,11 @@ use Rattle.cyber_cli.proofs.PlayExits as play
 abbrev pub work_of : MakeWords → Replay → Plain → Work
 work_of w x world = record { writes = input_writes w.count w.prefix ++ writes_by (play_made w) x world; text = play_line (source_by x) x.list (run_shown world) }
 
-pub makes : (w : MakeWords) (x : Replay) (world : Plain) → 0 < w.count → IsMade w x → HasRun x world → IsMakeWork w (work_of w x world)
+-- the run is the serial one, which the play by these names asks for
+pub in_turn : (w : MakeWords) (p : PlayWords) (x : Replay) (world : Plain) → p ≡ play_made w → HasRun p.serial x world → HasRun true x world
+in_turn w p x world same run = subst (λ b. HasRun b x world) (ap (λ (q : PlayWords). q.serial) same) run
+
+pub makes : (w : MakeWords) (x : Replay) (world : Plain) → 0 < w.count → IsMade w x → HasRun true x world → IsMakeWork w (work_of w x world)
 makes w x world some made run = record {
   played = play.work_of (play_made w) x world;
   by_play = play.accepted (play_made w) x world (Some (made_files w)) made.read made.set_up run;
@@ -53,14 +57,14 @@ pub starved : (w : MakeWords) (old : StoreView) (due : Status) (line : List ℕ)
 starved w old due line status told = subst (λ (d : Status). IsDueFor (Make w) old old d line) (sym status) (inl refl, told)
 
 -- a write failed or memory ran out, at a place among all writes
-fails : (w : MakeWords) (x : Replay) (world : Plain) (old new : StoreView) (v : Write) (name : List ℕ) (due : Status) (line : List ℕ) → 0 < w.count → IsMade w x → HasRun x world
+fails : (w : MakeWords) (x : Replay) (world : Plain) (old new : StoreView) (v : Write) (name : List ℕ) (due : Status) (line : List ℕ) → 0 < w.count → IsMade w x → HasRun true x world
     → name_of v ≡ name → WriteRose old new → StopsAt (input_writes w.count w.prefix ++ writes_by (play_made w) x world) v old.files new.files
     → due ≡ StoreFault → line ≡ store_line name → IsDueFor (Make w) old new due line
 fails w x world old new v name due line some made run named rose stops status told =
     subst (λ (d : Status). IsDueFor (Make w) old new d line) (sym status)
     (inr (record { work = work_of w x world; accepted = makes w x world some made run; failed = v; rose = rose; stops = stops; told = told ∙ ap store_line (sym named) }))
 
-stops : (w : MakeWords) (x : Replay) (world : Plain) (old new : StoreView) (due : Status) (line : List ℕ) → 0 < w.count → IsMade w x → HasRun x world
+stops : (w : MakeWords) (x : Replay) (world : Plain) (old new : StoreView) (due : Status) (line : List ℕ) → 0 < w.count → IsMade w x → HasRun true x world
     → StopsBefore (input_writes w.count w.prefix ++ writes_by (play_made w) x world) old.files new.files
     → due ≡ Memory → line ≡ memory_line → IsDueFor (Make w) old new due line
 stops w x world old new due line some made run before status told =
@@ -68,7 +72,7 @@ stops w x world old new due line some made run before status told =
     (inr (record { work = work_of w x world; accepted = makes w x world some made run; stops = before }), told)
 
 -- the files of the play were not all made
-pub unmade : (w : MakeWords) (x : Replay) (world : Plain) (old new : StoreView) (e : MakeError) (due : Status) (line : List ℕ) → 0 < w.count → IsMade w x → HasRun x world
+pub unmade : (w : MakeWords) (x : Replay) (world : Plain) (old new : StoreView) (e : MakeError) (due : Status) (line : List ℕ) → 0 < w.count → IsMade w x → HasRun true x world
     → MakesFiles {T = Unit {0}} w.prefix (input_writes w.count w.prefix) old new (Err e) → IsDueUnmade w e due line → IsDueFor (Make w) old new due line
 unmade w x world old new (make_error.Config c) due line some made run stopped is =
     let at = stopped.stopped in
@@ -83,7 +87,7 @@ unmade w x world old new make_error.Memory due line some made run stopped is =
     (StopsBefore-first (input_writes w.count w.prefix) (writes_by (play_made w) x world) old.files new.files stopped.stopped) is.0 is.1
 
 -- they were, and so was what `play` writes
-pub done : (w : MakeWords) (p : PlayWords) (x : Replay) (world : Plain) (old : StoreView) (mid : Option Files) (new : StoreView) (line : List ℕ) → p ≡ play_made w → 0 < w.count → IsMade w x → HasRun x world
+pub done : (w : MakeWords) (p : PlayWords) (x : Replay) (world : Plain) (old : StoreView) (mid : Option Files) (new : StoreView) (line : List ℕ) → p ≡ play_made w → 0 < w.count → IsMade w x → HasRun true x world
     → mid ≡ option_map (after_writes (input_writes w.count w.prefix)) old.files → new.files ≡ option_map (after_writes (writes_by p x world)) mid
     → IsLine x world line → IsDueFor (Make w) old new Done line
 done w p x world old mid new line same some made run first second told = record {
@@ -105,7 +109,7 @@ result_name w file.Output = refl
 result_name w file.Trace = refl
 
 -- a file that `play` writes failed, or memory ran out
-pub unplayed : (w : MakeWords) (p : PlayWords) (x : Replay) (world : Plain) (old mid new : StoreView) (found : Failure) (due : Status) (line : List ℕ) → p ≡ play_made w → 0 < w.count → IsMade w x → HasRun x world
+pub unplayed : (w : MakeWords) (p : PlayWords) (x : Replay) (world : Plain) (old mid new : StoreView) (found : Failure) (due : Status) (line : List ℕ) → p ≡ play_made w → 0 < w.count → IsMade w x → HasRun true x world
     → mid.files ≡ option_map (after_writes (input_writes w.count w.prefix)) old.files → SameCounts old mid
     → ((f : File) → IsErrOf {T = List ℕ} (Err found) (failure.Store f) → (v : Write) × (name_of v ≡ name_of_play p f) × StopsAt (writes_by p x world) v mid.files new.files)
     → (IsErrOf {T = List ℕ} (Err found) failure.Memory → StopsBefore (writes_by p x world) mid.files new.files)

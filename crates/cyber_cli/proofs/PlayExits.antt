@@ -77,7 +77,7 @@ leaves w x world m =
     ∙ after_file trace_puts (insert m w.output (tape_record w s world.tape)) w.trace
     ∙ ap (insert (insert m w.output (tape_record w s world.tape)) w.trace) (written_at-end [] trace 0 refl)
 
-pub accepted : (w : PlayWords) (x : Replay) (world : Plain) (files : Option Files) → IfSome files (λ m. replayed_in w m ≡ Accepts (replayed x)) → IsSetUp w.request.filter x → HasRun x world → IsPlayWork w files (work_of w x world)
+pub accepted : (w : PlayWords) (x : Replay) (world : Plain) (files : Option Files) → IfSome files (λ m. replayed_in w m ≡ Accepts (replayed x)) → IsSetUp w.request.filter x → HasRun w.serial x world → IsPlayWork w files (work_of w x world)
 accepted w x world files read s h = record {
   read = replayed x;
   accepted = read;
@@ -94,7 +94,7 @@ accepted w x world files read s h = record {
 }
 
 -- all was written
-pub done : (w : PlayWords) (x : Replay) (world : Plain) (old mid new : StoreView) (line : List ℕ) → SetsUp w old mid (Ok x) → IsSetUp w.request.filter x → HasRun x world → new.files ≡ option_map (after_writes (writes_by w x world)) mid.files
+pub done : (w : PlayWords) (x : Replay) (world : Plain) (old mid new : StoreView) (line : List ℕ) → SetsUp w old mid (Ok x) → IsSetUp w.request.filter x → HasRun w.serial x world → new.files ≡ option_map (after_writes (writes_by w x world)) mid.files
     → IsLine x world line → IsDueFor (Play w) old new Done line
 done w x world old mid new line came s h written told = record {
   work = work_of w x world;
@@ -108,7 +108,7 @@ rose_since old mid new same counts (inl rose) = inl (rose_more old.faults mid.fa
 rose_since old mid new same counts (inr (rose, untold)) = inr (rose_more old.misses mid.misses new.misses (omega (arith, counts.misses)) rose, sym same ∙ untold)
 
 -- a write failed, or memory ran out between two
-pub stopped : (w : PlayWords) (x : Replay) (world : Plain) (old mid new : StoreView) (found : Failure) (due : Status) (line : List ℕ) → SetsUp w old mid (Ok x) → IsSetUp w.request.filter x → HasRun x world
+pub stopped : (w : PlayWords) (x : Replay) (world : Plain) (old mid new : StoreView) (found : Failure) (due : Status) (line : List ℕ) → SetsUp w old mid (Ok x) → IsSetUp w.request.filter x → HasRun w.serial x world
     → ((f : File) → IsErrOf {T = List ℕ} (Err found) (failure.Store f) → (v : Write) × (name_of v ≡ name_of_play w f) × StopsAt (writes_by w x world) v mid.files new.files)
     → (IsErrOf {T = List ℕ} (Err found) failure.Memory → StopsBefore (writes_by w x world) mid.files new.files)
     → ((f : File) → IsErrOf {T = List ℕ} (Err found) (failure.Store f) → WriteRose mid new)

@@ -1,5 +1,5 @@
--- A replay that was played serially, and what is told of it.
-use Rattle.std.proofs.Common.{ℕ, zero, suc, ◌+◌, ◌*◌, ◌≡◌, ◌≤◌, ◌<◌, List, [], ◌∷◌, length, drop, refl, sym, ap, subst, ◌∙◌, arith}
+-- A replay that was played, and what is told of it.
+use Rattle.std.proofs.Common.{ℕ, zero, suc, Bool, true, false, ◌+◌, ◌*◌, ◌≡◌, ◌≤◌, ◌<◌, List, [], ◌∷◌, length, drop, refl, sym, ap, subst, ◌∙◌, arith}
 use Rattle.std.proofs.lemmas.List.{drop_all}
 use Rattle.cy_msg.specs.Placement.{scan_of}
 use Rattle.cy_reader.specs.declared.filter.Filter.{Filter}
@@ -7,7 +7,7 @@ use Rattle.cy_comp.specs.declared.plan.Plan.{Plan}
 use Rattle.wake_core.specs.LawfulRun.{LawfulRun}
 use Rattle.wake_core.specs.Plain.{Plain, opening_world}
 use Rattle.wake_core.specs.Planned.{planned}
-use Rattle.wake_core.specs.Rest.{StaysMade, run_shown}
+use Rattle.wake_core.specs.Rest.{run_shown}
 use Rattle.wake_core.specs.Run.{Run, routes_of}
 use Rattle.wake_core.specs.Serial.{SerialRun}
 use Rattle.wake_core.specs.WorldCalls.{IsTooMany}
@@ -17,9 +17,10 @@ use Rattle.cy_replay.specs.Setup.{IsSetUp}
 use Rattle.cy_replay.specs.Wiring.{wired_by}
 use Rattle.cy_replay.specs.RecordLaws.{PlacesAreThere}
 use Rattle.cy_replay.specs.declared.setup.Replay.{Replay}
-use Rattle.cy_replay.proofs.Origins.{tape_origins}
 use Rattle.cyber_cli.specs.PlayEnds.{HasRun}
+use Rattle.cyber_cli.specs.PlayWork.{IsRunOf}
 use Rattle.cyber_cli.specs.Summary.{calls_from}
+use Rattle.cyber_cli.proofs.Taped.{lawful_origins}
 
 -- no more is planned than a world keeps
 pub not_too_many : (x : Replay) (counts : List ℕ) (n : ℕ) → counts ≡ x.counts → planned (routes_of x.wiring.plans) x.counts ≤ MOST_PLANNED → IsTooMany (routes_of x.wiring.plans) counts n → ⊥
@@ -28,20 +29,31 @@ not_too_many x counts n same few many =
     let more = many.1 in
     omega (arith, p, more, few)
 
--- what a serial run from the opening world leaves
-pub has_run : (f : Filter) (x : Replay) (first new : Plain) (counts : List ℕ) → PlacesAreThere → IsSetUp f x → first ≡ opening_world (routes_of x.wiring.plans) counts → counts ≡ x.counts
-    → SerialRun first.routes (scan_of x.placement.contexts) x.list.tokens (run_shown new) → LawfulRun x.list.tokens first.routes new → StaysMade first new → HasRun x new
-has_run f x first new counts places s opens same run lawful stays =
-    let routes : first.routes ≡ routes_of x.wiring.plans = ap (λ (w : Plain). w.routes) opens in
-    let played = subst (λ rs. SerialRun rs (scan_of x.placement.contexts) x.list.tokens (run_shown new)) routes run in
-    let many : length new.counts ≡ length x.wiring.names = ap length (stays.counts ∙ ap (λ (w : Plain). w.counts) opens ∙ same) ∙ s.many in
+-- the serial run from the opening world is one that was asked for
+pub serial_run : (serial : Bool) (x : Replay) (first new : Plain) → first ≡ opening_world (routes_of x.wiring.plans) x.counts
+    → SerialRun first.routes (scan_of x.placement.contexts) x.list.tokens (run_shown new) → IsRunOf serial (routes_of x.wiring.plans) (scan_of x.placement.contexts) x.list.tokens new
+serial_run true x first new opens run = subst (λ (w : Plain). SerialRun w.routes (scan_of x.placement.contexts) x.list.tokens (run_shown new)) opens run
+serial_run false x first new opens run = tt
+
+pub lawful_run : (x : Replay) (first new : Plain) → first ≡ opening_world (routes_of x.wiring.plans) x.counts → LawfulRun x.list.tokens first.routes new → LawfulRun x.list.tokens (routes_of x.wiring.plans) new
+lawful_run x first new opens lawful = subst (λ (w : Plain). LawfulRun x.list.tokens w.routes new) opens lawful
+
+pub any_run : (serial : Bool) (x : Replay) (new : Plain) → serial ≡ false → IsRunOf serial (routes_of x.wiring.plans) (scan_of x.placement.contexts) x.list.tokens new
+any_run true x new e = cc
+any_run false x new e = tt
+
+-- a lawful run from the opening world can be written
+pub has_run : (serial : Bool) (f : Filter) (x : Replay) (first new : Plain) → PlacesAreThere → IsSetUp f x → first ≡ opening_world (routes_of x.wiring.plans) x.counts
+    → IsRunOf serial (routes_of x.wiring.plans) (scan_of x.placement.contexts) x.list.tokens new → LawfulRun x.list.tokens (routes_of x.wiring.plans) new → new.counts ≡ first.counts → HasRun serial x new
+has_run serial f x first new places s opens run lawful stays =
+    let many : length new.counts ≡ length x.wiring.names = ap length (stays ∙ ap (λ (w : Plain). w.counts) opens) ∙ s.many in
     record {
-      run = played;
-      lawful = subst (λ rs. LawfulRun x.list.tokens rs new) routes lawful;
+      run = run;
+      lawful = lawful;
       counts = many;
       writable = record {
         channels = λ n t at. let below = lawful.sound.consistent.room.channels n t at in omega (arith, below, many);
-        origins = tape_origins x.recorded (choice_of f (wired_by x.wiring)) x.list (routes_of x.wiring.plans) (scan_of x.placement.contexts) (run_shown new) s.listed played;
+        origins = lawful_origins x.recorded (choice_of f (wired_by x.wiring)) x.list (routes_of x.wiring.plans) new s.listed lawful;
         places = places x.recorded (choice_of f (wired_by x.wiring)) x.list s.listed;
       };
     }

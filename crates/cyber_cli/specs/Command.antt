@@ -1,5 +1,6 @@
 -- The commands, the words that ask for them, and what they come to.
-use Rattle.std.specs.Prelude.{ℕ, List, [], ◌∷◌, Option, None, if◌then◌else◌, codes}
+use Rattle.std.specs.Prelude.{ℕ, List, [], ◌∷◌, Option, Some, None}
+use Rattle.std.specs.Prelude.{if◌then◌else◌, option_and_then, codes}
 use Rattle.std.specs.Option.{option_map}
 use Rattle.std.specs.Str.{bytes_eq}
 use Rattle.cy_store.specs.Write.{Write}
@@ -24,6 +25,14 @@ command_of (name ∷ words) =
     else (if bytes_eq name (codes "info") then option_map Info (info_of words)
     else (if bytes_eq name (codes "play") then option_map Play (play_of words)
     else (if bytes_eq name (codes "make") then option_map Make (make_of words) else None))))
+
+-- What they ask for where there are no threads: a `play` is then serial.
+abbrev pub still_one : Command → Option Command
+still_one (Play words) = if words.serial then Some (Play words) else None
+still_one c = Some c
+
+abbrev pub still_command_of : List (List ℕ) → Option Command
+still_command_of words = option_and_then still_one (command_of words)
 
 -- What a command makes of the files that it read: what it writes to the store, in order, and the
 -- text that it prints.

@@ -1,5 +1,6 @@
 -- What the program answers: which status is due, with what stands in the store, and how it is told.
-use Rattle.std.specs.Prelude.{ℕ, ◌≡◌, ◌⊎◌, List, ◌++◌, take, Some, MatchOption}
+use Rattle.std.specs.Prelude.{ℕ, ◌≡◌, ◌⊎◌, List, ◌++◌, take, Option, Some}
+use Rattle.std.specs.Prelude.{MatchOption}
 use Rattle.std.specs.Option.{option_map}
 use Rattle.cy_store.specs.Files.{Files}
 use Rattle.cy_store.specs.Write.{Write, name_of, after_writes}
@@ -8,7 +9,7 @@ use Rattle.cy_writer.specs.Writes.{StopsAt, StopsBefore}
 use Rattle.cyber_cli.specs.declared.status.Status.{Status}
 use Rattle.cyber_cli.specs.declared.status.Status.TheVariants.{Done, Refused, Usage, StoreFault}
 use Rattle.cyber_cli.specs.declared.status.Status.TheVariants.{SinkFault, Limit, Memory}
-use Rattle.cyber_cli.specs.Command.{Command, Work, command_of}
+use Rattle.cyber_cli.specs.Command.{Command, Work}
 use Rattle.cyber_cli.specs.Outcome.{IsReadBy, IsAccepted, IsTaken, IsRefused, IsAbsent}
 use Rattle.cyber_cli.specs.Lines.{usage_line, memory_line, output_line, store_line}
 
@@ -69,10 +70,10 @@ pub record IsMisused (old new : StoreView) (due : Status) (line : List ℕ) : Ty
   pub same : new ≡ old
   pub told : line ≡ usage_line
 
--- A status is due by the words.
-abbrev pub IsDue : List (List ℕ) → StoreView → StoreView → Status → List ℕ → Type 0
-IsDue words old new due line =
-    MatchOption (command_of words) (IsMisused old new due line) (λ c. IsDueFor c old new due line)
+-- A status is due for what the words ask for, if anything.
+abbrev pub IsDue : Option Command → StoreView → StoreView → Status → List ℕ → Type 0
+IsDue asked old new due line =
+    MatchOption asked (IsMisused old new due line) (λ c. IsDueFor c old new due line)
 
 -- The two sinks, before and after.
 pub record Sinks : Type 0 where
@@ -110,12 +111,12 @@ IsTold due line old new Memory = ((due ≡ Memory) × Gets old.err new.err line 
     ⊎ IsHalfTold due line old new
 IsTold due line old new answer = (due ≡ answer) × Gets old.err new.err line × (new.out ≡ old.out)
 
--- Some status is due by the words and the store, and the answer tells it.
-pub record Answers (words : List (List ℕ)) (old_store new_store : StoreView) (old new : Sinks)
+-- Some status is due by what is asked for and the store, and the answer tells it.
+pub record Answers (asked : Option Command) (old_store new_store : StoreView) (old new : Sinks)
     (answer : Status) : Type 0 where
   pub due : Status
   pub line : List ℕ
-  pub is_due : IsDue words old_store new_store due line
+  pub is_due : IsDue asked old_store new_store due line
   pub is_told : IsTold due line old new answer
 
 -- What the files call for: Done where they are accepted, the status of their refusal, StoreFault
@@ -127,11 +128,11 @@ CallsFor c m Limit = (line : List ℕ) × IsRefused c (Some m) Limit line
 CallsFor c m StoreFault = (name : List ℕ) × IsAbsent c (Some m) name
 CallsFor c m other = ⊥
 
--- Where the words ask for a command, the store tells its files and no count of faults rose, the
+-- Where a command is asked for, the store tells its files and no count of faults rose, the
 -- answer is what the files call for, or Memory.
-abbrev pub IsComplete : List (List ℕ) → StoreView → StoreView → Sinks → Sinks → Status → Type 0
-IsComplete words old_store new_store old new answer = (c : Command) (m : Files) (due : Status)
-    → command_of words ≡ Some c → old_store.files ≡ Some m → CallsFor c m due
+abbrev pub IsComplete : Option Command → StoreView → StoreView → Sinks → Sinks → Status → Type 0
+IsComplete asked old_store new_store old new answer = (c : Command) (m : Files) (due : Status)
+    → asked ≡ Some c → old_store.files ≡ Some m → CallsFor c m due
     → (Rose old_store.faults new_store.faults → ⊥) → (Rose old.out.faults new.out.faults → ⊥)
     → (Rose old.err.faults new.err.faults → ⊥)
     → (answer ≡ due) ⊎ (answer ≡ Memory)

@@ -1,5 +1,5 @@
 -- How `make` ends.
-use Rattle.std.specs.Prelude.{ℕ, ◌≡◌, ◌++◌, List, None, codes}
+use Rattle.std.specs.Prelude.{ℕ, ◌≡◌, ◌++◌, true, List, None, codes}
 use Rattle.cy_store.specs.Reads.{Accepts}
 use Rattle.cy_replay.specs.declared.setup.Replay.{Replay}
 use Rattle.cy_replay.specs.Setup.{IsSetUp, OfFiles, replayed}
@@ -63,4 +63,5 @@ play_named n = record {
   };
   output = n.output;
   trace = n.trace;
+  serial = true;
 }

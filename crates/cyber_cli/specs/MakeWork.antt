@@ -1,5 +1,5 @@
 -- What `make` makes.
-use Rattle.std.specs.Prelude.{ℕ, ◌≡◌, ◌++◌, codes, List, Some, None}
+use Rattle.std.specs.Prelude.{ℕ, ◌≡◌, ◌++◌, true, codes, List, Some, None}
 use Rattle.std.specs.FinMap.{empty}
 use Rattle.cy_store.specs.Files.{Files}
 use Rattle.cy_store.specs.Write.{after_writes}
@@ -15,7 +15,7 @@ use Rattle.cyber_cli.specs.PassWords.{all_messages}
 use Rattle.cyber_cli.specs.PlayWords.{PlayWords}
 use Rattle.cyber_cli.specs.PlayWork.{IsPlayWork}
 
--- A play of all messages of the record that is made, through the components that are made, with the
+-- A serial play of all messages of the record that is made, through the components that are made, with the
 -- default scheduler.
 abbrev pub play_made : MakeWords → PlayWords
 play_made w = record {
@@ -26,6 +26,7 @@ play_made w = record {
   };
   output = w.prefix ++ codes ".out";
   trace = w.prefix ++ codes ".trace";
+  serial = true;
 }
 
 -- The files that are played: those that are made, and no others.

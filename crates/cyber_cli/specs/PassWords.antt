@@ -1,5 +1,6 @@
 -- The words of `pass`.
-use Rattle.std.specs.Prelude.{ℕ, ◌-◌, ◌^◌, ◌&&◌, not, if◌then◌else◌, List, [], ◌∷◌, Option, None}
+use Rattle.std.specs.Prelude.{ℕ, ◌-◌, ◌^◌, ◌&&◌, not, if◌then◌else◌, true, List, [], ◌∷◌}
+use Rattle.std.specs.Prelude.{Option, None}
 use Rattle.std.specs.Str.{bytes_eq}
 use Rattle.cy_reader.specs.declared.filter.Filter.{Filter}
 use Rattle.cy_replay.specs.Setup.{OfPass}
@@ -10,12 +11,13 @@ use Rattle.cyber_cli.specs.Words.{is_word}
 abbrev pub all_messages : Filter
 all_messages = record { only = None; drop = []; begin = 0; end = 2 ^ 64 - 1 }
 
--- A play of all messages of a record through one component from one channel to another.
+-- A serial play of all messages of a record through one component from one channel to another.
 abbrev pub pass_words : (input output trace from to : List ℕ) → PlayWords
 pass_words input output trace from to = record {
   request = record { components = OfPass from to; input = input; filter = all_messages };
   output = output;
   trace = trace;
+  serial = true;
 }
 
 -- What the words behind `pass` ask for, where they are of its form: the record that is played, the

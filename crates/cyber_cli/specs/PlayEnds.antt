@@ -1,12 +1,11 @@
 -- How `play` ends.
-use Rattle.std.specs.Prelude.{ℕ, ◌≡◌, List, length}
+use Rattle.std.specs.Prelude.{ℕ, ◌≡◌, Bool, List, length}
 use Rattle.cy_store.specs.Write.{Write}
 use Rattle.cy_msg.specs.Placement.{scan_of}
 use Rattle.wake_core.specs.LawfulRun.{LawfulRun}
 use Rattle.wake_core.specs.Plain.{Plain}
 use Rattle.wake_core.specs.Rest.{run_shown}
 use Rattle.wake_core.specs.Run.{routes_of}
-use Rattle.wake_core.specs.Serial.{SerialRun}
 use Rattle.cy_replay.specs.Recording.{Source, IsWritable}
 use Rattle.cy_replay.specs.Setup.{replayed}
 use Rattle.cy_replay.specs.declared.setup.Replay.{Replay}
@@ -19,16 +18,15 @@ use Rattle.cyber_cli.specs.declared.status.Status.{Status}
 use Rattle.cyber_cli.specs.declared.status.Status.TheVariants.{StoreFault, Memory}
 use Rattle.cyber_cli.specs.Lines.{store_line, memory_line}
 use Rattle.cyber_cli.specs.PlayWords.{PlayWords}
-use Rattle.cyber_cli.specs.PlayWork.{source_in, run_trace, play_writes, play_line}
+use Rattle.cyber_cli.specs.PlayWork.{IsRunOf, source_in, run_trace, play_writes, play_line}
 
 -- What the record of a replay is written from.
 abbrev pub source_by : Replay → Source
 source_by x = source_in (replayed x) x.list
 
--- A world in which a replay was played serially: its tape can be written.
-pub record HasRun (x : Replay) (w : Plain) : Type 0 where
-  pub run : SerialRun (routes_of x.wiring.plans) (scan_of x.placement.contexts) x.list.tokens
-      (run_shown w)
+-- A world in which a replay was played, serially or on threads: its tape can be written.
+pub record HasRun (serial : Bool) (x : Replay) (w : Plain) : Type 0 where
+  pub run : IsRunOf serial (routes_of x.wiring.plans) (scan_of x.placement.contexts) x.list.tokens w
   pub lawful : LawfulRun x.list.tokens (routes_of x.wiring.plans) w
   pub counts : length w.counts ≡ length x.wiring.names
   pub writable : IsWritable (source_by x) w.tape

@@ -20,6 +20,7 @@ play_words_of p = record {
   };
   output = p.output.now;
   trace = p.trace.now;
+  serial = p.serial;
 }
 
 abbrev pub options_of : code.Options → Options

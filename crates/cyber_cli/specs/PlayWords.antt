@@ -8,12 +8,13 @@ use Rattle.std.specs.Str.{bytes_eq}
 use Rattle.cy_replay.specs.Setup.{Components, OfFiles, OfPass, Request}
 use Rattle.cyber_cli.specs.Words.{is_word}
 
--- What is asked of a play: what is replayed, and the names of the record and of the trace that are
--- written.
+-- What is asked of a play: what is replayed, the names of the record and of the trace that are
+-- written, and whether one thread plays it, in the order of the scan.
 pub record PlayWords : Type 0 where
   pub request : Request
   pub output : List ℕ
   pub trace : List ℕ
+  pub serial : Bool
 
 -- The options that were given so far: their values, and whether `--serial` was.
 pub record Options : Type 0 where
@@ -161,6 +162,7 @@ play_words o = do
     };
     output = output;
     trace = trace;
+    serial = o.serial;
   }
 
 -- Whether the names of what is written differ from each other and from the names of what is read.
@@ -182,11 +184,10 @@ is_play w = not (bytes_eq w.output w.trace) && is_other w.output w && is_other w
 abbrev pub where_play : PlayWords → Option PlayWords
 where_play w = if is_play w then Some w else None
 
--- What the options ask for: a serial play, with lists that are lists.
+-- What the options ask for: a play, with lists that are lists.
 unfoldable pub asked_by : Options → Option PlayWords
 asked_by o =
-    if o.serial && is_list_or_none o.only && is_list_or_none o.drop
-    then play_words o >>= where_play else None
+    if is_list_or_none o.only && is_list_or_none o.drop then play_words o >>= where_play else None
 
 abbrev pub asked_at_end : Options → Option (List ℕ) → Option PlayWords
 asked_at_end o None = asked_by o

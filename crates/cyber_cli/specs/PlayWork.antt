@@ -1,5 +1,6 @@
 -- What `play` makes of its files, and which it refuses.
-use Rattle.std.specs.Prelude.{ℕ, ◌≡◌, List, [], ◌∷◌, ◌++◌, length, map, Option, IfSome}
+use Rattle.std.specs.Prelude.{ℕ, ◌≡◌, ⊤, Bool, true, false, List, [], ◌∷◌, ◌++◌, length, map}
+use Rattle.std.specs.Prelude.{Option, IfSome}
 use Rattle.std.specs.FinMap.{insert}
 use Rattle.cy_store.specs.Files.{Files}
 use Rattle.cy_store.specs.Reads.{Reads, Accepts, Refuses}
@@ -16,6 +17,7 @@ use Rattle.wake_core.specs.LawfulRun.{LawfulRun}
 use Rattle.wake_core.specs.Plain.{Plain}
 use Rattle.wake_core.specs.Rest.{run_shown}
 use Rattle.wake_core.specs.Run.{Run, routes_of}
+use Rattle.wake_core.specs.declared.route.Route.{Route}
 use Rattle.wake_core.specs.Serial.{SerialRun}
 use Rattle.cy_replay.specs.declared.error.Refusal.{Refusal}
 use Rattle.cy_replay.specs.Listing.{choice_of}
@@ -59,14 +61,19 @@ abbrev pub play_line : Source → PlayList → Run → List ℕ
 play_line s list run = done_line (length list.tokens) list.shadowed (calls_from run 0 s.plans)
     (length run.tape)
 
--- A serial run of the play list over the placed components: the run that its world shows is lawful.
-pub record IsPlayed (read : Replayed) (list : PlayList) (contexts : List ContextPlan) (w : Plain) :
-    Type 0 where
-  pub run : SerialRun (routes_of read.wired.plans) (scan_of contexts) list.tokens (run_shown w)
+-- The run that a world shows is the serial one, where that is asked for; on threads it may be any.
+abbrev pub IsRunOf : (serial : Bool) → List Route → List ℕ → List Token → Plain → Type 0
+IsRunOf true routes scan tokens w = SerialRun routes scan tokens (run_shown w)
+IsRunOf false routes scan tokens w = ⊤
+
+-- A lawful run of the play list over the placed components: the serial one, where it is asked for.
+pub record IsPlayed (serial : Bool) (read : Replayed) (list : PlayList)
+    (contexts : List ContextPlan) (w : Plain) : Type 0 where
+  pub run : IsRunOf serial (routes_of read.wired.plans) (scan_of contexts) list.tokens w
   pub lawful : LawfulRun list.tokens (routes_of read.wired.plans) w
 
--- The files are accepted, and this is what `play` makes of them: the record and the trace of a
--- serial run, written in their order, after which both files hold them and every other name is as
+-- The files are accepted, and this is what `play` makes of them: the record and the trace of one
+-- lawful run, written in their order, after which both files hold them and every other name is as
 -- before; and the line with the run's numbers.
 pub record IsPlayWork (w : PlayWords) (files : Option Files) (work : Work) : Type 0 where
   pub read : Replayed
@@ -77,7 +84,7 @@ pub record IsPlayWork (w : PlayWords) (files : Option Files) (work : Work) : Typ
   pub placed : IsPlaced read.configured.sched (map (λ c. c.name) read.configured.dag.components)
       contexts
   pub world : Plain
-  pub played : IsPlayed read list contexts world
+  pub played : IsPlayed w.serial read list contexts world
   pub record_text : IsRecordText (channels_of_tape (source_in read list) world.tape)
       (messages_of_tape (source_in read list) world.tape)
       (tape_record w (source_in read list) world.tape)

@@ -23,4 +23,4 @@ mod words;
 mod write;
 
 pub use status::Status;
-pub use still::cyber_still;
+pub use still::{cyber, cyber_still};

@@ -37,6 +37,7 @@ pub fn pass_words<'a>(words: &'a [Text]) -> Option<Play<'a>>
         drop: None,
         begin: 0,
         end: u64::MAX,
+        serial: true,
     };
     play.where_in_form()
 }

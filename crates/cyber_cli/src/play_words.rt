@@ -31,6 +31,8 @@ pub struct Play<'a> {
     pub begin: u64,
     /// The greatest time, in nanoseconds.
     pub end: u64,
+    /// Whether one thread plays all.
+    pub serial: bool,
 }
 
 // The options that were given so far.
@@ -295,7 +297,7 @@ impl<'a> Play<'a> {
 }
 
 impl<'a> Options<'a> {
-    // The words that every serial play has.
+    // The words that every play has.
     fn words(self) -> Option<Play<'a>>
         ensures words { option_map play_words_of result ≡ play_words (options_of self.entry) }
         ensures reader { IfSome result (λ play. HasReader (components_of play.components)) }
@@ -313,6 +315,7 @@ impl<'a> Options<'a> {
             },
             only: self.only,
             drop: self.drop,
+            serial: self.serial,
         })
     }
 
@@ -322,7 +325,7 @@ impl<'a> Options<'a> {
         ensures asked { option_map play_words_of result ≡ asked_by (options_of self.entry) }
         ensures reader { IfSome result (λ play. HasReader (components_of play.components)) }
     {
-        if !(self.serial && is_list_or_none(self.only) && is_list_or_none(self.drop)) {
+        if !(is_list_or_none(self.only) && is_list_or_none(self.drop)) {
             return None;
         }
         self.words()?.where_in_form()

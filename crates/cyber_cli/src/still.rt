@@ -1,33 +1,93 @@
-// The top call.
+// The top calls.
 ghost use Rattle.std.specs.Prelude.{◌≡◌, ◌≢◌};
 ghost use Rattle.cyber_cli.specs.Line.{bytes_of_line};
-ghost use Rattle.cyber_cli.specs.Due.{IsDue, IsTold, GetsFront, Answers, IsComplete};
+ghost use Rattle.cyber_cli.specs.Command.{command_of, still_command_of};
+ghost use Rattle.cyber_cli.specs.Due.{IsDue, IsDueFor, IsTold, GetsFront, Answers, IsComplete};
+ghost use Rattle.cyber_cli.specs.Lines.{usage_line};
+ghost use Rattle.cyber_cli.specs.Views.{command_asked, IsInForm};
 ghost use Rattle.cy_store.specs.Store.{SinkView};
 
-use crate::commands::{run_check, run_info, run_make, run_play};
+use crate::commands::{run_check, run_info, run_make, run_play, run_play_with_threads};
 use crate::due::Due;
 use crate::fault_text::{OUTPUT_LINE, USAGE_LINE};
 use crate::line::{Line, write_line};
 use crate::status::Status;
-use crate::words::{Command, command_of};
+use crate::words::{Command, command_of, still_command_of};
 use cy_msg::Text;
+use cy_run::Gate;
 use cy_store::{Sink, SinkError, Store};
 use std::alloc::Global;
+use std::sync::Wait;
+use std::thread::Threads;
 
-// Does what the words ask for, and says which status is due.
+// Does a command on this thread, and says which status is due.
+fn due_for<'a, S: Store>(alloc: Global, command: &Command<'a>, store: &mut S) -> Due<'a>
+    requires { IsInForm command.now }
+    ensures { IsDueFor (command_asked command.now) (S.shows store.old) (S.shows store.new)
+        result.status (bytes_of_line result.line) }
+{
+    match command {
+        Command::Check(check) => run_check(alloc, check, store),
+        Command::Info(info) => run_info(alloc, info, store),
+        Command::Play(play) => run_play(alloc, play, store),
+        Command::Make(make) => run_make(alloc, make, store),
+    }
+}
+
+// What is due where the words ask for no command.
+fn misused<'a>() -> Due<'a>
+    ensures status { result.status ≡ Status.Usage }
+    ensures line { bytes_of_line result.line ≡ usage_line }
+{
+    Due {
+        status: Status::Usage,
+        line: Line::Fixed(USAGE_LINE),
+    }
+}
+
+// Does what the words ask for where there are no threads, and says which status is due.
 fn due_of<'a, S: Store>(alloc: Global, words: &'a [Text], store: &mut S) -> Due<'a>
-    ensures { IsDue words.now (S.shows store.old) (S.shows store.new) result.status
+    ensures { IsDue (still_command_of words.now) (S.shows store.old) (S.shows store.new)
+        result.status (bytes_of_line result.line) }
+{
+    match still_command_of(words) {
+        Some(command) => due_for(alloc, &command, store),
+        None => misused(),
+    }
+}
+
+// Does a command with threads, and says which status is due.
+fn due_with<'a, S: Store, G: Gate, R: Threads + Wait + Sync>(
+    rt: &R,
+    alloc: Global,
+    command: &Command<'a>,
+    store: &mut S,
+    gate: &G,
+) -> Due<'a>
+    requires { IsInForm command.now }
+    ensures { IsDueFor (command_asked command.now) (S.shows store.old) (S.shows store.new)
+        result.status (bytes_of_line result.line) }
+{
+    match command {
+        Command::Play(play) => run_play_with_threads(rt, alloc, play, store, gate),
+        _ => due_for(alloc, command, store),
+    }
+}
+
+// Does what the words ask for with threads, and says which status is due.
+fn due_with_threads<'a, S: Store, G: Gate, R: Threads + Wait + Sync>(
+    rt: &R,
+    alloc: Global,
+    words: &'a [Text],
+    store: &mut S,
+    gate: &G,
+) -> Due<'a>
+    ensures { IsDue (command_of words.now) (S.shows store.old) (S.shows store.new) result.status
         (bytes_of_line result.line) }
 {
     match command_of(words) {
-        Some(Command::Check(check)) => run_check(alloc, &check, store),
-        Some(Command::Info(info)) => run_info(alloc, &info, store),
-        Some(Command::Play(play)) => run_play(alloc, &play, store),
-        Some(Command::Make(make)) => run_make(alloc, &make, store),
-        None => Due {
-            status: Status::Usage,
-            line: Line::Fixed(USAGE_LINE),
-        },
+        Some(command) => due_with(rt, alloc, &command, store, gate),
+        None => misused(),
     }
 }
 
@@ -87,11 +147,12 @@ fn tell<O: Sink, E: Sink>(due: &Due, out: &mut O, err: &mut E) -> Status
 
 /// Does what the words ask for.
 ///
-/// `play --serial --dag F --record F --out F --trace F`, with `--sched F` and the options
-/// `--channels LIST`, `--drop LIST`, `--begin N` and `--end N` that choose messages, plays a record
-/// serially through the components of a DAG, and writes a record of all messages and a trace of all
-/// calls. `pass RECORD OUT TRACE FROM TO` is such a play through one component that passes each
-/// message of the channel FROM on to the channel TO.
+/// `play --dag F --record F --out F --trace F`, with `--sched F` and the options `--channels LIST`,
+/// `--drop LIST`, `--begin N` and `--end N` that choose messages, plays a record through the
+/// components of a DAG, and writes a record of all messages and a trace of all calls. Components
+/// run on threads, as the placement says; with `--serial` one thread does all. `pass RECORD OUT
+/// TRACE FROM TO` is a serial play through one component that passes each message of the channel
+/// FROM on to the channel TO.
 ///
 /// `check --dag F [--sched F]` prints what configuration files say, and `info FILE` what a record
 /// is.
@@ -101,7 +162,34 @@ fn tell<O: Sink, E: Sink>(due: &Due, out: &mut O, err: &mut E) -> Status
 ///
 /// The text or the line that tells what was done goes to `out`, and one that tells of a refusal or
 /// a fault goes to `err`. The answer is one of the seven statuses; its contract says which is due,
-/// what stands in the store then, and how it is told.
+/// what stands in the store then, and how it is told. A processor passes `gate` before each call of
+/// a component. It may wait.
+pub fn cyber<S: Store, O: Sink, E: Sink, G: Gate, R: Threads + Wait + Sync>(
+    rt: &R,
+    alloc: Global,
+    words: &[Text],
+    store: &mut S,
+    out: &mut O,
+    err: &mut E,
+    gate: &G,
+) -> Status
+    ensures answers { Answers (command_of words.now) (S.shows store.old) (S.shows store.new)
+        record { out = O.shows out.old; err = E.shows err.old } record {
+          out = O.shows out.new;
+          err = E.shows err.new;
+        } result }
+    ensures complete { IsComplete (command_of words.now) (S.shows store.old) (S.shows store.new)
+        record { out = O.shows out.old; err = E.shows err.old } record {
+          out = O.shows out.new;
+          err = E.shows err.new;
+        } result }
+{
+    let due = due_with_threads(rt, alloc, words, store, gate);
+    tell(&due, out, err)
+}
+
+/// The same without threads, and without waiting: a `play` that is not serial is of no known form
+/// here.
 pub fn cyber_still<S: Store, O: Sink, E: Sink>(
     alloc: Global,
     words: &[Text],
@@ -109,22 +197,16 @@ pub fn cyber_still<S: Store, O: Sink, E: Sink>(
     out: &mut O,
     err: &mut E,
 ) -> Status
-    ensures answers { Answers words.now (S.shows store.old) (S.shows store.new) record {
-      out =
-          O.shows out.old;
-      err = E.shows err.old;
-    } record {
-      out = O.shows out.new;
-      err = E.shows err.new;
-    } result }
-    ensures complete { IsComplete words.now (S.shows store.old) (S.shows store.new) record {
-      out =
-          O.shows out.old;
-      err = E.shows err.old;
-    } record {
-      out = O.shows out.new;
-      err = E.shows err.new;
-    } result }
+    ensures answers { Answers (still_command_of words.now) (S.shows store.old) (S.shows store.new)
+        record { out = O.shows out.old; err = E.shows err.old } record {
+          out = O.shows out.new;
+          err = E.shows err.new;
+        } result }
+    ensures complete { IsComplete (still_command_of words.now) (S.shows store.old)
+        (S.shows store.new) record { out = O.shows out.old; err = E.shows err.old } record {
+          out = O.shows out.new;
+          err = E.shows err.new;
+        } result }
 {
     let due = due_of(alloc, words, store);
     tell(&due, out, err)

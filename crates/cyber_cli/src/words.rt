@@ -2,7 +2,7 @@
 ghost use Rattle.std.specs.Prelude.{◌≡◌, Some, None, IfSome, MatchOption, option_map};
 ghost use Rattle.cyber_cli.specs.Words.{is_word, check_of, is_option, first_option, pair_at};
 ghost use Rattle.cyber_cli.specs.Words.{two_options, info_of};
-ghost use Rattle.cyber_cli.specs.Command.{command_of};
+ghost use Rattle.cyber_cli.specs.Command.{command_of, still_command_of};
 ghost use Rattle.cyber_cli.specs.Views.{check_words_of, given_of, info_words_of, command_asked};
 ghost use Rattle.cyber_cli.specs.Views.{IsInForm};
 
@@ -37,7 +37,7 @@ pub enum Command<'a> {
     Check(Check<'a>),
     /// To print what a record is.
     Info(Info<'a>),
-    /// To play a record serially through components.
+    /// To play a record through components.
     Play(Play<'a>),
     /// To make the files of a play, and to play them.
     Make(Make<'a>),
@@ -169,5 +169,19 @@ pub fn command_of<'a>(words: &'a [Text]) -> Option<Command<'a>>
         "play" => Some(Command::Play(play_words(words)?)),
         "make" => Some(Command::Make(make_words(words)?)),
         _ => None,
+    }
+}
+
+/// What the words ask for where there are no threads; None where they are of no known form, or ask
+/// for a play that is not serial.
+pub fn still_command_of<'a>(words: &'a [Text]) -> Option<Command<'a>>
+    ensures asked { MatchOption result (still_command_of words.now ≡ None)
+        (λ c. still_command_of words.now ≡ Some (command_asked c)) }
+    ensures form { IfSome result IsInForm }
+{
+    let command = command_of(words)?;
+    match command {
+        Command::Play(play) if !play.serial => None,
+        _ => Some(command),
     }
 }

@@ -1,14 +1,14 @@
 // The chain is played, and the bytes that another runtime writes for it.
-use crate::ran::{chain_store, play};
+use crate::ran::{Ran, chain_store, play, play_still, play_with_threads};
 use crate::samples::{LINE, TRACE, out_record};
 use cy_store::MemSink;
 use cyber_cli::Status;
+use std::alloc::Global;
+use std::process::Abort;
 use std::test::Fail;
 
-#[test]
-fn plays_a_chain_of_two(rt: HostRuntime) -> Result<(), Fail> {
-    let alloc = rt.alloc();
-    let ran = play(alloc, chain_store(alloc)?, MemSink::new(alloc))?;
+// The chain was played: its files and its line are those of another runtime.
+fn is_whole(rt: &impl Abort, alloc: Global, ran: &Ran) -> Result<(), Fail> {
     assert_eq!(rt; ran.status, Status::Done);
     assert_eq!(rt; ran.out.bytes(), LINE);
     assert_eq!(rt; ran.err.bytes(), b"".as_slice());
@@ -17,6 +17,32 @@ fn plays_a_chain_of_two(rt: HostRuntime) -> Result<(), Fail> {
         Some(out_record(alloc)?.as_slice())
     );
     assert_eq!(rt; ran.store.file("t.txt"), Some(TRACE));
+    Ok(())
+}
+
+#[test]
+fn plays_a_chain_of_two(rt: HostRuntime) -> Result<(), Fail> {
+    let alloc = rt.alloc();
+    let ran = play(alloc, chain_store(alloc)?, MemSink::new(alloc))?;
+    is_whole(&rt, alloc, &ran)
+}
+
+// The chain leaves threads no choice, so that they write what one writes.
+#[test]
+fn plays_a_chain_with_threads(rt: HostRuntime) -> Result<(), Fail> {
+    let alloc = rt.alloc();
+    for _ in 0..20usize {
+        is_whole(&rt, alloc, &play_with_threads(&rt, alloc, false)?)?;
+    }
+    is_whole(&rt, alloc, &play_with_threads(&rt, alloc, true)?)
+}
+
+#[test]
+fn has_no_threads_where_it_may_not_wait(rt: HostRuntime) -> Result<(), Fail> {
+    let ran = play_still(rt.alloc())?;
+    assert_eq!(rt; ran.status, Status::Usage);
+    assert!(rt; ran.store.file("out.rec").is_none());
+    assert!(rt; ran.store.file("t.txt").is_none());
     Ok(())
 }
 

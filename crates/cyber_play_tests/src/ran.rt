@@ -1,16 +1,18 @@
-// A serial play of the chain in memory.
+// Plays of the chain in memory.
 use crate::samples::{DAG, FIRST_CONFIG, SECOND_CONFIG, in_record};
 use cy_msg::Text;
+use cy_run::OpenGate;
 use cy_store::{MemSink, MemStore, Store};
-use cyber_cli::{Status, cyber_still};
+use cyber_cli::{Status, cyber, cyber_still};
 use std::alloc::Global;
+use std::sync::Wait;
 use std::test::Fail;
+use std::thread::Threads;
 
-/// The words of the play.
-const PLAY: [&str; 10] = [
-    "play", "--serial", "--dag", "d.dag", "--record", "a.rec", "--out", "out.rec", "--trace",
-    "t.txt",
-];
+/// The words of a play on threads, and of a serial one.
+const PLAY: &str = "play --dag d.dag --record a.rec --out out.rec --trace t.txt";
+
+const SERIAL_PLAY: &str = "play --serial --dag d.dag --record a.rec --out out.rec --trace t.txt";
 
 /// What the program answered, and what it left.
 #[derive(Drop)]
@@ -37,18 +39,57 @@ pub fn chain_store(alloc: Global) -> Result<MemStore, Fail> {
     Ok(store)
 }
 
-/// Plays the chain over this store and this sink of what was done.
-pub fn play(alloc: Global, store: MemStore, out: MemSink) -> Result<Ran, Fail> {
+// The words of a line.
+fn words_of(alloc: Global, line: &str) -> Result<Vec<Text>, Fail> {
     let mut words = Vec::new(alloc);
-    for word in &PLAY {
+    for word in line.split(' ') {
         words.push(Text::new(alloc, word)?)?;
     }
-    let mut ran = Ran {
+    Ok(words)
+}
+
+// Nothing was run yet, over this store and this sink of what was done.
+fn before(alloc: Global, store: MemStore, out: MemSink) -> Ran {
+    Ran {
         status: Status::Limit,
         store,
         out,
         err: MemSink::new(alloc),
-    };
+    }
+}
+
+/// Plays the chain serially over this store and this sink of what was done.
+pub fn play(alloc: Global, store: MemStore, out: MemSink) -> Result<Ran, Fail> {
+    let words = words_of(alloc, SERIAL_PLAY)?;
+    let mut ran = before(alloc, store, out);
     ran.status = cyber_still(alloc, &words, &mut ran.store, &mut ran.out, &mut ran.err);
+    Ok(ran)
+}
+
+/// Asks for a play on threads where there are none.
+pub fn play_still(alloc: Global) -> Result<Ran, Fail> {
+    let words = words_of(alloc, PLAY)?;
+    let mut ran = before(alloc, chain_store(alloc)?, MemSink::new(alloc));
+    ran.status = cyber_still(alloc, &words, &mut ran.store, &mut ran.out, &mut ran.err);
+    Ok(ran)
+}
+
+/// Plays the chain with threads, or serially where there are threads.
+pub fn play_with_threads<R: Threads + Wait + Sync>(
+    rt: &R,
+    alloc: Global,
+    serial: bool,
+) -> Result<Ran, Fail> {
+    let words = words_of(alloc, if serial { SERIAL_PLAY } else { PLAY })?;
+    let mut ran = before(alloc, chain_store(alloc)?, MemSink::new(alloc));
+    ran.status = cyber(
+        rt,
+        alloc,
+        &words,
+        &mut ran.store,
+        &mut ran.out,
+        &mut ran.err,
+        &OpenGate,
+    );
     Ok(ran)
 }

@@ -62,6 +62,7 @@ impl Names {
             drop: None,
             begin: 0,
             end: u64::MAX,
+            serial: true,
         }
     }
 }

@@ -4,8 +4,10 @@ mod check;
 mod info;
 mod make;
 mod play;
+mod threads;
 
 pub use check::run_check;
 pub use info::run_info;
 pub use make::run_make;
 pub use play::run_play;
+pub use threads::run_play_with_threads;

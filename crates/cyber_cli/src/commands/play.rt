@@ -1,10 +1,12 @@
-// The commands `play` and `pass`.
-ghost use Rattle.std.specs.Prelude.{◌≡◌, ◌≤◌, ◌<◌, ℕ, length, map, IfOk, OnOk, IsErrOf, IsOkUnless};
+// The commands `play` and `pass` on one thread.
+ghost use Rattle.std.specs.Prelude.{◌≡◌, ◌≤◌, ◌<◌, ℕ, length, map, IfOk, OnOk, IsErrOf};
+ghost use Rattle.std.specs.Prelude.{IsOkUnless};
 ghost use Rattle.std.specs.Option.{option_map};
 ghost use Rattle.cy_store.specs.Store.{WriteRose};
 ghost use Rattle.cy_store.specs.Write.{Write, name_of, after_writes};
 ghost use Rattle.cy_writer.specs.Writes.{StopsAt, StopsBefore};
 ghost use Rattle.wake_core.specs.LawfulRun.{Quiet};
+ghost use Rattle.wake_core.specs.Plain.{opening_world};
 ghost use Rattle.wake_core.specs.Rest.{run_shown};
 ghost use Rattle.wake_core.specs.Run.{routes_of};
 ghost use Rattle.wake_core.specs.WorldOf.{plain_of};
@@ -121,17 +123,28 @@ pub(super) fn read_files<S: Store>(
     set_up(alloc, store, &request)
 }
 
+// The world of a replay, in which nothing has happened.
+pub(super) fn opening(alloc: Global, play: &Play, replay: &Replay) -> Result<World, Failure>
+    requires { IsSetUp (play_words_of play.now).request.filter replay.now }
+    ensures opens { IfOk result (λ w. plain_of w
+        ≡ opening_world (routes_of replay.now.wiring.plans) replay.now.counts) }
+    ensures only_memory { IsOkUnless result Failure.Memory }
+{
+    match World::new(alloc, &replay.wiring, replay.counts.as_slice()) {
+        Ok(world) => Ok(world),
+        Err(CoreError::Memory) => Err(Failure::Memory),
+        Err(CoreError::TooMany { .. }) => unreachable!(),
+    }
+}
+
 // The world after a replay was played serially.
 pub(super) fn played_world(alloc: Global, play: &Play, replay: &Replay) -> Result<World, Failure>
     requires { IsSetUp (play_words_of play.now).request.filter replay.now }
-    ensures run { IfOk result (λ w. HasRun replay.now (plain_of w)) }
+    ensures run { IfOk result (λ w. HasRun (play_words_of play.now).serial replay.now
+        (plain_of w)) }
     ensures only_memory { IsOkUnless result Failure.Memory }
 {
-    let mut world = match World::new(alloc, &replay.wiring, replay.counts.as_slice()) {
-        Ok(world) => world,
-        Err(CoreError::Memory) => return Err(Failure::Memory),
-        Err(CoreError::TooMany { .. }) => unreachable!(),
-    };
+    let mut world = opening(alloc, play, replay)?;
     serial(&mut world, &replay.list, &replay.placement);
     played_places_are_there();
     Ok(world)
@@ -162,8 +175,8 @@ fn calls_in(world: &World, plans: &[Plan]) -> u64
 }
 
 // The trace of a replay's run and the line that tells of it.
-fn tell_run(alloc: Global, replay: &Replay, world: &World) -> Result<Told, Failure>
-    requires { HasRun replay.now (plain_of world.now) }
+fn tell_run(alloc: Global, play: &Play, replay: &Replay, world: &World) -> Result<Told, Failure>
+    requires { HasRun (play_words_of play.now).serial replay.now (plain_of world.now) }
     ensures told { IfOk result (IsTold replay.now (plain_of world.now)) }
     ensures only_memory { IsOkUnless result Failure.Memory }
 {
@@ -199,7 +212,7 @@ pub(super) fn write_both<S: Store>(
     world: &World,
 ) -> Result<Bytes, Failure>
     requires set_up { IsSetUp (play_words_of play.now).request.filter replay.now }
-    requires run { HasRun replay.now (plain_of world.now) }
+    requires run { HasRun (play_words_of play.now).serial replay.now (plain_of world.now) }
     ensures done { OnOk result ((S.shows store.new).files
         ≡ option_map (after_writes (writes_by (play_words_of play.now) replay.now
         (plain_of world.now))) (S.shows store.old).files) }
@@ -222,7 +235,7 @@ pub(super) fn write_both<S: Store>(
     if let Err(error) = write_record(alloc, store, play.output, &played, world.tape_list()) {
         return Err(unwritten(File::Output, error));
     }
-    let told = tell_run(alloc, replay, world)?;
+    let told = tell_run(alloc, play, replay, world)?;
     if let Err(error) = write_file(store, play.trace, told.trace.as_slice()) {
         return Err(unwritten(File::Trace, error));
     }
@@ -231,7 +244,7 @@ pub(super) fn write_both<S: Store>(
 }
 
 // What is due where a replay that was set up was not played and written.
-fn due_after<'a>(play: &Play<'a>, failure: Failure) -> Due<'a>
+pub(super) fn due_after<'a>(play: &Play<'a>, failure: Failure) -> Due<'a>
     ensures { IsDueAfterPlay (play_words_of play.now) failure result.status
         (bytes_of_line result.line) }
 {
@@ -244,9 +257,10 @@ fn due_after<'a>(play: &Play<'a>, failure: Failure) -> Due<'a>
     }
 }
 
-/// What is due for a serial `play` with these words, or for `pass`: it sets up a replay, plays it,
-/// and writes the record of all messages and then the trace of all calls. All reading is done
-/// before the first file is made, and the record is written before anything else takes memory.
+/// What is due for a `play` with these words, or for `pass`, where one thread plays all: it sets up
+/// a replay, plays it, and writes the record of all messages and then the trace of all calls. All
+/// reading is done before the first file is made, and the record is written before anything else
+/// takes memory.
 pub fn run_play<'a, S: Store>(alloc: Global, play: &Play<'a>, store: &mut S) -> Due<'a>
     requires { HasReader (play_words_of play.now).request.components }
     ensures { IsDueFor (command.Play (play_words_of play.now)) (S.shows store.old)

@@ -1,0 +1,72 @@
+// Scans of a context beside another pass: one that ends at a croutine, and one in vain.
+ghost use Rattle.std.specs.Prelude.{◌≡◌, [], ◌∷◌, IfOk};
+ghost use Rattle.cy_table.specs.Calls.{number_of};
+ghost use Rattle.cy_table_tests.specs.Passes.{IsFree, IsOfOne};
+
+use crate::doors::resume;
+use crate::holds::{give, take_beside};
+use crate::tables::{one_more, table_of_one, take_in, world_of};
+use cy_comp::State;
+use cy_ctx::Context;
+use cy_msg::{ContextPlan, Items, Text, Token, Tuple};
+use cy_table::{FlagTable, Pass};
+use std::sync::Wait;
+use std::test::Fail;
+
+// The context of component 0.
+fn context_of_one(rt: &HostRuntime) -> Result<Context, Fail>
+    ensures { IfOk result (λ x. x ≡ 0 ∷ []) }
+{
+    let plan = ContextPlan {
+        name: Text::new(rt.alloc(), "default_grp")?,
+        pinned: false,
+        processors: 1,
+        order: Items::new(vec![in rt.alloc(); 0]?),
+    };
+    Ok(Context::new(rt.alloc(), &plan)?)
+}
+
+// What a scan came to: what the component that it took fetched and sent. None where the scan was in
+// vain, or an output of the component waits.
+fn resume_next<R: Wait>(
+    rt: &R,
+    table: &FlagTable,
+    context: &Context,
+    pass: &mut Pass,
+) -> Option<Option<(Tuple, Option<Token>)>>
+    requires free { IsFree table.now pass.old }
+    requires one { IsOfOne table.now }
+    requires order { context.now ≡ 0 ∷ [] }
+    ensures number { number_of pass.new ≡ number_of pass.old }
+    ensures free { IsFree table.now pass.new }
+{
+    let hold = context.next(table, pass)?;
+    match hold.token() {
+        None => Some(resume(rt, table, pass, hold)),
+        Some(_) => {
+            give(table, pass, hold);
+            None
+        }
+    }
+}
+
+#[test]
+fn scans_until_nothing_is_ready(rt: HostRuntime) -> Result<(), Fail> {
+    let context = context_of_one(&rt)?;
+    let (table, mut player) = table_of_one(&rt)?;
+    let mut other = one_more(&table, &mut player)?;
+    assert_eq!(rt;
+        take_beside(&table, &mut player, &mut other),
+        Some((State::Ready, true))
+    );
+    assert_eq!(rt; resume_next(&rt, &table, &context, &mut other), Some(None));
+    assert_eq!(rt; resume_next(&rt, &table, &context, &mut other), None);
+    take_in(&table, &mut player, other);
+    let world = world_of(&rt, table, player)?;
+    assert_eq!(rt; world.routine(0).state(), State::DataWait);
+    assert!(rt; world.spent(0));
+    assert_eq!(rt; world.routine(0).calls().len(), 0);
+    assert_eq!(rt; (world.tape_list().len(), world.arrivals(0).len()), (0, 0));
+    assert_eq!(rt; (world.clock(), world.closing()), (0, false));
+    Ok(())
+}

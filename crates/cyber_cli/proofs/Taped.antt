@@ -1,0 +1,86 @@
+-- Each message of a lawful run comes from a played one, if from any.
+use Rattle.std.proofs.Common.{ℕ, zero, suc, ◌-◌, ◌≡◌, ◌<◌, List, length, take, slice_get, Option, Some, None, refl, sym, ap, subst, ◌∙◌, arith}
+use Rattle.std.specs.Prelude.{not, is_some}
+use Rattle.cy_msg.specs.Tokens.{on_channel}
+use Rattle.cy_msg.specs.declared.token.Token.{Token}
+use Rattle.cy_msg.specs.declared.token.Tuple.{Tuple}
+use Rattle.cy_msg.specs.declared.token.Tuple.TheVariants.{One, Two, Three, Four}
+use Rattle.cy_msg.specs.declared.play_list.PlayList.{PlayList}
+use Rattle.cy_msg.specs.Tuple.{messages_of}
+use Rattle.cy_fuse.specs.Fusion.{fused}
+use Rattle.cy_comp.specs.declared.call.Call.{Call}
+use Rattle.cy_comp.specs.Calls.{tuples_of, outs, output}
+use Rattle.cy_reader.specs.Record.{Contents}
+use Rattle.cy_reader.specs.Play.{Choice, IsPlayList}
+use Rattle.wake_core.specs.LawfulRun.{LawfulRun}
+use Rattle.wake_core.specs.Plain.{Plain}
+use Rattle.wake_core.specs.Run.{played_of, writes_from}
+use Rattle.wake_core.specs.declared.route.Route.{Route}
+use Rattle.wake_core.specs.Sound.{Sound, IsOutput, StandsOn}
+use Rattle.wake_core.proofs.Standing.{tape_stands}
+use Rattle.wake_core.proofs.Writers.{writes_some}
+use Rattle.cy_replay.proofs.Origins.{GoodOut, GoodTuple, outcome-good, IsAmong, list_origins}
+use Rattle.cy_trace.proofs.OutSuits.{on_each, taken_at, Made, outs_count, outs_made, passing}
+
+-- the component that writes a channel
+writer_at : (routes : List Route) (channel c : ℕ) → writes_from 0 routes channel ≡ Some c → (x : Route) × (slice_get routes c ≡ Some x) × (x.out ≡ channel)
+writer_at routes channel c e =
+    let writer = writes_some routes 0 channel c e in
+    let same : c - 0 ≡ c = omega arith in
+    (writer.route, ap (slice_get routes) (sym same) ∙ writer.at, writer.writes)
+
+-- a message that no component wrote is among those that were played
+played_at : (w : Plain) (i : ℕ) (t : Token) → slice_get w.tape i ≡ Some t → writes_from 0 w.routes t.channel ≡ None → (k : ℕ) × (slice_get (played_of w.routes w.tape) k ≡ Some t)
+played_at w i t on e = passing (λ (u : Token). not (is_some (writes_from 0 w.routes u.channel))) w.tape i t on (ap (λ (o : Option ℕ). not (is_some o)) e)
+
+module _ (Q : Option ℕ → Type 0) (none : Q None) (w : Plain) (s : Sound w) (played : (n : ℕ) (t : Token) → slice_get (played_of w.routes w.tape) n ≡ Some t → Q t.origin) where
+  abbrev Good : Token → Type 0
+  Good t = Q t.origin
+
+  tuple_good : (u : Tuple) → ((j : ℕ) (m : Token) → slice_get (messages_of u) j ≡ Some m → Good m) → GoodTuple Q none u
+  tuple_good (One a) all = all 0 a refl
+  tuple_good (Two a b) all = (all 0 a refl, all 1 b refl)
+  tuple_good (Three a b c) all = (all 0 a refl, all 1 b refl, all 2 c refl)
+  tuple_good (Four a b c d) all = (all 0 a refl, all 1 b refl, all 2 c refl, all 3 d refl)
+
+  -- an output comes from where the messages of its tuple come from, if from any
+  call_good : (c n : ℕ) (x : Route) (call : Call) → slice_get w.routes c ≡ Some x → slice_get (w.calls c) n ≡ Some call
+      → ((k : ℕ) (tuple : Tuple) → k < call.tail → slice_get (fused (w.arrivals c) (length x.readers)) k ≡ Some tuple → (j : ℕ) (m : Token) → slice_get (messages_of tuple) j ≡ Some m → Good m) → GoodOut Q none call.out
+  call_good c n x call at is all =
+      let own = taken_at call.tail (fused (w.arrivals c) (length x.readers)) (call.position - 1) call.tuple (s.consistent.causal.own c x n call at is) in
+      subst (GoodOut Q none) (sym ((s.consistent.called.lawful c x at).outputs n call is))
+      (outcome-good Q none x.kind (tuples_of (take n (w.calls c))) call.tuple (tuple_good call.tuple (all (call.position - 1) call.tuple own.0 own.1)))
+
+  token_good : (i : ℕ) (t : Token) → slice_get w.tape i ≡ Some t → ((j : ℕ) (m : Token) → j < i → slice_get w.tape j ≡ Some m → Good m) → Good t
+  token_good i t on before = by (writes_from 0 w.routes t.channel) refl
+    where
+      front : (m : Token) → StandsOn (take i w.tape) m → Good m
+      front m stands = on_each Good (take i w.tape) (λ n u e. let h = taken_at i w.tape n u e in before n u h.0 h.1) m.channel (m.seq - 1) m stands
+
+      sent : (c : ℕ) (x : Route) → slice_get w.routes c ≡ Some x → Made x.out 0 (w.calls c) t → Good t
+      sent c x at h =
+          let is : IsOutput x (w.calls c) h.place h.call t = record { made = h.made; out = h.out; some = h.some; token = h.token ∙ ap (λ n. output x.out n h.out) (outs_count x.out (take h.place (w.calls c))) } in
+          let good = call_good c h.place x h.call at h.made (λ k tuple less fused j m there. front m (s.consistent.causal.before c x h.place h.call t i at is on k tuple less fused j m there)) in
+          let some : Q h.out.origin = subst (GoodOut Q none) h.some good in
+          subst Good (sym h.token) some
+
+      by : (o : Option ℕ) → writes_from 0 w.routes t.channel ≡ o → Good t
+      by None e = let h = played_at w i t on e in played h.0 t h.1
+      by (Some c) e =
+          let x = writer_at w.routes t.channel c e in
+          let stands = tape_stands w.tape s.consistent.delivered.numbered i t on in
+          let there : slice_get (on_channel x.0.out w.tape) (t.seq - 1) ≡ Some t = ap (λ n. slice_get (on_channel n w.tape) (t.seq - 1)) x.2 ∙ stands in
+          let made = taken_at (length (on_channel x.0.out w.tape)) (outs x.0.out (w.calls c)) (t.seq - 1) t (ap (λ l. slice_get l (t.seq - 1)) (sym (s.consistent.delivered.history c x.0 x.1)) ∙ there) in
+          sent c x.0 x.1 (outs_made x.0.out (w.calls c) (t.seq - 1) t made.1)
+
+  tape_good : (k i : ℕ) (t : Token) → i < k → slice_get w.tape i ≡ Some t → Good t
+  tape_good zero i t less on = absurd (omega (arith, less))
+  tape_good (suc k) i t less on = token_good i t on (λ j m sooner at. tape_good k j m (omega (arith, sooner, less)) at)
+
+pub lawful_origins : (whole : Contents) (choice : Choice) (list : PlayList) (routes : List Route) (w : Plain) → IsPlayList whole choice list → LawfulRun list.tokens routes w
+    → (n o : ℕ) (t : Token) → slice_get w.tape n ≡ Some t → t.origin ≡ Some o → o < length list.places
+lawful_origins whole choice list routes w is lawful n o t at e =
+    let Q : Option ℕ → Type 0 = IsAmong (length list.places) in
+    let played : (k : ℕ) (u : Token) → slice_get (played_of w.routes w.tape) k ≡ Some u → Q u.origin =
+    λ k u on. list_origins whole choice list is k u (ap (λ (ts : List Token). slice_get ts k) (sym lawful.exact) ∙ on) in
+    tape_good Q (λ o e. absurd cc) w lawful.sound played (suc n) n t (omega arith) at o e
