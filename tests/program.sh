@@ -380,6 +380,39 @@ plays_as_described() { # the words, but those for the files that are written
   holds out.trace trace
 }
 
+# Plays the drive on threads: any lawful run may come of it, so the files are looked at by `info` and by the numbers of the line.
+plays_on_threads() { # how often
+  begin "plays on threads, $1 times"
+  local here=$PWD time
+  for ((time = 0; time < $1; time++)); do
+    rm -f out.rec out.trace
+    (cd "$top" && exec timeout 60 "$program" play --dag examples/drive/drive.dag --record examples/drive/drive.rec \
+      --sched examples/drive/drive.sched --out "$here/out.rec" --trace "$here/out.trace") >out 2>err || break
+    grep -Eqx 'done: played 3205, shadowed 0, calls [0-9]+, written [0-9]+' out || break
+    "$program" info out.rec >told && grep -q ' complete yes ' told && ! grep -q '^differs' told || break
+    grep -q "messages $(sed 's/.* written //' out)$" told || break
+    [ "$(grep -c '^call ' out.trace)" = "$(sed 's/.* calls \([0-9]*\),.*/\1/' out)" ] || break
+  done
+  [ "$time" -eq "$1" ]
+  count $? "$name: the run $time was not as expected: $(head -c 200 out err)"
+}
+
+# One message leaves no choice: threads write what one thread writes.
+plays_one_message_alike() {
+  begin 'plays one message on threads as on one'
+  mkdir files
+  cp "$top/examples/pass/one.rec" files/in.rec
+  printf 'module_config { components { class_name: "PassComponent" config { name: "p" config_file_path: "p.conf" %s } } }\n' \
+    'readers { channel: "/in" }' >files/d.dag
+  echo 'out: "/out"' >files/p.conf
+  run play --dag d.dag --record in.rec --out a.rec --trace a.trace
+  cp out line
+  run play --serial --dag d.dag --record in.rec --out b.rec --trace b.trace
+  ends 0 "$(cat line)" ''
+  holds files/a.rec files/b.rec
+  holds files/a.trace files/b.trace
+}
+
 plays_at_random() { # how many records
   begin "plays $1 random records through random components"
   python3 "$top/tests/replays.py" "$program" "$1" 1 >report
@@ -511,7 +544,6 @@ refuses_the_words play --serial --dag d --record r --out o --trace o
 refuses_the_words play --serial --dag d --record r --out r --trace t
 refuses_the_words play --serial --dag d --record r --out o --trace d
 refuses_the_words play --serial --dag d --record r --out s --trace t --sched s
-refuses_a_play
 refuses_a_play --serial=x
 refuses_a_play --serial --serial
 refuses_a_play --serial word
@@ -560,6 +592,8 @@ plays_as_described "${drive[@]}" --channels /wheel/speed,/map/limit --begin 1700
 plays_as_described "${drive[@]}" --drop /map/limit --end 1700000005000000000
 python3 "$top/bench/made.py" 3000 "$work/made"
 plays_as_described --dag "$work/made.dag" --record "$work/made.record"
+plays_on_threads 25
+plays_one_message_alike
 plays_at_random 100
 plays_one_component 'a record' two.rec '' 'done: played 2, shadowed 0, calls 2, written 4' \
   'call 1/1 1 1@100=7
