@@ -22,3 +22,8 @@ pub mod PrintedText
 pub mod Orders
 pub mod NumberFits
 pub mod TokenRows
+pub mod PieceRuns
+pub mod Numerals
+pub mod EscapePieces
+pub mod StringPieces
+pub mod CutText

@@ -16,3 +16,7 @@ pub mod Grammar
 pub mod Laws
 pub mod Printable
 pub mod Spans
+pub mod Pieces
+pub mod Quotations
+pub mod Cuts
+pub mod PieceLaws

@@ -2,6 +2,7 @@
 ghost use Rattle.cy_text.specs.Laws.{FieldsAreFew, FormIsRead, PrintedIsRead, ReadIsForm};
 ghost use Rattle.cy_text.specs.Laws.{RefusedAtFirstFault, RefusedIsNoForm, SpansAreInOrder};
 ghost use Rattle.cy_text.specs.Laws.{TokensAreThere};
+ghost use Rattle.cy_text.specs.PieceLaws.{CutIsRead, ReadIsCut};
 
 /// Each text of the form is read to the fields that it says.
 pub fn form_is_read()
@@ -36,4 +37,11 @@ pub fn spans_are_in_order()
 /// them so takes all texts that [`parse`](crate::parse) does.
 pub fn fields_are_few()
     ensures { FieldsAreFew }
+{}
+
+/// A text is cut in one way: into the longest pieces that are tokens, up to its end or to the first
+/// place where a token is faulty. That cut is what is read.
+pub fn tokens_are_pieces()
+    ensures cut { ReadIsCut }
+    ensures one { CutIsRead }
 {}

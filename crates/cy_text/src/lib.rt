@@ -1,8 +1,9 @@
 //! The text form of Protocol Buffers: a text as a tree of fields, and a tree as a text.
 //!
 //! `specs/Grammar` says which texts are of the form and which fields they say, `specs/Form` how
-//! that is read token by token, `specs/Tokens` what the tokens are, `specs/Printed` what is
-//! printed, and `specs/Laws` what holds of all texts.
+//! that is read token by token, `specs/Cuts` what the tokens of a text are (over `specs/Pieces` and
+//! `specs/Quotations`), `specs/Tokens` how they are read, `specs/Printed` what is printed, and
+//! `specs/Laws` and `specs/PieceLaws` what holds of all texts.
 #![tactic(auto)]
 
 mod building;
@@ -25,7 +26,7 @@ mod value;
 pub use error::{BadKind, TextError};
 pub use laws::{
     fields_are_few, form_is_read, printed_is_read, read_is_form, refused_at_first_fault,
-    spans_are_in_order,
+    spans_are_in_order, tokens_are_pieces,
 };
 pub use printing::print;
 pub use text::parse;
