@@ -6,10 +6,10 @@ use Rattle.std.proofs.lemmas.Bool.Decides.{nat_tests}
 use Rattle.std.proofs.lemmas.Option.{none-some}
 use Rattle.std.proofs.Math.Seq.{drop-append_seam, take-append_seam}
 use Rattle.std.specs.List.{prefix_len}
-use Rattle.cy_text.specs.Letters.{is_between, is_blank, is_letter, is_word, starts}
+use Rattle.cy_text.specs.Letters.{is_blank, is_letter, is_word, starts}
 use Rattle.cy_text.specs.Numbers.{number_at}
 use Rattle.cy_text.specs.Strings.{string_at}
-use Rattle.cy_text.specs.Pieces.{AreAll, IsWord, letters, IsDecimal, nought, counted, IsWhole, decimal, octal, hexadecimal, IsFloat, pointed, fractional, pointless, IsNumber, whole, float, IsNumberBefore}
+use Rattle.cy_text.specs.Pieces.{AreAll, IsWord, letters, IsNumberBefore}
 use Rattle.cy_text.specs.Quotations.{IsBody, is_quote, IsStringBefore, quoted}
 use Rattle.cy_text.specs.Cuts.{IsTokenBefore, mark, word, number, string, IsLineEnd, no_more, newline, NoNumber, begins_none, IsFaultAt, no_token, no_number, no_quote, no_escape, IsCut, ended, blank, comment, token, faulty}
 use Rattle.cy_text.specs.Tokens.{Tokens, Next, End, Faulty, lexeme, mark_of, word_at, number_token, begins_number, begins_token, token_at, tokens_from, tokens_of}
@@ -22,8 +22,8 @@ use Rattle.cy_text.specs.declared.fault.Fault.{Fault}
 use Rattle.cy_text.specs.declared.fault.Fault.TheVariants.{Bad}
 use Rattle.cy_text.proofs.TokenSteps.{passed_over, with_token, token_prefix, blank_prefix}
 use Rattle.cy_text.proofs.Lexed.{lexes_token}
-use Rattle.cy_text.proofs.PieceRuns.{either_way, run_before, run_of}
-use Rattle.cy_text.proofs.Numerals.{number_before, number_reads, Reads}
+use Rattle.cy_text.proofs.PieceRuns.{some_start, either_way, run_before, run_of}
+use Rattle.cy_text.proofs.Numerals.{form_begins, number_before, number_reads, Reads}
 use Rattle.cy_text.proofs.StringPieces.{string_before, open_string, wrong_escape, Ends, closed, open_line, wrong, whole_body}
 
 -- What a byte begins.
@@ -70,32 +70,6 @@ record QuoteByte (b : ℕ) : Type 0 where
 quote_begins : (b : ℕ) → is_quote b ≡ true → QuoteByte b
 quote_begins b h =
     record { begins = grind (arith, nat_tests, common_steps); no_letter = grind (arith, nat_tests, common_steps); no_number_byte = grind (arith, nat_tests, common_steps) }
-
--- What numbers begin with.
-high_begins : (d : ℕ) → is_between 49 57 d ≡ true → begins_number d ≡ true
-high_begins d h = grind (arith, nat_tests, common_steps)
-
-decimal_begins : {bytes : List ℕ} (rest : List ℕ) → IsDecimal bytes → starts begins_number (bytes ++ rest) ≡ true
-decimal_begins rest nought = refl
-decimal_begins rest (counted {d = d} high all) = high_begins d high
-
-starts_alone : (test : ℕ → Bool) (bytes : List ℕ) → starts test (bytes ++ []) ≡ true → starts test bytes ≡ true
-starts_alone test [] h = h
-starts_alone test (b ∷ bytes) h = h
-
-whole_begins : {bytes : List ℕ} {size : ℕ} → IsWhole bytes size → starts begins_number bytes ≡ true
-whole_begins (decimal {digits = ds} d) = starts_alone begins_number ds (decimal_begins [] d)
-whole_begins (octal run) = refl
-whole_begins (hexadecimal is run) = refl
-
-float_begins : {bytes : List ℕ} → IsFloat bytes → starts begins_number bytes ≡ true
-float_begins (pointed {tail = t} d f all tail) = decimal_begins (46 ∷ f ++ t) d
-float_begins (fractional run tail) = refl
-float_begins (pointless {tail = t} d tail some) = decimal_begins t d
-
-form_begins : {bytes : List ℕ} {n : Number} → IsNumber bytes n → starts begins_number bytes ≡ true
-form_begins (whole w) = whole_begins w
-form_begins (float f) = float_begins f
 
 -- A token before a rest is read.
 module _ (at : ℕ) where
@@ -271,17 +245,13 @@ fault_cut at (b ∷ bytes) fault r = token_prefix at b bytes r.begins ∙ rw (r.
 word_some : {piece : List ℕ} → IsWord piece → 0 < length piece
 word_some (letters letter all) = omega arith
 
-start_some : (test : ℕ → Bool) (bytes : List ℕ) → starts test bytes ≡ true → 0 < length bytes
-start_some test [] h = absurd (false≢true h)
-start_some test (b ∷ bytes) h = omega arith
-
 string_some : {rest piece says : List ℕ} → IsStringBefore rest piece says → 0 < length piece
 string_some (quoted is form) = omega arith
 
 token_some : {rest piece : List ℕ} {t : Token} → IsTokenBefore rest piece t → 0 < length piece
 token_some (mark e) = omega arith
 token_some (word w stops) = word_some w
-token_some (number {piece = piece} before) = start_some begins_number piece (form_begins before.form)
+token_some (number {piece = piece} before) = some_start begins_number piece (form_begins before.form)
 token_some (string s) = string_some s
 
 ended_is : (at : ℕ) → tokens_from at 0 [] ≡ End at

@@ -13,7 +13,7 @@ use Rattle.cy_text.specs.Pieces.{AreAll, IsRun}
 use Rattle.cy_text.specs.Quotations.{IsEscape, simple, octal, hexadecimal, short, long, IsInRange, IsEscapeBefore}
 use Rattle.cy_text.specs.declared.escape.Escape.{Escape}
 use Rattle.cy_text.specs.declared.escape.Escape.TheVariants.{Byte, Char}
-use Rattle.cy_text.proofs.PieceRuns.{by_cases, either_way, first_byte, starts_front}
+use Rattle.cy_text.proofs.PieceRuns.{all_and, by_cases, either_way, first_byte, starts_front}
 
 -- At most so many bytes of a kind.
 abbrev Stops : (ℕ → Bool) → ℕ → List ℕ → List ℕ → Type 0
@@ -172,10 +172,6 @@ Longest rest piece = (more others : List ℕ) (other : Escape) → rest ≡ more
 
 not_nothing : (b : ℕ) (bytes : List ℕ) → b ∷ bytes ≡ [] → ⊥
 not_nothing b bytes e = cc
-
-all_and : (test : ℕ → Bool) (digits : List ℕ) (b : ℕ) → AreAll test digits → test b ≡ true → AreAll test (digits ++ b ∷ [])
-all_and test [] b all h = (h, tt)
-all_and test (d ∷ digits) b all h = (all.0, all_and test digits b all.1 h)
 
 fewer_than : (n k : ℕ) → n ≤ k → (n == k) ≡ false → n < k
 fewer_than n k few other = grind (arith, nat_tests, few, other)

@@ -1,5 +1,5 @@
 -- The tokens of texts that are printed, one behind the other.
-use Rattle.std.proofs.Common.{ℕ, suc, ◌≡◌, ◌+◌, ◌-◌, ◌≤◌, List, [], ◌∷◌, ◌++◌, length, length-append, take, Bool, true, false, cond, Some, Ok, refl, ap, sym, ◌∙◌, arith, append_assoc}
+use Rattle.std.proofs.Common.{ℕ, ◌≡◌, ◌+◌, ◌-◌, ◌≤◌, List, [], ◌∷◌, ◌++◌, length, length-append, take, true, false, Some, Ok, refl, ap, sym, ◌∙◌, arith, append_assoc}
 use Rattle.std.proofs.lemmas.Grind.{common_steps}
 use Rattle.std.proofs.lemmas.Bool.{false≢true}
 use Rattle.std.proofs.lemmas.Bool.Decides.{nat_tests}
@@ -10,12 +10,13 @@ use Rattle.cy_text.specs.Numbers.{number_at}
 use Rattle.cy_text.specs.Strings.{string_at}
 use Rattle.cy_text.specs.Tokens.{Tokens, Next, begins_token, lexeme, token_at, word_at, mark_of, begins_number, number_token, tokens_from}
 use Rattle.cy_text.specs.Grammar.{on, followed}
-use Rattle.cy_text.specs.Printable.{IsName}
+use Rattle.cy_text.specs.Pieces.{IsWord, letters}
 use Rattle.cy_text.specs.declared.number.Number.{Number}
 use Rattle.cy_text.specs.declared.token.Bracket.TheVariants.{Brace}
 use Rattle.cy_text.specs.declared.token.Token.{Token}
 use Rattle.cy_text.specs.declared.token.Token.TheVariants as token
 use Rattle.cy_text.specs.declared.token.Lexeme.{Lexeme}
+use Rattle.cy_text.proofs.PieceRuns.{run_before}
 use Rattle.cy_text.proofs.TokenSteps.{passed_over, with_token, token_prefix, blank_prefix}
 
 -- The tokens of a text that stands at a place, before a rest.
@@ -52,19 +53,6 @@ lexes_token at b bs rest t begins found =
 pub lexes_blank : (at b : ℕ) (rest : List ℕ) → is_blank b ≡ true → Lexes at (b ∷ []) rest []
 lexes_blank at b rest h = blank_prefix at b rest h
 
--- A run that a byte ends.
-pub passes : (b : Bool) (n m : ℕ) → cond b (1 + n) 0 ≡ suc m → (b ≡ true) × (n ≡ m)
-passes true n m h = (refl, omega arith)
-passes false n m h = absurd (omega arith)
-
-pub run_ends : (test : ℕ → Bool) (xs rest : List ℕ) → prefix_len test xs ≡ length xs → starts test rest ≡ false → prefix_len test (xs ++ rest) ≡ length xs
-run_ends test [] [] h e = refl
-run_ends test [] (b ∷ bs) h e = rw e refl
-run_ends test (x ∷ xs) rest h e =
-    let p = passes (test x) (prefix_len test xs) (length xs) h in
-    let n : prefix_len test (xs ++ rest) ≡ length xs = run_ends test xs rest p.1 e in
-    rw (p.0, n) (omega arith)
-
 -- A word.
 letter_begins : (b : ℕ) → is_letter b ≡ true → begins_token b ≡ true
 letter_begins b h = grind (arith, nat_tests, common_steps)
@@ -76,13 +64,11 @@ word_at_prefix at b bs rest n =
     let word : take (length (b ∷ bs)) (b ∷ bs ++ rest) ≡ b ∷ bs = take-append_seam (b ∷ bs) rest in
     rw (n, len, word) refl
 
-pub lexes_word : (at : ℕ) (text rest : List ℕ) → IsName text → starts is_word rest ≡ false → Lexes at text rest (on (record { start = at; end = at + length text }) (token.Word text) ∷ [])
+pub lexes_word : (at : ℕ) (text rest : List ℕ) → IsWord text → starts is_word rest ≡ false → Lexes at text rest (on (record { start = at; end = at + length text }) (token.Word text) ∷ [])
 unfolding token_at
-lexes_word at [] rest name h = absurd (false≢true name.letter)
-lexes_word at (b ∷ bs) rest name h =
-    let p = passes (is_word b) (prefix_len is_word bs) (length bs) name.all in
-    let n : prefix_len is_word (bs ++ rest) ≡ length bs = run_ends is_word bs rest p.1 h in
-    lexes_token at b bs rest (token.Word (b ∷ bs)) (letter_begins b name.letter) (rw name.letter (word_at_prefix at b bs rest n))
+lexes_word at text rest (letters {b = b} {bytes = bs} letter all) h =
+    let n : prefix_len is_word (bs ++ rest) ≡ length bs = run_before is_word bs rest all h in
+    lexes_token at b bs rest (token.Word (b ∷ bs)) (letter_begins b letter) (rw letter (word_at_prefix at b bs rest n))
 
 -- A mark.
 pub lexes_colon : (at : ℕ) (rest : List ℕ) → Lexes at (58 ∷ []) rest (on (record { start = at; end = at + 1 }) token.Colon ∷ [])

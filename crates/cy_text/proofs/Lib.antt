@@ -15,12 +15,10 @@ pub mod FormOnly
 pub mod Few
 pub mod FirstFaults
 pub mod Lexed
-pub mod NumberText
 pub mod WholeText
 pub mod QuotedText
 pub mod PrintedText
 pub mod Orders
-pub mod NumberFits
 pub mod TokenRows
 pub mod PieceRuns
 pub mod Numerals

@@ -187,7 +187,7 @@ octal_is_word b h = grind (arith, nat_tests, common_steps)
 hex_is_word : (b : ℕ) → is_hex b ≡ true → is_word b ≡ true
 hex_is_word b h = grind (arith, nat_tests, common_steps)
 
-whole_number : {piece : List ℕ} {size : ℕ} (rest : List ℕ) → IsWhole piece size → starts is_word rest ≡ false → (IsDecimal piece → starts (either 46 46) rest ≡ false)
+pub whole_number : {piece : List ℕ} {size : ℕ} (rest : List ℕ) → IsWhole piece size → starts is_word rest ≡ false → (IsDecimal piece → starts (either 46 46) rest ≡ false)
     → number_at (piece ++ rest) ≡ kept (Whole size) (length piece)
 whole_number rest (decimal {digits = ds} d) h point =
     begins_decimal rest d (starts_less goes_on is_word goes_on_word rest h) ∙ decimal_whole ds rest (point d) (tail_before rest bare h) ∙ kept_ended rest (Whole (value_from 10 0 ds)) (length ds) h
@@ -206,7 +206,7 @@ unfolding number_at
 fraction_begins [] more some all = absurd (omega (arith, some))
 fraction_begins (d ∷ fraction) more some all = rw (all.0) refl
 
-float_number : {piece : List ℕ} (rest : List ℕ) → IsFloat piece → starts is_word rest ≡ false → number_at (piece ++ rest) ≡ Some (Literal, length piece)
+pub float_number : {piece : List ℕ} (rest : List ℕ) → IsFloat piece → starts is_word rest ≡ false → number_at (piece ++ rest) ≡ Some (Literal, length piece)
 float_number rest (pointed {whole = w} {tail = t} d f all tail) h =
     ap number_at (point_first w f t rest) ∙ begins_decimal (46 ∷ (f ++ (t ++ rest))) d refl ∙ decimal_point w (f ++ (t ++ rest))
     ∙ pointed_before w f t rest all (tail_stops rest tail h) (tail_before rest tail h) ∙ kept_ended rest Literal (length (w ++ 46 ∷ (f ++ t))) h
@@ -222,6 +222,32 @@ float_number rest (pointless {whole = w} {tail = t} d tail some) h =
 form_number : {piece : List ℕ} {number : Number} (rest : List ℕ) → IsNumber piece number → starts is_word rest ≡ false → NoPoint piece rest number → number_at (piece ++ rest) ≡ kept number (length piece)
 form_number rest (whole w) h point = whole_number rest w h point
 form_number rest (float f) h point = float_number rest f h
+
+-- What numbers begin with.
+digit_begins : (d : ℕ) → is_between 49 57 d ≡ true → begins_number d ≡ true
+digit_begins d h = grind (arith, nat_tests, common_steps)
+
+decimal_begins : {bytes : List ℕ} (rest : List ℕ) → IsDecimal bytes → starts begins_number (bytes ++ rest) ≡ true
+decimal_begins rest nought = refl
+decimal_begins rest (counted {d = d} high all) = digit_begins d high
+
+starts_alone : (test : ℕ → Bool) (bytes : List ℕ) → starts test (bytes ++ []) ≡ true → starts test bytes ≡ true
+starts_alone test [] h = h
+starts_alone test (b ∷ bytes) h = h
+
+pub whole_begins : {bytes : List ℕ} {size : ℕ} → IsWhole bytes size → starts begins_number bytes ≡ true
+whole_begins (decimal {digits = ds} d) = starts_alone begins_number ds (decimal_begins [] d)
+whole_begins (octal run) = refl
+whole_begins (hexadecimal is run) = refl
+
+pub float_begins : {bytes : List ℕ} → IsFloat bytes → starts begins_number bytes ≡ true
+float_begins (pointed {tail = t} d f all tail) = decimal_begins (46 ∷ f ++ t) d
+float_begins (fractional run tail) = refl
+float_begins (pointless {tail = t} d tail some) = decimal_begins t d
+
+pub form_begins : {bytes : List ℕ} {n : Number} → IsNumber bytes n → starts begins_number bytes ≡ true
+form_begins (whole w) = whole_begins w
+form_begins (float f) = float_begins f
 
 -- A number before a rest is read.
 point_is : (b : ℕ) → either 46 46 b ≡ true → b ≡ 46
@@ -239,7 +265,7 @@ no_point {piece = p} rest (Whole size) n = λ d. either_way (starts (either 46 4
     absurd (not_nothing 46 [] (n.longest (46 ∷ []) f.more Literal same (float (pointed {whole = p} {tail = []} d [] tt bare)))))
     (λ no. no)
 
-kept_fits : (number : Number) (len : ℕ) → FitsIn64 number → kept number len ≡ Some (number, len)
+pub kept_fits : (number : Number) (len : ℕ) → FitsIn64 number → kept number len ≡ Some (number, len)
 kept_fits (Whole size) len h = rw (lt-ltb size (2 ^ 64) h) refl
 kept_fits Literal len h = refl
 

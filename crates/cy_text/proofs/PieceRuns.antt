@@ -23,6 +23,10 @@ run_before test [] [] all stops = refl
 run_before test [] (b ∷ rest) all stops = rw stops refl
 run_before test (x ∷ xs) rest all stops = rw (all.0, run_before test xs rest all.1 stops) (omega arith)
 
+pub all_and : (test : ℕ → Bool) (digits : List ℕ) (b : ℕ) → AreAll test digits → test b ≡ true → AreAll test (digits ++ b ∷ [])
+all_and test [] b all h = (h, tt)
+all_and test (d ∷ digits) b all h = (all.0, all_and test digits b all.1 h)
+
 -- The run in front.
 pub record RunOf (test : ℕ → Bool) (bytes : List ℕ) : Type 0 where
   pub front : List ℕ
@@ -45,6 +49,10 @@ front_some test bytes (x ∷ xs) rest same h stops = omega arith
 
 pub run_some : (test : ℕ → Bool) (bytes : List ℕ) (r : RunOf test bytes) → starts test bytes ≡ true → IsRun test r.front
 run_some test bytes r h = record { some = front_some test bytes r.front r.rest r.same h r.stops; all = r.all }
+
+pub some_start : (test : ℕ → Bool) (bytes : List ℕ) → starts test bytes ≡ true → 0 < length bytes
+some_start test [] h = absurd (false≢true h)
+some_start test (b ∷ bytes) h = omega arith
 
 -- The byte in front.
 pub record FirstOf (test : ℕ → Bool) (bytes : List ℕ) : Type 0 where

@@ -6,8 +6,9 @@ use Rattle.cy_msg.specs.Quoted.{quoted}
 use Rattle.cy_text.specs.Letters.{is_blank, is_word, starts}
 use Rattle.cy_text.specs.Fields.{Fields, Held, Nothing, And, Whole, Literal, Word, Quote, Message}
 use Rattle.cy_text.specs.Printed.{sign_text, fields_text, held_text, printed}
-use Rattle.cy_text.specs.Printable.{IsName, IsUnsigned, IsLiteral, IsPrintable, IsPrintableHeld, without_spans, held_without_spans, SameButSpans}
-use Rattle.cy_text.specs.Tokens.{begins_number, tokens_from, tokens_of}
+use Rattle.cy_text.specs.Pieces.{IsFloat, IsWord}
+use Rattle.cy_text.specs.Printable.{IsLiteral, IsPrintable, IsPrintableHeld, without_spans, held_without_spans, SameButSpans}
+use Rattle.cy_text.specs.Tokens.{tokens_from, tokens_of}
 use Rattle.cy_text.specs.Grammar.{on, followed, depth_of, depth_held, IsLabel, plain, with_colon, one, whole, literal, negative_literal, word, IsFields, none, field, single, IsValue, unsigned, signed, strings, message, IsTextOf}
 use Rattle.cy_text.specs.Places.{fields_of_text}
 use Rattle.cy_text.specs.declared.number.Number.TheVariants as number
@@ -17,7 +18,7 @@ use Rattle.cy_text.specs.declared.token.Token.TheVariants as token
 use Rattle.cy_text.specs.declared.token.Lexeme.{Lexeme}
 use Rattle.cy_text.specs.declared.tree.Span.{Span}
 use Rattle.cy_text.proofs.Lexed.{Lexes, lexes_nothing, lexes_on, lexes_blank, lexes_word, lexes_colon, lexes_minus, lexes_open, lexes_close, lexes_number, lexes_quote}
-use Rattle.cy_text.proofs.NumberText.{number_before, some_start}
+use Rattle.cy_text.proofs.Numerals.{float_begins, float_number}
 use Rattle.cy_text.proofs.WholeText.{whole_line}
 use Rattle.cy_text.proofs.QuotedText.{quoted_read}
 use Rattle.cy_text.proofs.FormReads.{form_read}
@@ -100,14 +101,14 @@ two_tokens at text kind held lexes form = record {
 whole_lexes : (at size : ℕ) (rest : List ℕ) → size < 2 ^ 64 → Lexes at (decimal size) (10 ∷ rest) (on (to at (decimal size)) (token.Whole size) ∷ [])
 whole_lexes at size rest h = let p = whole_line size rest h in lexes_number at (decimal size) (10 ∷ rest) (number.Whole size) p.0 p.1
 
-literal_lexes : (at : ℕ) (text rest : List ℕ) → IsUnsigned text → Lexes at text (10 ∷ rest) (on (to at text) (token.Literal text) ∷ [])
-literal_lexes at text rest h = lexes_number at text (10 ∷ rest) number.Literal h.begins (number_before rest text (some_start begins_number text h.begins) ∙ h.all)
+literal_lexes : (at : ℕ) (text rest : List ℕ) → IsFloat text → Lexes at text (10 ∷ rest) (on (to at text) (token.Literal text) ∷ [])
+literal_lexes at text rest h = lexes_number at text (10 ∷ rest) number.Literal (float_begins h) (float_number (10 ∷ rest) h refl)
 
 whole_value : (at : ℕ) (negative : Bool) (size : ℕ) → size < 2 ^ 64 → ValueRead at (sign_text negative ++ decimal size) (Whole negative size)
 whole_value at false size h = one_token at (decimal size) (token.Whole size) (Whole false size) (λ rest. whole_lexes at size rest h) (unsigned _ whole)
 whole_value at true size h = two_tokens at (decimal size) (token.Whole size) (Whole true size) (λ rest. whole_lexes (at + 1) size rest h) (λ m. signed m _ whole)
 
-word_value : (at : ℕ) (negative : Bool) (text : List ℕ) → IsName text → ValueRead at (sign_text negative ++ text) (Word negative text)
+word_value : (at : ℕ) (negative : Bool) (text : List ℕ) → IsWord text → ValueRead at (sign_text negative ++ text) (Word negative text)
 word_value at false text h = one_token at text (token.Word text) (Word false text) (λ rest. lexes_word at text (10 ∷ rest) h refl) (unsigned _ word)
 word_value at true text h = two_tokens at text (token.Word text) (Word true text) (λ rest. lexes_word (at + 1) text (10 ∷ rest) h refl) (λ m. signed m _ word)
 

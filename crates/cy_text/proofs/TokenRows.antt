@@ -1,5 +1,5 @@
 -- The tokens of a text stand in their order.
-use Rattle.std.proofs.Common.{ℕ, zero, suc, ◌≡◌, ◌+◌, ◌-◌, ◌<◌, ◌≤◌, ◌==◌, ◌||◌, not, List, [], ◌∷◌, ◌++◌, length, drop, drop-drop, Bool, true, false, cond, Option, Some, None, Result, Ok, Err, refl, ap, sym, ◌∙◌, subst, arith}
+use Rattle.std.proofs.Common.{ℕ, zero, suc, ◌≡◌, ◌+◌, ◌-◌, ◌<◌, ◌≤◌, ◌==◌, ◌||◌, not, List, [], ◌∷◌, ◌++◌, length, length-append, drop, drop-drop, Bool, true, false, cond, Option, Some, None, Result, Ok, Err, refl, ap, sym, ◌∙◌, subst, arith}
 use Rattle.std.specs.List.{prefix_len, AllByRecursion}
 use Rattle.std.proofs.lemmas.List.Sums.{prefix_len-le-length}
 use Rattle.cy_text.specs.Fields.{Fields}
@@ -14,7 +14,8 @@ use Rattle.cy_text.specs.declared.token.Token.{Token}
 use Rattle.cy_text.specs.declared.token.Token.TheVariants as token
 use Rattle.cy_text.specs.declared.token.Lexeme.{Lexeme}
 use Rattle.cy_text.specs.declared.fault.Fault.{Fault}
-use Rattle.cy_text.proofs.NumberFits.{Fits, number_fits}
+use Rattle.cy_text.proofs.PieceRuns.{by_cases, some_start}
+use Rattle.cy_text.proofs.Numerals.{Reads, form_begins, number_reads}
 use Rattle.cy_text.proofs.TokenSteps.{with_token}
 use Rattle.cy_text.proofs.FormOnly.{read_form}
 use Rattle.cy_text.proofs.Orders.{InRow, lower, fields_order}
@@ -64,9 +65,12 @@ word_fits : (at b : ℕ) (bytes : List ℕ) → TokenFits at (b ∷ bytes) (word
 unfolding word_at
 word_fits at b bytes = record { start = refl; some = omega arith; within = omega (arith, prefix_len-le-length is_word bytes) }
 
-numbered_fits : (at : ℕ) (bytes : List ℕ) (o : Option (Number × ℕ)) → Fits bytes o → TokenFits at bytes (numbered at bytes o)
-numbered_fits at bytes None h = tt
-numbered_fits at bytes (Some found) h = record { start = refl; some = omega (arith, h.0); within = omega (arith, h.1) }
+numbered_fits : (at : ℕ) (bytes : List ℕ) (o : Option (Number × ℕ)) → Reads bytes o → TokenFits at bytes (numbered at bytes o)
+numbered_fits at bytes None r = tt
+numbered_fits at bytes (Some found) r =
+    let some : 0 < length r.piece = some_start begins_number r.piece (form_begins r.before.form) in
+    let all : length bytes ≡ length r.piece + length r.rest = ap length r.same ∙ length-append r.piece r.rest in
+    record { start = refl; some = omega (arith, r.len_is, some); within = omega (arith, r.len_is, all) }
 
 quoted_fits : (at : ℕ) (bytes : List ℕ) (o : Result (List ℕ × ℕ) Fault) → StringFits at (length bytes) o → TokenFits at bytes (and_then o (λ found. Ok (lexeme (token.Quote found.0) at found.1)))
 quoted_fits at bytes (Ok found) h = record { start = refl; some = h.0; within = h.1 }
@@ -79,8 +83,8 @@ mark_fits at b bytes (Some t) = record { start = refl; some = omega arith; withi
 token_fits : (at b : ℕ) (bytes : List ℕ) → TokenFits at (b ∷ bytes) (token_at at (b ∷ bytes))
 unfolding token_at
 token_fits at b bytes =
-    token_if at _ (is_letter b) _ _ (word_fits at b bytes) (token_if at _ (begins_number b) _ _ (numbered_fits at (b ∷ bytes) _ (number_fits (b ∷ bytes)))
-    (token_if at _ (b == 34 || b == 39) _ _ (quoted_fits at (b ∷ bytes) _ (string_starts at (b ∷ bytes))) (mark_fits at b bytes (mark_of b))))
+    token_if at _ (is_letter b) _ _ (word_fits at b bytes) (by_cases (TokenFits at (b ∷ bytes)) (begins_number b) _ _ (λ n. numbered_fits at (b ∷ bytes) _ (number_reads b bytes n)) (λ n.
+    (token_if at _ (b == 34 || b == 39) _ _ (quoted_fits at (b ∷ bytes) _ (string_starts at (b ∷ bytes))) (mark_fits at b bytes (mark_of b)))))
 
 module _ (end : ℕ) where
   row_behind : (at : ℕ) (bytes : List ℕ) (found : Lexeme) (more : Tokens) (ts : List Lexeme) (b : ℕ) → IsThere at (b ∷ bytes) found

@@ -1,37 +1,22 @@
 -- Fields that are read back from their printed form, and what is read.
-use Rattle.std.specs.Prelude.{ℕ, ◌≡◌, ◌<◌, ◌^◌, true, All, List, ◌∷◌, length, Some, ◌⊎◌}
-use Rattle.std.specs.List.{prefix_len}
-use Rattle.cy_text.specs.Letters.{is_letter, is_word, starts}
-use Rattle.cy_text.specs.Numbers.{number_at}
-use Rattle.cy_text.specs.Tokens.{begins_number}
+use Rattle.std.specs.Prelude.{ℕ, ◌≡◌, ◌<◌, ◌^◌, All, List, ◌∷◌, ◌⊎◌}
 use Rattle.cy_text.specs.Fields.{Fields, Held, Nothing, And, Whole, Literal, Word, Quote, Message}
-use Rattle.cy_text.specs.declared.number.Number.TheVariants as number
+use Rattle.cy_text.specs.Pieces.{IsFloat, IsWord}
 
--- A name or a word: a letter, and letters and digits to its end.
-pub record IsName (text : List ℕ) : Type 0 where
-  pub letter : starts is_letter text ≡ true
-  pub all : prefix_len is_word text ≡ length text
-
--- A float literal without a sign: a number begins with its first byte, which is no whole one and
--- goes to its end.
-pub record IsUnsigned (text : List ℕ) : Type 0 where
-  pub begins : starts begins_number text ≡ true
-  pub all : number_at text ≡ Some (number.Literal, length text)
-
--- With a sign or without one.
+-- A float literal, with a sign or without one.
 abbrev pub IsLiteral : List ℕ → Type 0
-IsLiteral text = IsUnsigned text ⊎ ((size : List ℕ) × (text ≡ 45 ∷ size) × IsUnsigned size)
+IsLiteral text = IsFloat text ⊎ ((size : List ℕ) × (text ≡ 45 ∷ size) × IsFloat size)
 
 abbrev mutual
   -- Names, words and literals have their form, whole numbers have 64 bits, and strings are bytes.
   pub IsPrintable : Fields → Type 0
   IsPrintable Nothing = Unit {0}
-  IsPrintable (And before name span held) = IsPrintable before × IsName name × IsPrintableHeld held
+  IsPrintable (And before name span held) = IsPrintable before × IsWord name × IsPrintableHeld held
 
   pub IsPrintableHeld : Held → Type 0
   IsPrintableHeld (Whole negative size) = size < 2 ^ 64
   IsPrintableHeld (Literal text) = IsLiteral text
-  IsPrintableHeld (Word negative text) = IsName text
+  IsPrintableHeld (Word negative text) = IsWord text
   IsPrintableHeld (Quote bytes) = All (λ byte. byte < 256) bytes
   IsPrintableHeld (Message fields) = IsPrintable fields
 
