@@ -16,7 +16,7 @@ use Rattle.cy_text.specs.declared.fault.Fault.{Fault}
 use Rattle.cy_text.specs.declared.fault.Fault.TheVariants.{Bad}
 
 -- The token with which bytes begin, before the rest of them: a mark, the longest word, the longest
--- number, or a string.
+-- number, or a string, of which there is one at most, since no byte of its inside closes it.
 pub data IsTokenBefore (rest : List ℕ) : List ℕ → Token → Type 0 where
   mark : {b : ℕ} {found : Token} → mark_of b ≡ Some found → IsTokenBefore rest (b ∷ []) found
   word : {piece : List ℕ} → IsWord piece → starts is_word rest ≡ false

@@ -43,15 +43,16 @@ pub data IsExponent : List ℕ → Type 0 where
   signed : {e sign : ℕ} {digits : List ℕ} → IsTrue (either 101 69 e) → IsTrue (either 43 45 sign)
       → IsRun is_digit digits → IsExponent (e ∷ sign ∷ digits)
 
--- What may stand behind the digits of a float literal: an exponent, and an `f` or `F`.
+-- What may stand behind the digits of a float literal: an exponent or none, and an `f` or `F` or
+-- none.
 pub data IsTail : List ℕ → Type 0 where
   bare : IsTail []
   suffix : {f : ℕ} → IsTrue (either 102 70 f) → IsTail (f ∷ [])
   exponent : {e : List ℕ} → IsExponent e → IsTail e
   both : {e : List ℕ} → IsExponent e → (f : ℕ) → IsTrue (either 102 70 f) → IsTail (e ++ f ∷ [])
 
--- A float literal: a decimal, a point and maybe digits; or a point and digits; or a decimal with an
--- exponent or a suffix.
+-- A float literal: a decimal, a point and maybe digits, or a point and digits, either with or
+-- without an exponent and a suffix; or a decimal with an exponent, a suffix or both.
 pub data IsFloat : List ℕ → Type 0 where
   pointed : {whole tail : List ℕ} → IsDecimal whole → (fraction : List ℕ)
       → AreAll is_digit fraction → IsTail tail → IsFloat (whole ++ 46 ∷ (fraction ++ tail))
@@ -71,7 +72,7 @@ FitsIn64 (Whole size) = size < 2 ^ 64
 FitsIn64 Literal = Unit {0}
 
 -- The number with which bytes begin, before the rest of them: the longest one that they begin with.
--- It has 64 bits, and no letter, digit or `_` follows.
+-- A whole one has 64 bits, and no letter, digit or `_` follows.
 pub record IsNumberBefore (rest piece : List ℕ) (number : Number) : Type 0 where
   pub form : IsNumber piece number
   pub longest : (more others : List ℕ) (other : Number) → rest ≡ more ++ others
