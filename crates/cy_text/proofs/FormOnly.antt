@@ -35,7 +35,7 @@ module _ (ts : List Lexeme) (at : ℕ) (all : Fields) where
   ends_form b name start end bytes place.Item h e = absurd (cc)
   ends_form b name start end bytes place.MessageItem h e = absurd (cc)
 
-  finish_form : (b : Building) (next : Expected) → PrefixOf b next ts → finish (reading b next) at ≡ Ok all → IsFields ts all
+  pub finish_form : (b : Building) (next : Expected) → PrefixOf b next ts → finish (reading b next) at ≡ Ok all → IsFields ts all
   unfolding finish
   finish_form b (expect.Field true) h e = closed_form b.frames b.fields h.now e
   finish_form b (expect.Field false) h e = closed_form b.frames b.fields h e

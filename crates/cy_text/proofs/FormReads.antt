@@ -50,7 +50,7 @@ unfolding closed
 same_closed frames frame fields c Brace e = rw e refl
 same_closed frames frame fields c Angle e = rw e refl
 
-close_step : (frames : List Frame) (frame : Frame) (fields : Fields) (x : Bool) (c : Span)
+pub close_step : (frames : List Frame) (frame : Frame) (fields : Fields) (x : Bool) (c : Span)
     → step (in_fields (frame ∷ frames) fields x) (on c (token.Close frame.bracket)) ≡ Ok (placed (record { frames = frames; fields = frame.fields }) frame.slot c.end (Message fields))
 unfolding step at_field
 close_step frames frame fields x c = same_closed frames frame fields c frame.bracket refl

@@ -13,6 +13,8 @@ pub mod Prefixes
 pub mod PrefixSteps
 pub mod FormOnly
 pub mod Few
+pub mod Closings
+pub mod Dues
 pub mod FirstFaults
 pub mod Lexed
 pub mod WholeText

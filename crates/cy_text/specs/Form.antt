@@ -1,6 +1,6 @@
--- Which tokens are a text of the form, and the fields that it says. The tokens are read from the
--- first on: after some of them it is settled what may stand next, and a token that may not is the
--- text's fault.
+-- How the fields of a text, or its first fault, are computed. The tokens are read from the first
+-- on: after some of them it is settled what may stand next, and a token that may not is the text's
+-- fault. That this is what `Grammar` and `FirstFault` say is a law of `Laws`.
 use Rattle.std.specs.Prelude.{ℕ, nat_lt, List, [], ◌∷◌, ◌++◌, length, Bool, true, false, Result, Ok}
 use Rattle.std.specs.Prelude.{Err, if◌then◌else◌}
 use Rattle.cy_text.specs.Fields.{Fields, Held, Nothing, And, Whole, Literal, Word, Quote, Message}

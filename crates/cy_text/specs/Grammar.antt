@@ -1,16 +1,13 @@
 -- The text form as a grammar: which tokens are fields, a field, a list's items or a value, and what
 -- they say.
-use Rattle.std.specs.Prelude.{ℕ, suc, ◌≡◌, ◌≤◌, ◌<◌, max, List, [], ◌∷◌, ◌++◌, Bool, true, false}
+use Rattle.std.specs.Prelude.{ℕ, suc, ◌≡◌, ◌≤◌, max, List, [], ◌∷◌, ◌++◌, Bool, true, false}
 use Rattle.cy_text.specs.Fields.{Fields, Held, Nothing, And, Whole, Literal, Word, Quote, Message}
-use Rattle.cy_text.specs.Tokens.{Tokens, Next, End, Faulty, tokens_of}
+use Rattle.cy_text.specs.Tokens.{Tokens, Next, End, tokens_of}
 use Rattle.cy_text.specs.declared.token.Bracket.{Bracket}
 use Rattle.cy_text.specs.declared.token.Token.{Token}
 use Rattle.cy_text.specs.declared.token.Token.TheVariants as token
 use Rattle.cy_text.specs.declared.token.Lexeme.{Lexeme}
 use Rattle.cy_text.specs.declared.tree.Span.{Span}
-use Rattle.cy_text.specs.declared.error.BadKind.{BadKind}
-use Rattle.cy_text.specs.declared.fault.Fault.{Fault}
-use Rattle.cy_text.specs.declared.fault.Fault.TheVariants.{Bad, TooDeep}
 
 -- A token that stands somewhere.
 abbrev pub on : Span → Token → Lexeme
@@ -129,28 +126,16 @@ pub record IsTextOf (text : List ℕ) (fields : Fields) : Type 0 where
   pub form : IsFields tokens fields
   pub depth : depth_of fields ≤ 64
 
--- Tokens that are a prefix of a text of the form, of whatever depth.
+-- Tokens that are a prefix of fields, in which messages may stand at any depth.
 pub record IsPrefix (ts : List Lexeme) : Type 0 where
   pub rest : List Lexeme
   pub fields : Fields
   pub form : IsFields (ts ++ rest) fields
 
--- The first fault of a text, by its tokens: the tokens before it are a prefix of a text of the
--- form, and
-pub data IsFirstFault (tokens : Tokens) : Fault → Type 0 where
-  -- the next one is faulty in itself,
-  in_itself : {fault : Fault} (ts : List Lexeme) → tokens ≡ followed ts (Faulty fault) → IsPrefix ts
-      → IsFirstFault tokens fault
-  -- or they are a prefix of none with it,
-  out_of_place : (ts : List Lexeme) (l : Lexeme) (rest : Tokens) (kind : BadKind)
-      → tokens ≡ followed ts (Next l rest) → IsPrefix ts → (IsPrefix (ts ++ l ∷ []) → ⊥)
-      → IsFirstFault tokens (Bad kind l.span.start)
-  -- or they are a prefix of texts with it in which a message stands too deep alone,
-  too_deep : (ts : List Lexeme) (l : Lexeme) (rest : Tokens) → tokens ≡ followed ts (Next l rest)
-      → IsPrefix (ts ++ l ∷ [])
-      → ((more : List Lexeme) (fields : Fields) → IsFields (ts ++ l ∷ more) fields
-      → 64 < depth_of fields) → IsFirstFault tokens (TooDeep l.span.start)
-  -- or the text ends, and they are no text of the form.
-  at_end : (ts : List Lexeme) (end : ℕ) (kind : BadKind) → tokens ≡ followed ts (End end)
-      → IsPrefix ts → ((fields : Fields) → IsFields ts fields → ⊥)
-      → IsFirstFault tokens (Bad kind end)
+-- Tokens that are a prefix of a text of the form: of fields in which messages stand at most 64
+-- deep.
+pub record IsTextPrefix (ts : List Lexeme) : Type 0 where
+  pub rest : List Lexeme
+  pub fields : Fields
+  pub form : IsFields (ts ++ rest) fields
+  pub depth : depth_of fields ≤ 64

@@ -2,7 +2,8 @@
 use Rattle.std.specs.Prelude.{ℕ, ◌≡◌, ◌≤◌, List, length, drop, Ok, Err}
 use Rattle.std.specs.List.{AllByRecursion}
 use Rattle.cy_text.specs.Fields.{Fields, size_of}
-use Rattle.cy_text.specs.Grammar.{IsTextOf, IsFirstFault, depth_of, followed}
+use Rattle.cy_text.specs.FirstFault.{HasOneAnswer, IsFirstFault}
+use Rattle.cy_text.specs.Grammar.{IsTextOf, depth_of, followed}
 use Rattle.cy_text.specs.Places.{error_of, fields_of_text}
 use Rattle.cy_text.specs.Printable.{IsPrintable, SameButSpans}
 use Rattle.cy_text.specs.Printed.{printed}
@@ -31,6 +32,15 @@ RefusedIsNoForm = (text : List ℕ) (error : TextError) → fields_of_text text 
 abbrev pub RefusedAtFirstFault : Type 0
 RefusedAtFirstFault = (text : List ℕ) (error : TextError) → fields_of_text text ≡ Err error
     → (fault : Fault) × (error ≡ error_of text fault) × IsFirstFault (tokens_of text) fault
+
+-- The first fault of a text is the one that is answered.
+abbrev pub FirstFaultIsAnswered : Type 0
+FirstFaultIsAnswered = (text : List ℕ) (fault : Fault) → IsFirstFault (tokens_of text) fault
+    → fields_of_text text ≡ Err (error_of text fault)
+
+-- Every text has one tree or one first fault, and never both.
+abbrev pub OneTreeOrFault : Type 0
+OneTreeOrFault = (text : List ℕ) → HasOneAnswer text
 
 -- What was printed is read as the same fields but for where they stand, if messages stand at most
 -- 64 deep.

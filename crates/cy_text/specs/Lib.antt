@@ -13,6 +13,8 @@ pub mod Views
 pub mod Places
 pub mod Printed
 pub mod Grammar
+pub mod Kinds
+pub mod FirstFault
 pub mod Laws
 pub mod Printable
 pub mod Spans

@@ -30,6 +30,6 @@ abbrev pub with_place : List ℕ → Result Fields Fault → Result Fields TextE
 with_place text (Ok fields) = Ok fields
 with_place text (Err fault) = Err (error_of text fault)
 
--- What a text says: its fields, or its first fault.
+-- What a text says: its fields, or its first fault. `IsParsed` says the same without the reading.
 abbrev pub fields_of_text : List ℕ → Result Fields TextError
 fields_of_text text = with_place text (read_text text)

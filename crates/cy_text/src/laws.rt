@@ -1,5 +1,6 @@
 // What holds of every text: proved here, and nothing to run.
-ghost use Rattle.cy_text.specs.Laws.{FieldsAreFew, FormIsRead, PrintedIsRead, ReadIsForm};
+ghost use Rattle.cy_text.specs.Laws.{FieldsAreFew, FirstFaultIsAnswered, FormIsRead};
+ghost use Rattle.cy_text.specs.Laws.{OneTreeOrFault, PrintedIsRead, ReadIsForm};
 ghost use Rattle.cy_text.specs.Laws.{RefusedAtFirstFault, RefusedIsNoForm, SpansAreInOrder};
 ghost use Rattle.cy_text.specs.Laws.{TokensAreThere};
 ghost use Rattle.cy_text.specs.PieceLaws.{CutIsRead, ReadIsCut};
@@ -18,6 +19,13 @@ pub fn read_is_form()
 pub fn refused_at_first_fault()
     ensures no_form { RefusedIsNoForm }
     ensures first_fault { RefusedAtFirstFault }
+{}
+
+/// Every text has one tree or one first fault, never both and never two, and its first fault is the
+/// one that is answered.
+pub fn one_tree_or_fault()
+    ensures one { OneTreeOrFault }
+    ensures answered { FirstFaultIsAnswered }
 {}
 
 /// Fields that were printed are read back, but for where they stand, if their names, words and

@@ -3,6 +3,7 @@ ghost use Rattle.std.specs.Prelude.{◌≡◌, ◌≤◌, ◌<◌, ◌^◌, ◌+
 ghost use Rattle.cy_text.specs.Form.{read_text};
 ghost use Rattle.cy_msg.specs.Answer.{AnswersFault, AnswersOr};
 ghost use Rattle.cy_text.specs.Fault.{fault_in};
+ghost use Rattle.cy_text.specs.FirstFault.{IsParsed};
 ghost use Rattle.cy_text.specs.Places.{line_of, column_of, error_of, fields_of_text};
 ghost use Rattle.cy_text.specs.declared.error.TextError.TheVariants as text_error;
 
@@ -70,9 +71,11 @@ fn error_of(text: &[u8], fault: Fault) -> TextError
 
 /// The fields that a text says, or its first fault. The text has at most 4,294,967,294 bytes.
 /// `Memory` alone is free.
+#[tactic(auto, using(crate::proofs::FirstFaults::parsed))]
 pub fn parse(alloc: Global, bytes: &[u8]) -> Result<Tree, TextError>
     requires { length bytes.now ≤ 4294967294 }
-    ensures { AnswersOr text_error.Memory (λ tree. tree) result (fields_of_text bytes.now) }
+    ensures form { IsParsed bytes.now result }
+    ensures reads { AnswersOr text_error.Memory (λ tree. tree) result (fields_of_text bytes.now) }
 {
     match read_text(alloc, bytes) {
         Ok(tree) => Ok(tree),
