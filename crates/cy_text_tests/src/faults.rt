@@ -4,15 +4,13 @@ use cy_text::{BadKind, TextError};
 use std::alloc::Global;
 use std::test::Fail;
 
-// A text of some messages, each in the one before.
-fn nested(alloc: Global, depth: u32) -> Result<Vec<u8>, TextError> {
+// A text that opens messages in one another, and goes on.
+fn opened(alloc: Global, name: &[u8], depth: u32, rest: &[u8]) -> Result<Vec<u8>, TextError> {
     let mut text = Vec::new(alloc);
     for _ in 0..depth {
-        text.extend_from_slice(b"a{")?;
+        text.extend_from_slice(name)?;
     }
-    for _ in 0..depth {
-        text.push(b'}')?;
-    }
+    text.extend_from_slice(rest)?;
     Ok(text)
 }
 
@@ -51,25 +49,76 @@ fn finds_tokens_that_are_wrong_in_themselves(rt: HostRuntime) {
 }
 
 #[test]
-fn finds_tokens_where_they_may_not_stand(rt: HostRuntime) {
+fn finds_tokens_where_a_name_may_stand(rt: HostRuntime) {
     for (text, want) in [
         (b"\n\n[ext.x]: 1".as_slice(), bad(3, 1, BadKind::Extension)),
         (b"a { [b] }".as_slice(), bad(1, 5, BadKind::Extension)),
+        (b"a: 1 [b]: 2".as_slice(), bad(1, 6, BadKind::Extension)),
+        (b"a: 'x' [b]: 2".as_slice(), bad(1, 8, BadKind::Extension)),
         (b"1".as_slice(), bad(1, 1, BadKind::Name)),
+        (b"{}".as_slice(), bad(1, 1, BadKind::Name)),
+        (b"a: 1, <>".as_slice(), bad(1, 7, BadKind::Name)),
+        (b"- 1".as_slice(), bad(1, 1, BadKind::Name)),
+        (b"'a': 1".as_slice(), bad(1, 1, BadKind::Name)),
+        (b"a: 1 'x'".as_slice(), bad(1, 6, BadKind::Name)),
         (b"a: 1 : 2".as_slice(), bad(1, 6, BadKind::Name)),
         (b"a: 01.5".as_slice(), bad(1, 6, BadKind::Name)),
-        (b"a 1".as_slice(), bad(1, 3, BadKind::Colon)),
-        (b"a [ {}, 'x' ]".as_slice(), bad(1, 9, BadKind::Colon)),
+        (b"}".as_slice(), bad(1, 1, BadKind::Close)),
+        (b"]".as_slice(), bad(1, 1, BadKind::Close)),
+        (b";".as_slice(), bad(1, 1, BadKind::Close)),
+        (b"a { > }".as_slice(), bad(1, 5, BadKind::Close)),
+        (b"a < }".as_slice(), bad(1, 5, BadKind::Close)),
+        (b"a: 1 ]".as_slice(), bad(1, 6, BadKind::Close)),
+        (b"a: 1,,".as_slice(), bad(1, 6, BadKind::Close)),
+        (b"a: 1 ; ;".as_slice(), bad(1, 8, BadKind::Close)),
+        (b"a {\n".as_slice(), bad(2, 1, BadKind::Close)),
+        (b"a { b: 'x'".as_slice(), bad(1, 11, BadKind::Close)),
+    ] {
+        assert_eq!(rt; read(&rt, text).err(), want);
+    }
+}
+
+#[test]
+fn finds_tokens_where_a_value_may_stand(rt: HostRuntime) {
+    for (text, want) in [
         (b"a: }".as_slice(), bad(1, 4, BadKind::Value)),
+        (b"a: :".as_slice(), bad(1, 4, BadKind::Value)),
         (b"a: [ 1, ]".as_slice(), bad(1, 9, BadKind::Value)),
+        (b"a: [ ,".as_slice(), bad(1, 6, BadKind::Value)),
         (b"a: [ [".as_slice(), bad(1, 6, BadKind::Value)),
         (b"a: - 'x'".as_slice(), bad(1, 6, BadKind::Value)),
+        (b"a: - {".as_slice(), bad(1, 6, BadKind::Value)),
+        (b"a:".as_slice(), bad(1, 3, BadKind::Value)),
+        (b"a: [".as_slice(), bad(1, 5, BadKind::Value)),
+        (b"a: [ 1,".as_slice(), bad(1, 8, BadKind::Value)),
+        (b"a: -".as_slice(), bad(1, 5, BadKind::Value)),
+        (b"a ,".as_slice(), bad(1, 3, BadKind::Value)),
+        (b"a ]".as_slice(), bad(1, 3, BadKind::Value)),
+        (b"a [ {}, ]".as_slice(), bad(1, 9, BadKind::Value)),
+        (b"a [ ;".as_slice(), bad(1, 5, BadKind::Value)),
         (b"a".as_slice(), bad(1, 2, BadKind::Value)),
-        (b"}".as_slice(), bad(1, 1, BadKind::Close)),
-        (b"a: 1,,".as_slice(), bad(1, 6, BadKind::Close)),
-        (b"a < }".as_slice(), bad(1, 5, BadKind::Close)),
+        (b"a [".as_slice(), bad(1, 4, BadKind::Value)),
+        (b"a 1".as_slice(), bad(1, 3, BadKind::Colon)),
+        (b"a 1.5".as_slice(), bad(1, 3, BadKind::Colon)),
+        (b"a b".as_slice(), bad(1, 3, BadKind::Colon)),
+        (b"a 'x'".as_slice(), bad(1, 3, BadKind::Colon)),
+        (b"a -1".as_slice(), bad(1, 3, BadKind::Colon)),
+        (b"a [ 1 ]".as_slice(), bad(1, 5, BadKind::Colon)),
+        (b"a [ {}, 'x' ]".as_slice(), bad(1, 9, BadKind::Colon)),
+    ] {
+        assert_eq!(rt; read(&rt, text).err(), want);
+    }
+}
+
+#[test]
+fn finds_tokens_behind_an_item(rt: HostRuntime) {
+    for (text, want) in [
         (b"a: [ 1 2 ]".as_slice(), bad(1, 8, BadKind::Close)),
-        (b"a {\n".as_slice(), bad(2, 1, BadKind::Close)),
+        (b"a: [ 1 ; 2 ]".as_slice(), bad(1, 8, BadKind::Close)),
+        (b"a: [ 'x' b ]".as_slice(), bad(1, 10, BadKind::Close)),
+        (b"a: [ 1 [".as_slice(), bad(1, 8, BadKind::Close)),
+        (b"a [ {} <> ]".as_slice(), bad(1, 8, BadKind::Close)),
+        (b"a: [ 1".as_slice(), bad(1, 7, BadKind::Close)),
         (b"a: [ 'x'".as_slice(), bad(1, 9, BadKind::Close)),
     ] {
         assert_eq!(rt; read(&rt, text).err(), want);
@@ -78,13 +127,20 @@ fn finds_tokens_where_they_may_not_stand(rt: HostRuntime) {
 
 #[test]
 fn opens_64_messages_and_refuses_65(rt: HostRuntime) -> Result<(), Fail> {
-    let deep = nested(rt.alloc(), 64)?;
+    let closed: &[u8] = b"}}}}}}}}}}}}}}}}}}}}}}}}}}}}}}}}}}}}}}}}}}}}}}}}}}}}}}}}}}}}}}}}";
+    let deep = opened(rt.alloc(), b"a{", 64, closed)?;
     assert!(rt; read(&rt, &deep).is_ok());
-    let deeper = nested(rt.alloc(), 65)?;
-    let want = TextError::TooDeep {
-        line: 1,
-        column: 130,
-    };
-    assert_eq!(rt; read(&rt, &deeper).err(), Some(want));
+    for (name, depth, rest, column) in [
+        (b"a{", 65, b"".as_slice(), 130),
+        (b"a<", 65, b"".as_slice(), 130),
+        (b"a{", 65, b"$".as_slice(), 130),
+        (b"a{", 64, b"b: <".as_slice(), 132),
+        (b"a{", 64, b"b [ {".as_slice(), 133),
+        (b"a<", 64, b"b: [ 1, <".as_slice(), 137),
+    ] {
+        let deeper = opened(rt.alloc(), name, depth, rest)?;
+        let want = TextError::TooDeep { line: 1, column };
+        assert_eq!(rt; read(&rt, &deeper).err(), Some(want));
+    }
     Ok(())
 }

@@ -26,6 +26,63 @@ const CLASSIC: &[u8] = b"scheduler_conf {
 }
 ";
 
+// Its fields, each on a line of its own, and a message for each item of its lists.
+const CLASSIC_PRINTED: &[u8] = b"scheduler_conf {
+  policy: \"classic\"
+  process_level_cpuset: \"0-7,16-23\"
+  threads {
+    name: \"async_log\"
+    cpuset: \"1\"
+    policy: \"SCHED_OTHER\"
+    prio: 0
+  }
+  threads {
+    name: \"shm\"
+    cpuset: \"2\"
+    policy: \"SCHED_FIFO\"
+    prio: 10
+  }
+  classic_conf {
+    groups {
+      name: \"group1\"
+      processor_num: 16
+      affinity: \"range\"
+      cpuset: \"0-7,16-23\"
+      processor_policy: \"SCHED_OTHER\"
+      processor_prio: 0
+      tasks {
+        name: \"E\"
+        prio: 0
+      }
+    }
+    groups {
+      name: \"group2\"
+      processor_num: 16
+      affinity: \"1to1\"
+      cpuset: \"8-15,24-31\"
+      processor_policy: \"SCHED_OTHER\"
+      processor_prio: 0
+      tasks {
+        name: \"A\"
+        prio: 0
+      }
+      tasks {
+        name: \"B\"
+        prio: 1
+      }
+      tasks {
+        name: \"C\"
+        prio: 2
+      }
+      tasks {
+        name: \"D\"
+        prio: 3
+      }
+    }
+  }
+}
+";
+
 /// The tree of a text, all of which are short here.
 pub fn read(rt: &(impl Abort + AllocGlobal), text: &[u8]) -> Result<Tree, TextError> {
     assert!(rt; text.len() < 100_000);
@@ -72,7 +129,7 @@ fn prints_what_it_reads(rt: HostRuntime) -> Result<(), Fail> {
 #[test]
 fn reads_a_classic_file(rt: HostRuntime) -> Result<(), Fail> {
     let once = printed(&rt, CLASSIC)?;
-    assert_eq!(rt; once.len(), 906);
+    assert_eq!(rt; once.as_slice(), CLASSIC_PRINTED);
     let twice = printed(&rt, &once)?;
     assert_eq!(rt; twice.as_slice(), once.as_slice());
     Ok(())
@@ -82,10 +139,10 @@ fn reads_a_classic_file(rt: HostRuntime) -> Result<(), Fail> {
 fn reads_numbers_truths_and_texts(rt: HostRuntime) -> Result<(), Fail> {
     let tree = read(
         &rt,
-        b"a: -18446744073709551615 b: True c: 1 d: 'x' e: '\\377' f: 2.0",
+        b"a: -18446744073709551615 b: True c: 1 d: 'x' e: '\\377' f: 2.0 g: -true h: -1",
     )?;
     let entries = tree.entries();
-    assert_eq!(rt; entries.len(), 6);
+    assert_eq!(rt; entries.len(), 8);
     for (entry, (whole, truth, text)) in entries.iter().zip([
         (Some(-18_446_744_073_709_551_615), None, None),
         (None, Some(true), None),
@@ -93,6 +150,8 @@ fn reads_numbers_truths_and_texts(rt: HostRuntime) -> Result<(), Fail> {
         (None, None, Some("x")),
         (None, None, None),
         (None, None, None),
+        (None, None, None),
+        (Some(-1), None, None),
     ]) {
         assert_eq!(rt; entry.value.whole(), whole);
         assert_eq!(rt; entry.value.truth(), truth);
