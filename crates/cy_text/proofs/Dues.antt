@@ -1,5 +1,5 @@
 -- What is due behind tokens that were read.
-use Rattle.std.proofs.Common.{ℕ, ◌≡◌, List, [], ◌∷◌, ◌++◌, Result, Ok, Err, refl, ap, sym, subst, ◌∙◌, append_assoc}
+use Rattle.std.proofs.Common.{ℕ, ◌≡◌, List, [], ◌∷◌, ◌++◌, Bool, Result, Ok, Err, refl, ap, sym, subst, ◌∙◌, append_assoc}
 use Rattle.cy_text.specs.Fields.{Held}
 use Rattle.cy_text.specs.Strings.{and_then}
 use Rattle.cy_text.specs.Form.{Building, Reading, reading, step, placed, at_field, at_message, at_value, after_name, after_colon, at_item, at_first_item, after_item, after_sign, after_value, after_string, unread}
@@ -82,7 +82,7 @@ colon_fails b text start place.Item end held c = tt
 colon_fails b text start place.MessageItem end held c = tt
 
 module _ (b : Building) where
-  field_told : (x : _) → Told (reading b (expect.Field x)) a_name
+  field_told : (x : Bool) → Told (reading b (expect.Field x)) a_name
   unfolding step at_field after_name
   field_told x = (λ s. tt, λ size s. tt, λ mark s. tt)
 

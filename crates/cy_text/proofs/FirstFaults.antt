@@ -378,6 +378,10 @@ first_is_read text fault f = answered (tokens_of text) fault f
 pub first_answered : (text : List ℕ) (fault : Fault) → IsFirstFault (tokens_of text) fault → fields_of_text text ≡ Err (error_of text fault)
 first_answered text fault f = ap (with_place text) (first_is_read text fault f)
 
+-- One thing is due behind a prefix.
+pub one_is_due : (ts : List Lexeme) → IsTextPrefix ts → (d : Due) × IsDue ts d × ((other : Due) → IsDue ts other → other ≡ d)
+one_is_due ts p = let h = prefix_stands ts p in (due_at h.0.next, due h.0 ts h.1, one_due h.0 ts h.1)
+
 -- A text has one tree or one first fault.
 one_by : (text : List ℕ) (o : Result Fields Fault) → read_text text ≡ o → HasOneAnswer text
 one_by text (Ok fields) e = one_tree fields (read_form text fields (ap (with_place text) e))

@@ -3,7 +3,8 @@ use Rattle.std.specs.Prelude.{ℕ, ◌≡◌, ◌≤◌, List, length, drop, Ok,
 use Rattle.std.specs.List.{AllByRecursion}
 use Rattle.cy_text.specs.Fields.{Fields, size_of}
 use Rattle.cy_text.specs.FirstFault.{HasOneAnswer, IsFirstFault}
-use Rattle.cy_text.specs.Grammar.{IsTextOf, depth_of, followed}
+use Rattle.cy_text.specs.Grammar.{IsTextOf, IsTextPrefix, depth_of, followed}
+use Rattle.cy_text.specs.Kinds.{Due, IsDue}
 use Rattle.cy_text.specs.Places.{error_of, fields_of_text}
 use Rattle.cy_text.specs.Printable.{IsPrintable, SameButSpans}
 use Rattle.cy_text.specs.Printed.{printed}
@@ -41,6 +42,11 @@ FirstFaultIsAnswered = (text : List ℕ) (fault : Fault) → IsFirstFault (token
 -- Every text has one tree or one first fault, and never both.
 abbrev pub OneTreeOrFault : Type 0
 OneTreeOrFault = (text : List ℕ) → HasOneAnswer text
+
+-- Behind every prefix of a text of the form just one thing is due.
+abbrev pub OneIsDue : Type 0
+OneIsDue = (tokens : List Lexeme) → IsTextPrefix tokens → (due : Due) × IsDue tokens due
+    × ((other : Due) → IsDue tokens other → other ≡ due)
 
 -- What was printed is read as the same fields but for where they stand, if messages stand at most
 -- 64 deep.

@@ -1,6 +1,6 @@
 // What holds of every text: proved here, and nothing to run.
 ghost use Rattle.cy_text.specs.Laws.{FieldsAreFew, FirstFaultIsAnswered, FormIsRead};
-ghost use Rattle.cy_text.specs.Laws.{OneTreeOrFault, PrintedIsRead, ReadIsForm};
+ghost use Rattle.cy_text.specs.Laws.{OneIsDue, OneTreeOrFault, PrintedIsRead, ReadIsForm};
 ghost use Rattle.cy_text.specs.Laws.{RefusedAtFirstFault, RefusedIsNoForm, SpansAreInOrder};
 ghost use Rattle.cy_text.specs.Laws.{TokensAreThere};
 ghost use Rattle.cy_text.specs.PieceLaws.{CutIsRead, ReadIsCut};
@@ -22,10 +22,12 @@ pub fn refused_at_first_fault()
 {}
 
 /// Every text has one tree or one first fault, never both and never two, and its first fault is the
-/// one that is answered.
+/// one that is answered. Behind each prefix of a text of the form one thing is due, by which the
+/// kind of a fault is told.
 pub fn one_tree_or_fault()
     ensures one { OneTreeOrFault }
     ensures answered { FirstFaultIsAnswered }
+    ensures due { OneIsDue }
 {}
 
 /// Fields that were printed are read back, but for where they stand, if their names, words and
