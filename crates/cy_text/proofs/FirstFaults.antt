@@ -8,7 +8,7 @@ use Rattle.cy_text.specs.Form.{Building, Reading, reading, begun, step, placed, 
 use Rattle.cy_text.specs.Grammar.{on, followed, depth_of, IsFields, IsPrefix, IsTextPrefix, none}
 use Rattle.cy_text.specs.Grammar as grammar
 use Rattle.cy_text.specs.Kinds.{MessageMayFollow, Due, a_name, a_value, a_message, a_list_mark, IsDue, kind_of, kind_at_end, IsKindOf, IsKindAtEnd}
-use Rattle.cy_text.specs.FirstFault.{IsFirstFault, in_itself, out_of_place, too_deep, at_end, IsParsed, tree, no_memory, HasOneAnswer, one_tree, one_fault}
+use Rattle.cy_text.specs.FirstFault.{IsFirstFault, in_itself, out_of_place, too_deep, at_end, HasFirstFault, IsParsed, tree, no_memory, HasOneAnswer, one_tree, one_fault}
 use Rattle.cy_text.specs.FirstFault as first
 use Rattle.cy_text.specs.Places.{with_place, error_of, fields_of_text}
 use Rattle.cy_text.specs.declared.token.Bracket.{Bracket}
@@ -36,6 +36,7 @@ use Rattle.cy_text.proofs.PrefixSteps.{item_is, first_awaits}
 use Rattle.cy_text.proofs.FormOnly.{followed_more, finish_form, read_form, refused}
 use Rattle.cy_text.proofs.Closings.{Stands, nothing_stands, step_stands, run_stands, stands_prefix}
 use Rattle.cy_text.proofs.Dues.{item_due, due_behind, due_at, MayOpen, is_due, one_due, any_text_prefix, misplaced}
+use Rattle.cy_text.proofs.CutText.{cut_is_read, read_is_cut}
 
 -- Tokens in front of a prefix of a text are one.
 shorter : (ts us : List Lexeme) → IsPrefix (ts ++ us) → IsPrefix ts
@@ -305,11 +306,18 @@ with_place_err : (text : List ℕ) (o : Result Fields Fault) (error : TextError)
 with_place_err text (Ok fields) error e = absurd (cc)
 with_place_err text (Err fault) error e = let same : error_of text fault ≡ error = cc in (fault, refl, sym same)
 
-pub read_first : (text : List ℕ) (fault : Fault) → read_text text ≡ Err fault → IsFirstFault (tokens_of text) fault
-unfolding read_text
-read_first text fault e = first_fault (tokens_of text) (tokens_of text) unread [] fault refl nothing_stands e
+-- The tokens that are read are those of the cut.
+of_read : (text : List ℕ) (fault : Fault) → IsFirstFault (tokens_of text) fault → HasFirstFault text fault
+of_read text fault f = record { tokens = tokens_of text; cut = read_is_cut text; first = f }
 
-pub refused_first : (text : List ℕ) (error : TextError) → fields_of_text text ≡ Err error → (fault : Fault) × (error ≡ error_of text fault) × IsFirstFault (tokens_of text) fault
+to_read : (text : List ℕ) (fault : Fault) → HasFirstFault text fault → IsFirstFault (tokens_of text) fault
+to_read text fault h = subst (λ ts. IsFirstFault ts fault) (sym (cut_is_read h.cut)) h.first
+
+read_first : (text : List ℕ) (fault : Fault) → read_text text ≡ Err fault → HasFirstFault text fault
+unfolding read_text
+read_first text fault e = of_read text fault (first_fault (tokens_of text) (tokens_of text) unread [] fault refl nothing_stands e)
+
+pub refused_first : (text : List ℕ) (error : TextError) → fields_of_text text ≡ Err error → (fault : Fault) × (error ≡ error_of text fault) × HasFirstFault text fault
 refused_first text error e = let p = with_place_err text (read_text text) error e in (p.0, p.2, read_first text p.0 p.1)
 
 -- A prefix of a text of the form is read.
@@ -371,11 +379,11 @@ answered whole_text fault (at_end ts end its same p never k) =
     let h = prefix_stands ts p in
     read_behind h.0 ts whole_text (End end) same h.1 ∙ is_at_end h.0 ts h.1 end its never k (finish h.0 end) refl (end_refusal end h.0.building h.0.next)
 
-first_is_read : (text : List ℕ) (fault : Fault) → IsFirstFault (tokens_of text) fault → read_text text ≡ Err fault
+first_is_read : (text : List ℕ) (fault : Fault) → HasFirstFault text fault → read_text text ≡ Err fault
 unfolding read_text
-first_is_read text fault f = answered (tokens_of text) fault f
+first_is_read text fault f = answered (tokens_of text) fault (to_read text fault f)
 
-pub first_answered : (text : List ℕ) (fault : Fault) → IsFirstFault (tokens_of text) fault → fields_of_text text ≡ Err (error_of text fault)
+pub first_answered : (text : List ℕ) (fault : Fault) → HasFirstFault text fault → fields_of_text text ≡ Err (error_of text fault)
 first_answered text fault f = ap (with_place text) (first_is_read text fault f)
 
 -- One thing is due behind a prefix.

@@ -18,6 +18,8 @@ use Rattle.cy_text.proofs.Runs.{run, run_one, run_behind}
 use Rattle.cy_text.proofs.FormReads.{read_low, form_read}
 use Rattle.cy_text.proofs.Prefixes.{Inside, PrefixOf, Prefix}
 use Rattle.cy_text.proofs.PrefixSteps.{quote_placed, step_prefix}
+use Rattle.cy_text.specs.Cuts.{IsCut}
+use Rattle.cy_text.proofs.CutText.{read_is_cut}
 
 abbrev whole_form : Fields → Result Fields Fault
 whole_form fields = Ok fields
@@ -77,7 +79,7 @@ pub read_form : (text : List ℕ) (fields : Fields) → fields_of_text text ≡ 
 unfolding read_text
 read_form text fields e =
     let p = found (tokens_of text) fields (tokens_of text) unread [] refl none refl (with_place_ok text (read_text text) fields e) in
-    record { tokens = p.tokens; end = p.end; read = p.same; form = p.form; depth = p.low }
+    record { tokens = p.tokens; end = p.end; cut = subst (IsCut 0 text) p.same (read_is_cut text); form = p.form; depth = p.low }
 
 pub refused : (text : List ℕ) (error : TextError) → fields_of_text text ≡ Err error → (fields : Fields) → IsTextOf text fields → ⊥
 refused text error e fields form = let d : fields_of_text text ≡ Ok fields = form_read text fields form in cc

@@ -20,6 +20,7 @@ use Rattle.cy_text.specs.declared.fault.Fault.{Fault}
 use Rattle.cy_text.specs.declared.fault.Fault.TheVariants.{TooDeep}
 use Rattle.cy_text.proofs.Runs.{run, run_one, run_behind, run_to_end, settled, placed_is_settled, finish_settled, NoStringFirst, Leads, there, deep, lead_on, lead_by}
 use Rattle.cy_text.proofs.FormRuns.{end_last, label_span, field_starts, field_depth, value_step, Awaits, awaits_name, awaits_colon, item_slot, awaits_item, awaits_first, item_placed, plain_begins, plain_read, signed_read, sign_read, strings_read}
+use Rattle.cy_text.proofs.CutText.{cut_is_read}
 
 -- Fields of the innermost message are read, and others may follow.
 abbrev pub in_fields : List Frame → Fields → Bool → Reading
@@ -246,4 +247,4 @@ module _ (ts : List Lexeme) (fields : Fields) where
 -- A text of the form is read to its fields.
 pub form_read : (text : List ℕ) (fields : Fields) → IsTextOf text fields → fields_of_text text ≡ Ok fields
 unfolding read_text
-form_read text fields h = ap (with_place text) (ap (read unread) h.read ∙ run_to_end unread h.tokens h.end ∙ reads_form h.tokens fields h.form h.depth h.end)
+form_read text fields h = ap (with_place text) (ap (read unread) (cut_is_read h.cut) ∙ run_to_end unread h.tokens h.end ∙ reads_form h.tokens fields h.form h.depth h.end)

@@ -22,6 +22,8 @@ use Rattle.cy_text.proofs.Numerals.{float_begins, float_number}
 use Rattle.cy_text.proofs.WholeText.{whole_line}
 use Rattle.cy_text.proofs.QuotedText.{quoted_read}
 use Rattle.cy_text.proofs.FormReads.{form_read}
+use Rattle.cy_text.specs.Cuts.{IsCut}
+use Rattle.cy_text.proofs.CutText.{read_is_cut}
 
 -- a text, and one without tokens behind it
 lexes_gap : (at : ℕ) (a b rest : List ℕ) (ts : List Lexeme) → Lexes at a (b ++ rest) ts → Lexes (at + length a) b rest [] → Lexes at (a ++ b) rest ts
@@ -195,7 +197,7 @@ mutual
 
 form_of : (text : List ℕ) (fields : Fields) (tokens : List Lexeme) → tokens_of text ≡ followed tokens (tokens_from (0 + length text) 0 []) → IsFields tokens fields → depth_of fields ≤ 64 → IsTextOf text fields
 unfolding tokens_from
-form_of text fields tokens all form low = record { tokens = tokens; end = 0 + length text; read = all; form = form; depth = low }
+form_of text fields tokens all form low = record { tokens = tokens; end = 0 + length text; cut = subst (IsCut 0 text) all (read_is_cut text); form = form; depth = low }
 
 -- What was printed is read as the same but for spans.
 pub printed_read : (fields : Fields) → IsPrintable fields → depth_of fields ≤ 64 → (others : Fields) × (fields_of_text (printed fields) ≡ Ok others) × SameButSpans fields others

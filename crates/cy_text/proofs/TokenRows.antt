@@ -1,11 +1,11 @@
 -- The tokens of a text stand in their order.
-use Rattle.std.proofs.Common.{ℕ, zero, suc, ◌≡◌, ◌+◌, ◌-◌, ◌<◌, ◌≤◌, ◌==◌, ◌||◌, not, List, [], ◌∷◌, ◌++◌, length, length-append, drop, drop-drop, Bool, true, false, cond, Option, Some, None, Result, Ok, Err, refl, ap, sym, ◌∙◌, subst, arith}
-use Rattle.std.specs.List.{prefix_len, AllByRecursion}
+use Rattle.std.proofs.Common.{ℕ, zero, suc, ◌≡◌, ◌+◌, ◌-◌, ◌<◌, ◌≤◌, ◌==◌, ◌||◌, not, List, [], ◌∷◌, ◌++◌, length, length-append, Bool, true, false, cond, Option, Some, None, Result, Ok, Err, refl, ap, ◌∙◌, subst, arith}
+use Rattle.std.specs.List.{prefix_len}
 use Rattle.std.proofs.lemmas.List.Sums.{prefix_len-le-length}
 use Rattle.cy_text.specs.Fields.{Fields}
 use Rattle.cy_text.specs.Letters.{is_blank, is_letter, is_word}
 use Rattle.cy_text.specs.Strings.{string_from, string_at, escaped, and_then}
-use Rattle.cy_text.specs.Tokens.{Tokens, Next, End, IsThere, lexeme, mark_of, marked, numbered, word_at, begins_number, token_at, tokens_from, tokens_of}
+use Rattle.cy_text.specs.Tokens.{Tokens, Next, End, IsThere, lexeme, mark_of, marked, numbered, word_at, begins_number, token_at, tokens_from}
 use Rattle.cy_text.specs.Grammar.{followed}
 use Rattle.cy_text.specs.Places.{fields_of_text}
 use Rattle.cy_text.specs.Spans.{AreInOrder}
@@ -19,6 +19,7 @@ use Rattle.cy_text.proofs.Numerals.{Reads, form_begins, number_reads}
 use Rattle.cy_text.proofs.TokenSteps.{with_token}
 use Rattle.cy_text.proofs.FormOnly.{read_form}
 use Rattle.cy_text.proofs.Orders.{InRow, lower, fields_order}
+use Rattle.cy_text.proofs.CutText.{cut_is_read}
 
 -- A string ends behind its place, and within the bytes.
 abbrev StringFits : ℕ → ℕ → Result (List ℕ × ℕ) Fault → Type 0
@@ -134,39 +135,6 @@ module _ (end : ℕ) where
 pub in_order : (text : List ℕ) (fields : Fields) → fields_of_text text ≡ Ok fields → AreInOrder 0 (length text) fields
 in_order text fields e =
     let p = read_form text fields e in
-    let row : InRow (0 + 0) (0 + length text) p.tokens = row_of p.end text 0 0 p.tokens (omega arith) p.read in
+    let row : InRow (0 + 0) (0 + length text) p.tokens = row_of p.end text 0 0 p.tokens (omega arith) (cut_is_read p.cut) in
     let high : 0 + length text ≡ length text = omega arith in
     fields_order p.form 0 (length text) (rw high at row)
-
--- Tokens that each begin at their place in a text.
-abbrev AreThere : List ℕ → List Lexeme → Type 0
-AreThere text ts = AllByRecursion (λ t. token_at t.span.start (drop t.span.start text) ≡ Ok t) ts
-
-module _ (text : List ℕ) (end : ℕ) where
-  next_bytes : (at b : ℕ) (bytes : List ℕ) → drop at text ≡ b ∷ bytes → drop (at + 1) text ≡ bytes
-  next_bytes at b bytes h = sym (drop-drop 1 at text) ∙ ap (drop 1) h
-
-  token_there : (at b : ℕ) (bytes : List ℕ) (ts : List Lexeme) (o : Result Lexeme Fault) → drop at text ≡ b ∷ bytes → token_at at (b ∷ bytes) ≡ o → TokenFits at (b ∷ bytes) o
-      → ((passed : ℕ) (us : List Lexeme) → tokens_from (at + 1) passed bytes ≡ followed us (End end) → AreThere text us) → with_token at bytes o ≡ followed ts (End end) → AreThere text ts
-  unfolding with_token
-  token_there at b bytes [] (Ok found) h found_is fits rest e = absurd (cc)
-  token_there at b bytes (t ∷ ts) (Ok found) h found_is fits rest e =
-      let same : found ≡ t = cc in
-      let others : tokens_from (at + 1) (found.span.end - (at + 1)) bytes ≡ followed ts (End end) = cc in
-      let here : token_at found.span.start (drop found.span.start text) ≡ Ok found = ap (λ (n : ℕ). token_at n (drop n text)) fits.start ∙ ap (token_at at) h ∙ found_is in
-      (subst (λ (u : Lexeme). token_at u.span.start (drop u.span.start text) ≡ Ok u) same here, rest (found.span.end - (at + 1)) ts others)
-  token_there at b bytes [] (Err fault) h found_is fits rest e = absurd (cc)
-  token_there at b bytes (t ∷ ts) (Err fault) h found_is fits rest e = absurd (cc)
-
-  there_from : (bytes : List ℕ) (at passed : ℕ) (ts : List Lexeme) → drop at text ≡ bytes → tokens_from at passed bytes ≡ followed ts (End end) → AreThere text ts
-  unfolding tokens_from with_token
-  there_from [] at passed [] h e = tt
-  there_from [] at passed (t ∷ ts) h e = absurd (cc)
-  there_from (b ∷ bytes) at (suc passed) ts h e = there_from bytes (at + 1) passed ts (next_bytes at b bytes h) e
-  there_from (b ∷ bytes) at zero ts h e =
-      by_cond end (is_blank b) _ _ _ (λ blank. there_from bytes (at + 1) 0 ts (next_bytes at b bytes h) blank)
-      (λ d. by_cond end (b == 35) _ _ _ (λ comment. there_from bytes (at + 1) (prefix_len (λ byte. not (byte == 10)) bytes) ts (next_bytes at b bytes h) comment)
-      (λ c. token_there at b bytes ts (token_at at (b ∷ bytes)) h refl (token_fits at b bytes) (λ passed us f. there_from bytes (at + 1) passed us (next_bytes at b bytes h) f) c) d) e
-
-pub are_there : (text : List ℕ) (tokens : List Lexeme) (end : ℕ) → tokens_of text ≡ followed tokens (End end) → AreThere text tokens
-are_there text tokens end e = there_from text end text 0 0 tokens refl e

@@ -4,7 +4,8 @@ use Rattle.cy_text.specs.Fields.{Fields}
 use Rattle.cy_text.specs.Grammar.{followed, IsFields, IsPrefix, IsTextPrefix, IsTextOf}
 use Rattle.cy_text.specs.Kinds.{IsKindOf, IsKindAtEnd}
 use Rattle.cy_text.specs.Places.{error_of}
-use Rattle.cy_text.specs.Tokens.{Tokens, Next, End, Faulty, tokens_of}
+use Rattle.cy_text.specs.Cuts.{IsCut}
+use Rattle.cy_text.specs.Tokens.{Tokens, Next, End, Faulty}
 use Rattle.cy_text.specs.declared.token.Lexeme.{Lexeme}
 use Rattle.cy_text.specs.declared.error.BadKind.{BadKind}
 use Rattle.cy_text.specs.declared.error.TextError.{TextError}
@@ -31,11 +32,17 @@ pub data IsFirstFault (tokens : Tokens) : Fault → Type 0 where
       → IsTextPrefix ts → ((fields : Fields) → IsFields ts fields → ⊥) → IsKindAtEnd ts kind
       → IsFirstFault tokens (Bad kind end)
 
+-- The first fault of a text is that of the tokens that it is cut into.
+pub record HasFirstFault (text : List ℕ) (fault : Fault) : Type 0 where
+  pub tokens : Tokens
+  pub cut : IsCut 0 text tokens
+  pub first : IsFirstFault tokens fault
+
 -- What is answered of a text: the fields that the form has it say, or the error of its first fault,
 -- or want of memory.
 pub data IsParsed (text : List ℕ) : Result Fields TextError → Type 0 where
   tree : {fields : Fields} → IsTextOf text fields → IsParsed text (Ok fields)
-  refused : {fault : Fault} → IsFirstFault (tokens_of text) fault
+  refused : {fault : Fault} → HasFirstFault text fault
       → IsParsed text (Err (error_of text fault))
   no_memory : IsParsed text (Err Memory)
 
@@ -43,7 +50,7 @@ pub data IsParsed (text : List ℕ) : Result Fields TextError → Type 0 where
 pub data HasOneAnswer (text : List ℕ) : Type 0 where
   one_tree : (fields : Fields) → IsTextOf text fields
       → ((others : Fields) → IsTextOf text others → others ≡ fields)
-      → ((fault : Fault) → IsFirstFault (tokens_of text) fault → ⊥) → HasOneAnswer text
-  one_fault : (fault : Fault) → IsFirstFault (tokens_of text) fault
-      → ((other : Fault) → IsFirstFault (tokens_of text) other → other ≡ fault)
+      → ((fault : Fault) → HasFirstFault text fault → ⊥) → HasOneAnswer text
+  one_fault : (fault : Fault) → HasFirstFault text fault
+      → ((other : Fault) → HasFirstFault text other → other ≡ fault)
       → ((fields : Fields) → IsTextOf text fields → ⊥) → HasOneAnswer text

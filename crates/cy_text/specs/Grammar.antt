@@ -1,8 +1,9 @@
 -- The text form as a grammar: which tokens are fields, a field, a list's items or a value, and what
 -- they say.
-use Rattle.std.specs.Prelude.{ℕ, suc, ◌≡◌, ◌≤◌, max, List, [], ◌∷◌, ◌++◌, Bool, true, false}
+use Rattle.std.specs.Prelude.{ℕ, suc, ◌≤◌, max, List, [], ◌∷◌, ◌++◌, Bool, true, false}
 use Rattle.cy_text.specs.Fields.{Fields, Held, Nothing, And, Whole, Literal, Word, Quote, Message}
-use Rattle.cy_text.specs.Tokens.{Tokens, Next, End, tokens_of}
+use Rattle.cy_text.specs.Cuts.{IsCut}
+use Rattle.cy_text.specs.Tokens.{Tokens, Next, End}
 use Rattle.cy_text.specs.declared.token.Bracket.{Bracket}
 use Rattle.cy_text.specs.declared.token.Token.{Token}
 use Rattle.cy_text.specs.declared.token.Token.TheVariants as token
@@ -117,12 +118,12 @@ abbrev pub followed : List Lexeme → Tokens → Tokens
 followed [] rest = rest
 followed (t ∷ ts) rest = Next t (followed ts rest)
 
--- A text of the form, and the fields that it says: its tokens up to its end are these fields, and
--- messages stand at most 64 deep.
+-- A text of the form, and the fields that it says: it is cut up to its end into tokens that are
+-- these fields, and messages stand at most 64 deep.
 pub record IsTextOf (text : List ℕ) (fields : Fields) : Type 0 where
   pub tokens : List Lexeme
   pub end : ℕ
-  pub read : tokens_of text ≡ followed tokens (End end)
+  pub cut : IsCut 0 text (followed tokens (End end))
   pub form : IsFields tokens fields
   pub depth : depth_of fields ≤ 64
 

@@ -1,15 +1,13 @@
 -- What holds of every text.
-use Rattle.std.specs.Prelude.{ℕ, ◌≡◌, ◌≤◌, List, length, drop, Ok, Err}
-use Rattle.std.specs.List.{AllByRecursion}
+use Rattle.std.specs.Prelude.{ℕ, ◌≡◌, ◌≤◌, List, length, Ok, Err}
 use Rattle.cy_text.specs.Fields.{Fields, size_of}
-use Rattle.cy_text.specs.FirstFault.{HasOneAnswer, IsFirstFault}
-use Rattle.cy_text.specs.Grammar.{IsTextOf, IsTextPrefix, depth_of, followed}
+use Rattle.cy_text.specs.FirstFault.{HasFirstFault, HasOneAnswer}
+use Rattle.cy_text.specs.Grammar.{IsTextOf, IsTextPrefix, depth_of}
 use Rattle.cy_text.specs.Kinds.{Due, IsDue}
 use Rattle.cy_text.specs.Places.{error_of, fields_of_text}
 use Rattle.cy_text.specs.Printable.{IsPrintable, SameButSpans}
 use Rattle.cy_text.specs.Printed.{printed}
 use Rattle.cy_text.specs.Spans.{AreInOrder}
-use Rattle.cy_text.specs.Tokens.{End, token_at, tokens_of}
 use Rattle.cy_text.specs.declared.error.TextError.{TextError}
 use Rattle.cy_text.specs.declared.fault.Fault.{Fault}
 use Rattle.cy_text.specs.declared.token.Lexeme.{Lexeme}
@@ -32,11 +30,11 @@ RefusedIsNoForm = (text : List ℕ) (error : TextError) → fields_of_text text 
 -- It is refused at its first fault.
 abbrev pub RefusedAtFirstFault : Type 0
 RefusedAtFirstFault = (text : List ℕ) (error : TextError) → fields_of_text text ≡ Err error
-    → (fault : Fault) × (error ≡ error_of text fault) × IsFirstFault (tokens_of text) fault
+    → (fault : Fault) × (error ≡ error_of text fault) × HasFirstFault text fault
 
 -- The first fault of a text is the one that is answered.
 abbrev pub FirstFaultIsAnswered : Type 0
-FirstFaultIsAnswered = (text : List ℕ) (fault : Fault) → IsFirstFault (tokens_of text) fault
+FirstFaultIsAnswered = (text : List ℕ) (fault : Fault) → HasFirstFault text fault
     → fields_of_text text ≡ Err (error_of text fault)
 
 -- Every text has one tree or one first fault, and never both.
@@ -63,9 +61,3 @@ SpansAreInOrder = (text : List ℕ) (fields : Fields) → fields_of_text text �
 abbrev pub FieldsAreFew : Type 0
 FieldsAreFew = (text : List ℕ) (fields : Fields) → fields_of_text text ≡ Ok fields
     → size_of fields ≤ length text
-
--- Each token is the one that begins at its place in the text.
-abbrev pub TokensAreThere : Type 0
-TokensAreThere = (text : List ℕ) (tokens : List Lexeme) (end : ℕ) → tokens_of text ≡ followed tokens
-    (End end)
-    → AllByRecursion (λ t. token_at t.span.start (drop t.span.start text) ≡ Ok t) tokens

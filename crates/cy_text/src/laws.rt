@@ -2,7 +2,6 @@
 ghost use Rattle.cy_text.specs.Laws.{FieldsAreFew, FirstFaultIsAnswered, FormIsRead};
 ghost use Rattle.cy_text.specs.Laws.{OneIsDue, OneTreeOrFault, PrintedIsRead, ReadIsForm};
 ghost use Rattle.cy_text.specs.Laws.{RefusedAtFirstFault, RefusedIsNoForm, SpansAreInOrder};
-ghost use Rattle.cy_text.specs.Laws.{TokensAreThere};
 ghost use Rattle.cy_text.specs.PieceLaws.{CutIsRead, ReadIsCut};
 
 /// Each text of the form is read to the fields that it says.
@@ -37,10 +36,8 @@ pub fn printed_is_read()
 {}
 
 /// The fields that are read stand in their order within the text, and those of a message within it.
-/// Their spans are made of the tokens' ones, and a token stands where its span says.
 pub fn spans_are_in_order()
-    ensures order { SpansAreInOrder }
-    ensures tokens { TokensAreThere }
+    ensures { SpansAreInOrder }
 {}
 
 /// A text has at most as many fields as bytes. A reader of fields that takes a limited number of
