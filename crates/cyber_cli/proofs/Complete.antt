@@ -13,7 +13,8 @@ use Rattle.cy_reader.specs.Record.{Contents}
 use Rattle.cyber_cli.specs.MakeWords.{MakeWords}
 use Rattle.cyber_cli.specs.PlayWords.{PlayWords}
 use Rattle.cyber_cli.specs.PlayWork.{replayed_in}
-use Rattle.cyber_cli.specs.Words.{CheckWords, InfoWords}
+use Rattle.cyber_cli.specs.CheckWords.{CheckWords}
+use Rattle.cyber_cli.specs.Words.{InfoWords}
 use Rattle.cyber_cli.specs.Info.{told_of, load_status}
 use Rattle.cyber_cli.specs.Check.{checked_in}
 use Rattle.cyber_cli.specs.ConfigText.{fault_status}

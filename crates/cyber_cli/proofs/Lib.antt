@@ -1,3 +1,4 @@
+pub mod Asked
 pub mod CheckExits
 pub mod NoCommand
 pub mod Complete
@@ -6,6 +7,7 @@ pub mod Fronts
 pub mod InfoExits
 pub mod MakeExits
 pub mod Named
+pub mod OptionsRead
 pub mod PlayExits
 pub mod PlayRuns
 pub mod PlayWriting

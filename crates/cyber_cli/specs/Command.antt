@@ -1,13 +1,11 @@
 -- The commands, the words that ask for them, and what they come to.
-use Rattle.std.specs.Prelude.{ℕ, List, [], ◌∷◌, Option, Some, None}
-use Rattle.std.specs.Prelude.{if◌then◌else◌, option_and_then, codes}
-use Rattle.std.specs.Option.{option_map}
-use Rattle.std.specs.Str.{bytes_eq}
+use Rattle.std.specs.Prelude.{ℕ, ◌≡◌, ◌⊎◌, ⊤, true, List, [], ◌∷◌, Option, Some, None, codes}
 use Rattle.cy_store.specs.Write.{Write}
+use Rattle.cyber_cli.specs.CheckWords.{CheckWords, IsCheckWords}
 use Rattle.cyber_cli.specs.MakeWords.{MakeWords, make_of}
 use Rattle.cyber_cli.specs.PassWords.{pass_of}
-use Rattle.cyber_cli.specs.PlayWords.{PlayWords, play_of}
-use Rattle.cyber_cli.specs.Words.{CheckWords, InfoWords, check_of, info_of}
+use Rattle.cyber_cli.specs.PlayWords.{PlayWords, IsPlayWords}
+use Rattle.cyber_cli.specs.Words.{InfoWords, info_of}
 
 -- `check`, `info`, `play` and `make`, each with its words; `pass` is a play.
 pub data Command : Type 0 where
@@ -16,23 +14,27 @@ pub data Command : Type 0 where
   Play : (words : PlayWords) → Command
   Make : (words : MakeWords) → Command
 
--- What the words ask for: the first one names the command, and those behind it are of its form.
-abbrev pub command_of : List (List ℕ) → Option Command
-command_of [] = None
-command_of (name ∷ words) =
-    if bytes_eq name (codes "pass") then option_map Play (pass_of words)
-    else (if bytes_eq name (codes "check") then option_map Check (check_of words)
-    else (if bytes_eq name (codes "info") then option_map Info (info_of words)
-    else (if bytes_eq name (codes "play") then option_map Play (play_of words)
-    else (if bytes_eq name (codes "make") then option_map Make (make_of words) else None))))
+-- The words ask for a command: the first one names it, and those behind it are of its form.
+abbrev pub Asks : List (List ℕ) → Command → Type 0
+Asks [] c = ⊥
+Asks (name ∷ words) (Check w) = (name ≡ codes "check") × IsCheckWords words w
+Asks (name ∷ words) (Info w) = (name ≡ codes "info") × (info_of words ≡ Some w)
+Asks (name ∷ words) (Play w) = ((name ≡ codes "play") × IsPlayWords words w)
+    ⊎ ((name ≡ codes "pass") × (pass_of words ≡ Some w))
+Asks (name ∷ words) (Make w) = (name ≡ codes "make") × (make_of words ≡ Some w)
 
--- What they ask for where there are no threads: a `play` is then serial.
-abbrev pub still_one : Command → Option Command
-still_one (Play words) = if words.serial then Some (Play words) else None
-still_one c = Some c
+-- The same where there are no threads: a `play` is then serial.
+abbrev pub IsStill : Command → Type 0
+IsStill (Play w) = w.serial ≡ true
+IsStill c = ⊤
 
-abbrev pub still_command_of : List (List ℕ) → Option Command
-still_command_of words = option_and_then still_one (command_of words)
+abbrev pub AsksStill : List (List ℕ) → Command → Type 0
+AsksStill words c = Asks words c × IsStill c
+
+-- What is asked for: a command, or nothing where no command is.
+abbrev pub IsAsked : (Command → Type 0) → Option Command → Type 0
+IsAsked asks None = (c : Command) → asks c → ⊥
+IsAsked asks (Some c) = asks c
 
 -- What a command makes of the files that it read: what it writes to the store, in order, and the
 -- text that it prints.

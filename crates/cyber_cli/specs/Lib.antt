@@ -1,5 +1,6 @@
 pub mod Check
 pub mod CheckEnds
+pub mod CheckWords
 pub mod Command
 pub mod ConfigText
 pub mod Due
@@ -11,12 +12,14 @@ pub mod LoadText
 pub mod MakeEnds
 pub mod MakeWords
 pub mod MakeWork
+pub mod Options
 pub mod Outcome
 pub mod PassWords
 pub mod PlayEnds
 pub mod PlayViews
 pub mod PlayWork
 pub mod PlayWords
+pub mod Scan
 pub mod Status
 pub mod Summary
 pub mod Views

@@ -2,9 +2,11 @@
 use Rattle.std.specs.Prelude.{[], option_map, unwrap_or}
 use Rattle.cy_replay.specs.Setup.{components_of}
 use Rattle.cyber_cli.specs.declared.play_words.Play.{Play}
-use Rattle.cyber_cli.specs.declared.play_words.Options as code
-use Rattle.cyber_cli.specs.declared.play_words.Reading as reading
-use Rattle.cyber_cli.specs.PlayWords.{PlayWords, Options, Reading, names_in}
+use Rattle.cyber_cli.specs.declared.options.Options as code
+use Rattle.cyber_cli.specs.declared.options.Reading as reading
+use Rattle.cyber_cli.specs.Options.{Options}
+use Rattle.cyber_cli.specs.PlayWords.{PlayWords, names_in}
+use Rattle.cyber_cli.specs.Scan.{Reading}
 
 abbrev pub play_words_of : Play → PlayWords
 play_words_of p = record {

@@ -2,20 +2,17 @@
 use Rattle.std.specs.Prelude.{◌≤◌, ◌<◌, ⊤, option_map}
 use Rattle.cy_replay.specs.Setup.{HasReader}
 use Rattle.cyber_cli.specs.declared.make_words.Make.{Make}
-use Rattle.cyber_cli.specs.declared.words.Check.{Check}
+use Rattle.cyber_cli.specs.declared.check_words.Check.{Check}
 use Rattle.cyber_cli.specs.declared.words.Info.{Info}
-use Rattle.cyber_cli.specs.declared.words.Given as given
 use Rattle.cyber_cli.specs.declared.words.Command as code
 use Rattle.cyber_cli.specs.declared.words.Command.TheVariants as asked
+use Rattle.cyber_cli.specs.CheckWords.{CheckWords}
 use Rattle.cyber_cli.specs.MakeWords.{MakeWords, most_made}
 use Rattle.cyber_cli.specs.PlayViews.{play_words_of}
-use Rattle.cyber_cli.specs.Words.{CheckWords, InfoWords, Given}
+use Rattle.cyber_cli.specs.Words.{InfoWords}
 use Rattle.cyber_cli.specs.Command as command
 
--- An option, and the words of `check`.
-abbrev pub given_of : given.Given → Given
-given_of g = record { name = g.name.now; value = g.value.now; rest = g.rest.now }
-
+-- The words of each command.
 abbrev pub check_words_of : Check → CheckWords
 check_words_of w = record { dag = w.dag.now; sched = option_map (λ name. name.now) w.sched }
 

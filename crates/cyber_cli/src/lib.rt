@@ -6,6 +6,7 @@
 //! `specs/MakeWork`, `specs/Check` and `specs/Info`.
 #![tactic(auto)]
 
+mod check_words;
 mod commands;
 mod config_text;
 mod due;
@@ -14,6 +15,7 @@ mod fault_text;
 mod line;
 mod load_text;
 mod make_words;
+mod options;
 mod pass_words;
 mod play_words;
 mod status;

@@ -1,7 +1,9 @@
 // The top calls.
-ghost use Rattle.std.specs.Prelude.{◌≡◌, ◌≢◌};
+ghost use Rattle.std.specs.Prelude.{◌≡◌, ◌≢◌, Option};
 ghost use Rattle.cyber_cli.specs.Line.{bytes_of_line};
-ghost use Rattle.cyber_cli.specs.Command.{command_of, still_command_of};
+ghost use Rattle.cyber_cli.specs.Command as asked;
+ghost use Rattle.cyber_cli.specs.Command.{Asks, AsksStill, IsAsked};
+ghost use Rattle.cyber_cli.specs.Scan.{command_of, still_command_of};
 ghost use Rattle.cyber_cli.specs.Due.{IsDue, IsDueFor, IsTold, GetsFront, Answers, IsComplete};
 ghost use Rattle.cyber_cli.specs.Lines.{usage_line};
 ghost use Rattle.cyber_cli.specs.Views.{command_asked, IsInForm};
@@ -173,16 +175,16 @@ pub fn cyber<S: Store, O: Sink, E: Sink, G: Gate, R: Threads + Wait + Sync>(
     err: &mut E,
     gate: &G,
 ) -> Status
-    ensures answers { Answers (command_of words.now) (S.shows store.old) (S.shows store.new)
-        record { out = O.shows out.old; err = E.shows err.old } record {
-          out = O.shows out.new;
-          err = E.shows err.new;
-        } result }
-    ensures complete { IsComplete (command_of words.now) (S.shows store.old) (S.shows store.new)
-        record { out = O.shows out.old; err = E.shows err.old } record {
-          out = O.shows out.new;
-          err = E.shows err.new;
-        } result }
+    ensures answers { (command : Option asked.Command) → IsAsked (Asks words.now) command
+        → Answers command (S.shows store.old) (S.shows store.new) record {
+          out = O.shows out.old;
+          err = E.shows err.old;
+        } record { out = O.shows out.new; err = E.shows err.new } result }
+    ensures complete { (command : Option asked.Command) → IsAsked (Asks words.now) command
+        → IsComplete command (S.shows store.old) (S.shows store.new) record {
+          out = O.shows out.old;
+          err = E.shows err.old;
+        } record { out = O.shows out.new; err = E.shows err.new } result }
 {
     let due = due_with_threads(rt, alloc, words, store, gate);
     tell(&due, out, err)
@@ -197,16 +199,16 @@ pub fn cyber_still<S: Store, O: Sink, E: Sink>(
     out: &mut O,
     err: &mut E,
 ) -> Status
-    ensures answers { Answers (still_command_of words.now) (S.shows store.old) (S.shows store.new)
-        record { out = O.shows out.old; err = E.shows err.old } record {
-          out = O.shows out.new;
-          err = E.shows err.new;
-        } result }
-    ensures complete { IsComplete (still_command_of words.now) (S.shows store.old)
-        (S.shows store.new) record { out = O.shows out.old; err = E.shows err.old } record {
-          out = O.shows out.new;
-          err = E.shows err.new;
-        } result }
+    ensures answers { (command : Option asked.Command) → IsAsked (AsksStill words.now) command
+        → Answers command (S.shows store.old) (S.shows store.new) record {
+          out = O.shows out.old;
+          err = E.shows err.old;
+        } record { out = O.shows out.new; err = E.shows err.new } result }
+    ensures complete { (command : Option asked.Command) → IsAsked (AsksStill words.now) command
+        → IsComplete command (S.shows store.old) (S.shows store.new) record {
+          out = O.shows out.old;
+          err = E.shows err.old;
+        } record { out = O.shows out.new; err = E.shows err.new } result }
 {
     let due = due_of(alloc, words, store);
     tell(&due, out, err)

@@ -11,11 +11,11 @@ ghost use Rattle.cyber_cli.specs.Line.{bytes_of_line};
 ghost use Rattle.cyber_cli.specs.CheckEnds.{IsDueUnset, IsTextOf};
 ghost use Rattle.cyber_cli.specs.Views.{check_words_of};
 
+use crate::check_words::Check;
 use crate::config_text::{fault_status, refusal_line, store_line};
 use crate::due::{Due, out_of_memory};
 use crate::line::Line;
 use crate::status::Status;
-use crate::words::Check;
 use cy_check::{SchedulerFile, check_text};
 use cy_msg::{Bytes, Text};
 use cy_replay::{Configuration, SetupError, place_components, read_configuration, wire_components};
