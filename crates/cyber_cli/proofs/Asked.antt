@@ -1,5 +1,5 @@
 -- The code finds the command that words ask for, and none where they ask for none.
-use Rattle.std.proofs.Common.{◌≡◌, ◌⊎◌, ℕ, List, [], ◌∷◌, Bool, true, false, Option, Some, None, if◌then◌else◌, refl, sym, ap, ◌∙◌, subst, inl, inr}
+use Rattle.std.proofs.Common.{◌≡◌, ◌⊎◌, ℕ, List, [], ◌∷◌, Bool, true, false, Option, Some, None, if◌then◌else◌, refl, ap, ◌∙◌, subst, inl, inr}
 use Rattle.std.proofs.Common.{codes, option_map, option_and_then, bytes_eq}
 use Rattle.std.proofs.lemmas.Slice.Eq.{bytes_eq-Decides}
 use Rattle.cyber_cli.specs.Command.{Command, Check, Info, Play, Make, Asks, AsksStill, IsAsked, IsStill}

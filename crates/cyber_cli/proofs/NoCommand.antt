@@ -2,7 +2,6 @@
 use Rattle.std.proofs.Common.{◌≡◌, ℕ, List, [], ◌∷◌, Bool, false, if◌then◌else◌, codes, get_or, Option, None, refl, sym, ap, ◌∙◌}
 use Rattle.std.specs.Option.{option_map}
 use Rattle.std.specs.Str.{bytes_eq}
-use Rattle.cyber_cli.specs.Command.{Command, Check, Info, Play, Make}
 use Rattle.cyber_cli.specs.Scan.{command_of}
 
 chain : {X : Type 0} (a b c d e : Bool) (v w x y z rest : X) → a ≡ false → b ≡ false → c ≡ false → d ≡ false → e ≡ false

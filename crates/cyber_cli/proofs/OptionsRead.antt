@@ -1,13 +1,13 @@
 -- The scan of words finds the options that they are, and what `play` and `check` make of them.
 use Rattle.std.proofs.Common.{◌≡◌, ◌<◌, ◌⊎◌, ◌+◌, ◌==◌, ℕ, List, [], ◌∷◌, ◌++◌, Bool, true, false, not, Option, Some, None, IfSome, is_some, ◌||◌, if◌then◌else◌, refl, sym, ap, ◌∙◌, subst, inl, inr}
-use Rattle.std.proofs.Common.{length, take, drop, get_or, position, flat_map, codes, option_map, option_to_list, bytes_eq, arith, rules, tests, append_assoc, append-nil}
+use Rattle.std.proofs.Common.{length, take, drop, get_or, position, flat_map, codes, option_map, option_to_list, bytes_eq, arith, append_assoc, append-nil}
 use Rattle.std.specs.List.{list_all, position_or_len}
 use Rattle.std.proofs.lemmas.Grind.{common_steps}
 use Rattle.std.proofs.lemmas.List.Quantifiers.{position-Some}
 use Rattle.std.proofs.lemmas.Slice.Eq.{bytes_eq-Decides}
 use Rattle.cyber_cli.specs.CheckWords.{CheckWords, IsCheckWords}
 use Rattle.cyber_cli.specs.Options.{AreOptions, Apart, Begin, Dag, Drop, End, Given, Input, Joined, Key, Only, Options, Output, Sched, Serial, Trace}
-use Rattle.cyber_cli.specs.Options.{called, no_options, serials_in, spelled, value_at, value_under, values_in, values_of}
+use Rattle.cyber_cli.specs.Options.{called, no_options, serials_in, spelled, value_at, value_under, values_of}
 use Rattle.cyber_cli.specs.PlayWords.{IsPlayWords, PlayWords, asked_by, ◌>>=◌}
 use Rattle.cyber_cli.specs.Scan.{Reading, check_of, check_words, given_once, has_others, name_met, option_met, options_at_end, options_met, play_of, settled, with_serial, with_value, words_met}
 use Rattle.cyber_cli.specs.Words.{is_word}

@@ -1,5 +1,5 @@
 -- How the code reads words: options one after another, and then the command that they ask for.
-use Rattle.std.specs.Prelude.{ℕ, ◌+◌, ◌==◌, ◌||◌, Bool, true, false, if◌then◌else◌, List, [], ◌∷◌}
+use Rattle.std.specs.Prelude.{ℕ, ◌+◌, ◌==◌, ◌||◌, Bool, true, if◌then◌else◌, List, [], ◌∷◌}
 use Rattle.std.specs.Prelude.{take, drop, codes, Option, Some, None, is_some, option_and_then}
 use Rattle.std.specs.List.{position}
 use Rattle.std.specs.Option.{option_map}
