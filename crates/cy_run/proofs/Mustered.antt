@@ -13,7 +13,7 @@ use Rattle.wake_core.specs.Plain.{Plain, lists, to_play_from}
 use Rattle.wake_core.specs.Run.{played_of}
 use Rattle.wake_core.specs.Rest.{IsToPlay, IsScanOf, MayFinish}
 use Rattle.wake_core.specs.WorldOf.{plain_of}
-use Rattle.wake_core.proofs.Listed.{to_play_total}
+use Rattle.wake_core.specs.TapeLaws.{PutLaws}
 use Rattle.cy_table.specs.declared.pass.Pass.{Pass}
 use Rattle.cy_table.specs.declared.table.FlagTable.{FlagTable}
 use Rattle.cy_table.specs.Seats.{Seat}
@@ -169,12 +169,12 @@ may_drive w t plans tokens contexts orders parkers p q crew r n is c =
     }
 
 -- A world that is left may be finished.
-pub may_finish : (w : World) (t : FlagTable) (plans : List Plan) (tokens : List Token) (scan : List ℕ) (p q v : Pass) (left : Plain) → MayRun (plain_of w) plans tokens scan → made_of t ≡ plain_of w
+pub may_finish : PutLaws → (w : World) (t : FlagTable) (plans : List Plan) (tokens : List Token) (scan : List ℕ) (p q v : Pass) (left : Plain) → MayRun (plain_of w) plans tokens scan → made_of t ≡ plain_of w
     → IsPlayed t tokens p q → (seat_of v).played ≡ (seat_of q).played → (seat_of v).clock ≡ (seat_of q).clock → IsLeft t v left → MayFinish left scan
-may_finish w t plans tokens scan p q v left r made played same clock l =
+may_finish law w t plans tokens scan p q v left r made played same clock l =
     let routes : left.routes ≡ (plain_of w).routes = l.routes ∙ ap (λ (x : Plain). x.routes) made in let counts : left.counts ≡ (plain_of w).counts = l.counts ∙ ap (λ (x : Plain). x.counts) made in record {
       rest = l.rest;
-      played = ap length (l.played ∙ (same ∙ played.exact)) ∙ (sym (to_play_total (plain_of w) tokens r.play.made)
+      played = ap length (l.played ∙ (same ∙ played.exact)) ∙ (sym (law.all (plain_of w) tokens r.play.made)
           ∙ (ap (λ (x : List Route). to_play_from x 0 (plain_of w).counts) (sym routes) ∙ ap (to_play_from left.routes 0) (sym counts)));
       clock = l.clock ∙ (clock ∙ played.clock);
       scan = subst (λ (x : List Route). IsScanOf (length x) scan) (sym routes) r.play.scan;

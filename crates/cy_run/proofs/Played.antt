@@ -11,7 +11,7 @@ use Rattle.wake_core.specs.Plain.{to_play_from}
 use Rattle.wake_core.specs.Run.{writes_from}
 use Rattle.wake_core.specs.Rest.{IsToPlay}
 use Rattle.wake_core.specs.Serial.{last_clock}
-use Rattle.wake_core.proofs.Listed.{to_play_total}
+use Rattle.wake_core.specs.TapeLaws.{PutLaws}
 use Rattle.cy_table.specs.declared.pass.Pass.{Pass}
 use Rattle.cy_table.specs.declared.table.FlagTable.{FlagTable}
 use Rattle.cy_table.specs.Seats.{Seat}
@@ -81,12 +81,12 @@ plays_begin t tokens p o = record {
 }
 
 -- At its end all was played.
-pub can_close : (t : FlagTable) (tokens items : List Token) (i : ℕ) (p q u : Pass) (time : ℕ) → IsToPlay (made_of t) tokens → items ≡ tokens → length items ≤ i → PlaysOn t tokens i p q → Stays t q u
+pub can_close : PutLaws → (t : FlagTable) (tokens items : List Token) (i : ℕ) (p q u : Pass) (time : ℕ) → IsToPlay (made_of t) tokens → items ≡ tokens → length items ≤ i → PlaysOn t tokens i p q → Stays t q u
     → thread_of u ≡ knowing q (ticking (seat_of q) time) → CanClose t u
-can_close t tokens items i p q u time made same le on s told =
+can_close law t tokens items i p q u time made same le on s told =
     let seat : seat_of u ≡ ticking (seat_of q) time = ap (λ (m : Thread). m.0) told in let seated = on.mine.free.seated in record {
       at = s.at;
       player = s.number ∙ on.mine.player;
-      all = ap (λ (v : Seat). length v.played) seat ∙ (ap length (on.played ∙ take_all i tokens (subst (λ l. length l ≤ i) same le)) ∙ (sym (to_play_total (made_of t) tokens made)
+      all = ap (λ (v : Seat). length v.played) seat ∙ (ap length (on.played ∙ take_all i tokens (subst (λ l. length l ≤ i) same le)) ∙ (sym (law.all (made_of t) tokens made)
           ∙ (ap (λ (r : List Route). to_play_from r 0 (made_of t).counts) (sym (ap (λ (v : Seat). v.routes) seat ∙ seated.routes)) ∙ ap (to_play_from (seat_of u).routes 0) (sym (ap (λ (v : Seat). v.counts) seat ∙ seated.counts)))));
     }

@@ -1,6 +1,6 @@
 -- How a message that was taped goes to its readers.
-use Rattle.std.specs.Prelude.{ℕ, ◌+◌, ◌==◌, ◌≡◌, if◌then◌else◌, Bool, false, List, [], ◌∷◌, ◌++◌, drop}
-use Rattle.std.specs.Prelude.{slice_get, Some, None}
+use Rattle.std.specs.Prelude.{ℕ, ◌+◌, ◌==◌, ◌≡◌, if◌then◌else◌, Bool, false, List, [], ◌∷◌, ◌++◌}
+use Rattle.std.specs.Prelude.{drop, slice_get, Some, None}
 use Rattle.cy_msg.specs.declared.token.Token.{Token}
 use Rattle.wake_core.specs.declared.route.Route.{Route}
 use Rattle.wake_core.specs.Run.{readers_of, readers_from, roles_of}

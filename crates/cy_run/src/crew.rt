@@ -12,7 +12,8 @@ use std::sync::Wait;
 use std::thread;
 use std::thread::Threads;
 
-/// A processor: its pass, the number of its context and its own number, which is that of its parker.
+/// A processor: its pass, the number of its context and its own number, which is that of its
+/// parker.
 #[derive(Drop)]
 pub struct Worker {
     /// Its pass.

@@ -9,8 +9,8 @@ use std::thread;
 
 /// What a processor passes before each call of a component.
 pub trait Gate: Sync {
-    /// Before a call of a component, which has the croutine `hold` in hand. The calls of a component
-    /// are numbered from 1. It may wait, and changes nothing of the run.
+    /// Before a call of a component, which has the croutine `hold` in hand. The calls of a
+    /// component are numbered from 1. It may wait, and changes nothing of the run.
     fn before_call<R: Wait>(&self, rt: &R, component: u32, call: u32, hold: &Hold)
         requires in_hand { component_of hold.now ≡ component }
         requires fetched { to_step hold.now ≢ None }

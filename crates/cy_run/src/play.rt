@@ -11,6 +11,7 @@ use cy_comp::Wiring;
 use cy_msg::{PlayList, Token};
 use cy_table::{FlagTable, Pass};
 use std::sync::Wait;
+use wake_core::laws;
 
 // Plays the messages of a list, one after another. Then it sets the clock to its greatest value and
 // says that all was played.
@@ -27,6 +28,7 @@ pub(crate) fn play_all<R: Wait>(
     ensures same { Stays table.now player.old player.new }
     ensures played { IsPlayed table.now list.now.tokens player.old player.new }
 {
+    laws::put();
     for token in list.tokens.as_slice() {
         play(rt, table, player, token, idle, wiring);
     }

@@ -21,7 +21,7 @@ use cy_table::{FlagTable, Pass};
 use std::alloc::Global;
 use std::sync::Wait;
 use std::thread::Threads;
-use wake_core::{World, finish, serial};
+use wake_core::{World, finish, laws, serial};
 
 /// Plays a list in a world that was made for it and in which nothing has happened, and resumes
 /// components on this thread, in the order of the scan. It takes no memory.
@@ -55,6 +55,7 @@ pub fn run_threads<G: Gate, R: Threads + Wait + Sync>(
         (plain_of w)) }
     ensures counts { IfOk result (λ w. (plain_of w).counts ≡ (plain_of world).counts) }
 {
+    laws::put();
     let plans = placement.contexts.as_slice();
     let processors = processors_in(placement);
     let idle = Idle::new(alloc, processors)?;

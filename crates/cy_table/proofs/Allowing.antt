@@ -11,7 +11,8 @@ use Rattle.cy_table.specs.declared.part.Part.{Part}
 use Rattle.cy_table.specs.declared.part.Part.TheVariants as part
 use Rattle.cy_table.specs.Layout.{number_of}
 use Rattle.cy_table.specs.Seats.{Seat, Seen, Grip}
-use Rattle.cy_table.specs.Rule.{Rules, Ruled, AreSeen}
+use Rattle.cy_table.specs.Seats.{AreSeen}
+use Rattle.cy_table.specs.Rule.{Rules, Ruled}
 use Rattle.cy_table.specs.Steps.{Sits, Becomes, acquiring, failing, releasing, MayRelease, asking, MayAsk, yielding, MayYield, next_state}
 use Rattle.cy_table.specs.Plays.{Thread, in_hand, HasSeen, AcquireTells, acquired, released, asked, yielded}
 use Rattle.cy_table.specs.Laws.{HoldSwaps, HoldStores, StateStores, RoomsLeft}

@@ -15,7 +15,9 @@ use Rattle.wake_core.specs.Sound.{Sound}
 use Rattle.wake_core.specs.Laws.{IsIdle, with_idle}
 use Rattle.cy_table.specs.declared.part.Part.{Part}
 use Rattle.cy_table.specs.Seats.{Seat, Seen, TapeView, no_seat}
-use Rattle.cy_table.specs.Rule.{Rooms, Rules, Knows, IsEmpty, AreSeen, ShowsParts, Spread, spread, routine_of, visitor_of, hand_of, total_live}
+use Rattle.cy_table.specs.Seats.{IsEmpty, AreSeen, total_live}
+use Rattle.cy_table.specs.Shown.{Rooms, Spread, spread, routine_of, visitor_of, hand_of}
+use Rattle.cy_table.specs.Rule.{Rules, Knows, ShowsParts}
 use Rattle.cy_table.specs.Steps.{Sits, splitting, split_off, joining}
 use Rattle.cy_table.proofs.Places.{place, unseen, within, seated, shown_anew, list_changed}
 use Rattle.cy_table.proofs.Keeping.{stays}

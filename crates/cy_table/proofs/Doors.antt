@@ -11,7 +11,8 @@ use Rattle.wake_core.specs.Plain.{Plain}
 use Rattle.cy_table.specs.declared.part.Part.{Part}
 use Rattle.cy_table.specs.declared.part.Part.TheVariants as part
 use Rattle.cy_table.specs.Seats.{Seat, Visit, TapeView}
-use Rattle.cy_table.specs.Rule.{Rooms, Rules, Spread, Home, spread, routine_in, visitor_in, tape_in, routine_of, visitor_of, Kept, Shows, ShowsParts, visitor_at, tape_at}
+use Rattle.cy_table.specs.Shown.{Rooms, Spread, Home, spread, routine_in, visitor_in, tape_in, routine_of, visitor_of, Kept, visitor_at, tape_at}
+use Rattle.cy_table.specs.Rule.{Rules, Shows, ShowsParts}
 use Rattle.cy_table.specs.Steps.{Sits, entering, visiting}
 use Rattle.cy_table.proofs.Places.{place, there, other, home_is, after, spread_takes}
 use Rattle.cy_table.proofs.Keeping.{at_home, is_shut, has_it, taken, given}

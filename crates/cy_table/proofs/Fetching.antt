@@ -19,14 +19,13 @@ use Rattle.wake_core.specs.Run.{set_at}
 use Rattle.wake_core.specs.Plain.{Plain, hand, outs_of, made_of, taped_of, unsent_of}
 use Rattle.wake_core.specs.Events.{Fetches, next_call, after_none, after_call, after_fetch}
 use Rattle.wake_core.specs.Fields.{queue_of}
-use Rattle.wake_core.specs.Laws.{KeepsSound, KeepsCalls}
-use Rattle.wake_core.proofs.Fetched.{call_of, next_visited}
-use Rattle.wake_core.proofs.Shown.{asked_unsent}
-use Rattle.wake_core.proofs.Outputs.{outs_push, next_out}
+use Rattle.wake_core.specs.Laws.{KeepsSound, KeepsCalls, FoundLaws, ShowsComponent, call_of}
+use Rattle.wake_core.specs.TapeLaws.{UnsentLaws}
 use Rattle.cy_table.specs.declared.part.Part.{Part}
 use Rattle.cy_table.specs.declared.part.Part.TheVariants as part
 use Rattle.cy_table.specs.Seats.{Seat, Grip, Visit}
-use Rattle.cy_table.specs.Rule.{Rooms, Home, Shows, spread, routine_of, kind_at, routine_at, visitor_at, out_in}
+use Rattle.cy_table.specs.Shown.{Rooms, Home, spread, routine_of, kind_at, routine_at, visitor_at, out_in}
+use Rattle.cy_table.specs.Rule.{Shows}
 use Rattle.cy_table.specs.Steps.{Sits, Becomes, called, fetching}
 use Rattle.cy_table.proofs.Places.{there, other, after, spread_gives}
 use Rattle.cy_table.proofs.Parts.{routine_beside, routine_turned, same_words, threads_hand}
@@ -61,9 +60,9 @@ all_taped outputs n few none = by (λ l. get_in outputs n l none)
     by shut = omega (arith, shut, few)
 
 -- The output of a call more, where all outputs before it stand on the tape.
-unsent_new : (w w' : Plain) (c : ℕ) (call : Call) (u : IsRoute w.routes c) → w'.routes ≡ w.routes → w'.tape ≡ w.tape → w'.calls c ≡ w.calls c ++ call ∷ [] → taped_of w.routes w.tape c ≤ made_of w.routes w.calls c
+unsent_new : UnsentLaws → (w w' : Plain) (c : ℕ) (call : Call) (u : IsRoute w.routes c) → w'.routes ≡ w.routes → w'.tape ≡ w.tape → w'.calls c ≡ w.calls c ++ call ∷ [] → taped_of w.routes w.tape c ≤ made_of w.routes w.calls c
     → unsent_of w c ≡ None → call.out ≡ option_map out_in (slice_get (outs_of w.routes w'.calls c) (taped_of w.routes w.tape c))
-unsent_new w w' c call u routes tape calls few none =
+unsent_new law w w' c call u routes tape calls few none =
     let channel : ℕ = u.route.out in
     let n : ℕ = taped_of w.routes w.tape c in
     let n_is : n ≡ length (outs channel (w.calls c)) =
@@ -71,11 +70,11 @@ unsent_new w w' c call u routes tape calls few none =
     let found : slice_get (outs_of w.routes w'.calls c) n ≡ option_map (output channel (n + 1)) call.out =
     ap (λ (o : Option Route). slice_get (option_map_or (λ (y : Route). outs y.out (w'.calls c)) o []) n) u.at
     ∙ (ap (λ (l : List Call). slice_get (outs channel l) n) calls
-    ∙ (ap (λ (l : List Token). slice_get l n) (outs_push channel (w.calls c) call) ∙ next_out channel (outs channel (w.calls c)) call.out n n_is)) in
+    ∙ subst (λ m. slice_get (outs channel (w.calls c ++ call ∷ [])) m ≡ option_map (output channel (m + 1)) call.out) (sym n_is) (law.called channel (w.calls c) call)) in
     sym (ap (option_map out_in) found ∙ out_back channel (n + 1) call.out)
 
 module _ (r : Rooms) (w : Plain) (s : Table Part Seat) (id : ℕ) (v : Seat) (sits : Sits r w s id v) (g : Grip) (e : v.hand ≡ Some g) (asked : g.phase ≡ Asked)
-    (a : Visit) (has : v.visit ≡ Some a) (one : a.component ≡ g.croutine) where
+    (a : Visit) (has : v.visit ≡ Some a) (one : a.component ≡ g.croutine) (finds : FoundLaws) where
   inside : a.component < length w.routes
   inside = let less = croutine_known r w s id v sits g e in omega (arith, one, less)
 
@@ -86,18 +85,19 @@ module _ (r : Rooms) (w : Plain) (s : Table Part Seat) (id : ℕ) (v : Seat) (si
       let u = route_there w.routes c (croutine_known r w s id v sits g e) in
       let known = routine_known r w s id v sits g e in
       let seen : a.visitor ≡ visitor_at r w c = visitor_known r w s id v sits a has inside ∙ ap (visitor_at r w) one in
-      next_visited w c (cursor_after g.routine.calls) u.route g.routine a.visitor u.at
-      (ap (λ (x : RoutineView). x.kind) known ∙ ap (λ (o : Option Route). option_map_or (λ (y : Route). y.kind) o Pass) u.at)
-      (ap (λ (x : RoutineView). x.calls) known)
-      (ap (λ (x : VisitorView). x.arrivals) seen)
-      (ap (λ (x : VisitorView). x.roles) seen ∙ ap (λ (o : Option Route). option_map_or (λ (y : Route). length y.readers) o 0) u.at)
-      (ap (λ (x : VisitorView). x.queue) seen ∙ ap (λ (o : Option Route). option_map_or (queue_of w.routes w.counts) o 1) u.at)
-      (sits.rules.fixed.buffered c u.route u.at)
-      (ap (λ (x : RoutineView). cursor_after x.calls) known ∙ sym (sits.rules.sound.consistent.called.cursor c u.route u.at))
-      sits.rules.sound.consistent
+      let cursor : w.cursors c ≡ cursor_after g.routine.calls = sits.rules.sound.consistent.called.cursor c u.route u.at ∙ sym (ap (λ (x : RoutineView). cursor_after x.calls) known) in
+      let shows : ShowsComponent w c u.route g.routine a.visitor = record {
+        kind = ap (λ (x : RoutineView). x.kind) known ∙ ap (λ (o : Option Route). option_map_or (λ (y : Route). y.kind) o Pass) u.at;
+        calls = ap (λ (x : RoutineView). x.calls) known;
+        arrivals = ap (λ (x : VisitorView). x.arrivals) seen;
+        roles = ap (λ (x : VisitorView). x.roles) seen ∙ ap (λ (o : Option Route). option_map_or (λ (y : Route). length y.readers) o 0) u.at;
+        queue = ap (λ (x : VisitorView). x.queue) seen ∙ ap (λ (o : Option Route). option_map_or (queue_of w.routes w.counts) o 1) u.at;
+      } in
+      finds.visitor w c u.route g.routine a.visitor shows u.at (sits.rules.fixed.buffered c u.route u.at) sits.rules.sound.consistent
+      ∙ ap (λ (i : ℕ). option_map (call_of g.routine) (visited i a.visitor)) cursor
 
   -- The visitor is as it was, in any world that has the same arrivals.
-  module _ (out : List (ℕ × Part)) (sound : KeepsSound (Fetches id g.croutine)) (calls : KeepsCalls (Fetches id g.croutine)) where
+  module _ (unsent : UnsentLaws) (out : List (ℕ × Part)) (sound : KeepsSound (Fetches id g.croutine)) (calls : KeepsCalls (Fetches id g.croutine)) where
     none_fetched : visited (cursor_after g.routine.calls) a.visitor ≡ None
         → Becomes r (Fetches id g.croutine) w (stepped s (4 * a.component + 7) 0 id ((2 * a.component + 2, part.Visitor a.visitor) ∷ out) (fetching v g a.visitor None) gives)
     none_fetched is =
@@ -163,7 +163,7 @@ module _ (r : Rooms) (w : Plain) (s : Table Part Seat) (id : ℕ) (v : Seat) (si
           effect = ap (λ (n : Option Call). after_fetch id c n w) (sym (next_is ∙ ap (option_map (call_of g.routine)) is));
         } in
         let grown : g.routine.calls ++ call ∷ [] ≡ w'.calls c = ap (λ (x : RoutineView). x.calls ++ call ∷ []) known ∙ sym calls_are in
-        let waits : call.out ≡ option_map out_in (unsent_of w' c) = unsent_new w w' c call u refl refl calls_are (sits.rules.sound.consistent.held.few c) (asked_unsent w id c held sits.rules.sound.consistent.held) in
+        let waits : call.out ≡ option_map out_in (unsent_of w' c) = unsent_new unsent w w' c call u refl refl calls_are (sits.rules.sound.consistent.held.few c) (unsent.asked w id c held sits.rules.sound.consistent.held) in
         let room : g.routine.spare - 1 ≡ r.calls c - length (w'.calls c) =
         ap (λ (x : RoutineView). x.spare - 1) known ∙ (less_room (r.calls c) (w.calls c) call ∙ ap (λ (l : List Call). r.calls c - length l) (sym calls_are)) in
         let routine_is : taken g.routine f.0 f.1 f.2 ≡ routine_at r w' c = λ j. record { kind = (known j).kind; state = (known j).state; calls = grown j; pending = waits j; spare = room j } in

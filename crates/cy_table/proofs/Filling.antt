@@ -12,7 +12,8 @@ use Rattle.wake_core.specs.Laws.{KeepsSound}
 use Rattle.cy_table.specs.declared.part.Part.{Part}
 use Rattle.cy_table.specs.declared.part.Part.TheVariants as part
 use Rattle.cy_table.specs.Seats.{Seat, Visit}
-use Rattle.cy_table.specs.Rule.{Rooms, Home, Shows, spread, routine_of, hand_of, routine_at, visitor_at}
+use Rattle.cy_table.specs.Shown.{Rooms, Home, spread, routine_of, hand_of, routine_at, visitor_at}
+use Rattle.cy_table.specs.Rule.{Shows}
 use Rattle.cy_table.specs.Steps.{Sits, Becomes, filling}
 use Rattle.cy_table.proofs.Places.{there, other, shown_still, shown_anew, after, spread_gives}
 use Rattle.cy_table.proofs.Parts.{routine_beside, same_words}

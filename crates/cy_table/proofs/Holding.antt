@@ -25,7 +25,8 @@ use Rattle.cy_table.specs.declared.part.Part.TheVariants as part
 use Rattle.cy_table.specs.Layout.{number_of}
 use Rattle.cy_table.specs.Seats.{Seat, Grip, Entry}
 use Rattle.cy_table.specs.Seats.Entry.{Busy, Found}
-use Rattle.cy_table.specs.Rule.{Rooms, Rules, Knows, Shows, Home, spread, routine_in, routine_of, hand_of, routine_at, out_in}
+use Rattle.cy_table.specs.Shown.{Rooms, Home, spread, routine_in, routine_of, hand_of, routine_at, out_in}
+use Rattle.cy_table.specs.Rule.{Rules, Knows, Shows}
 use Rattle.cy_table.specs.Steps.{Sits, Becomes, acquiring, failing, put_in, MayReady, readying, MayAsk, asking, OwesNone, next_in, next_state, MayYield, yielding, MayRelease, releasing}
 use Rattle.cy_table.proofs.Places.{there, other, unseen, within, seated, home_is, after, spread_keeps, spread_takes, spread_gives}
 use Rattle.cy_table.proofs.Keeping.{at_home, is_shut, has_it}

@@ -1,7 +1,7 @@
 -- What lies behind a word, after a step.
 use Rattle.std.proofs.Common.{ℕ, ◌≡◌, ◌≢◌, sym, ◌∙◌, ap, inl, inr, ⊎_elim, Option, Some, None, arith}
 use Rattle.std.proofs.lemmas.Option.{none-some}
-use Rattle.cy_table.specs.Rule.{AtHome, OutWith, Kept}
+use Rattle.cy_table.specs.Shown.{AtHome, OutWith, Kept}
 use Rattle.cy_table.proofs.Places.{place}
 
 module _ {X : Type 0} {home home' : Option X} {word word' : ℕ} {has has' : ℕ → Option X} {x : X} where

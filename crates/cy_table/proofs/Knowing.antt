@@ -15,7 +15,9 @@ use Rattle.wake_core.specs.Fields.{IsFixed}
 use Rattle.cy_table.specs.declared.part.Part.{Part}
 use Rattle.cy_table.specs.Seats.{Seat, Seen}
 use Rattle.cy_table.specs.Layout.{words_for, slots_for}
-use Rattle.cy_table.specs.Rule.{Rooms, AreRoomy, AreSeen, Knows, Rules, Shows, spread, total_live}
+use Rattle.cy_table.specs.Seats.{AreSeen, total_live}
+use Rattle.cy_table.specs.Shown.{Rooms, AreRoomy, spread}
+use Rattle.cy_table.specs.Rule.{Knows, Rules, Shows}
 use Rattle.cy_table.specs.Steps.{Sits}
 
 -- What an event of a thread lets the others know.

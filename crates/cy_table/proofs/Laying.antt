@@ -26,7 +26,8 @@ use Rattle.cy_table.specs.declared.part.Part.{Part}
 use Rattle.cy_table.specs.declared.part.Part.TheVariants as part
 use Rattle.cy_table.specs.Layout.{number_of, yes_or_no}
 use Rattle.cy_table.specs.Seats.{Seat, TapeView}
-use Rattle.cy_table.specs.Rule.{Rooms, AreRoomy, AreSeen, LiesOpen, kind_at, roles_at, queue_at, out_in, pending_at, routine_at, visitor_at, tape_at}
+use Rattle.cy_table.specs.Seats.{AreSeen}
+use Rattle.cy_table.specs.Shown.{Rooms, LiesOpen, kind_at, roles_at, queue_at, out_in, pending_at, routine_at, visitor_at, tape_at}
 use Rattle.cy_table.specs.Steps.{first_seat, at_rest}
 use Rattle.cy_table.specs.Plays.{calls_from, rule_for, seat_for}
 use Rattle.cy_table.specs.Laws.{TableEnds}

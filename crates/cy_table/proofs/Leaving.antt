@@ -15,14 +15,13 @@ use Rattle.wake_core.specs.declared.entries.TheConstants.{MOST_PLANNED}
 use Rattle.wake_core.specs.declared.route.Route.{Route}
 use Rattle.wake_core.specs.declared.phase.Phase.TheVariants.{Asked}
 use Rattle.wake_core.specs.Planned.{planned_count, first_reader}
-use Rattle.wake_core.specs.Plain.{Plain, unsent_of, lists_reader}
-use Rattle.wake_core.specs.Laws.{RoomLaws, FoundLaws}
-use Rattle.wake_core.proofs.Fetched.{call_of}
-use Rattle.wake_core.proofs.Shown.{asked_unsent}
-use Rattle.wake_core.proofs.Readers.{lists_reader_first}
+use Rattle.wake_core.specs.Plain.{Plain, unsent_of}
+use Rattle.wake_core.specs.Laws.{RoomLaws, FoundLaws, call_of}
+use Rattle.wake_core.specs.TapeLaws.{UnsentLaws}
 use Rattle.cy_table.specs.declared.part.Part.{Part}
 use Rattle.cy_table.specs.Seats.{Seat, Grip, Visit}
-use Rattle.cy_table.specs.Rule.{Rooms, Rules, out_in}
+use Rattle.cy_table.specs.Shown.{Rooms, out_in}
+use Rattle.cy_table.specs.Rule.{Rules}
 use Rattle.cy_table.specs.Steps.{Sits, MayTape}
 use Rattle.cy_table.proofs.Holding.{seat_is, in_phase, routine_known, croutine_known}
 use Rattle.cy_table.proofs.Sending.{shown_by, next_known}
@@ -46,7 +45,7 @@ module _ (r : Rooms) (w : Plain) (s : Table Part Seat) (id : ℕ) (v : Seat) (si
   fill_room c j later first inside =
       let u = route_there w.routes c inside in
       let fills : w.fills id ≡ (c, j) ∷ later = sits.rules.shows.threads.fills_are id ∙ (ap (λ (z : Seat). z.fills) (seat_is r w s id v sits) ∙ first) in
-      let less = law.arrival w id c j u.route (ap (lists_reader c j) fills ∙ lists_reader_first c j later) u.at sits.rules.sound.consistent in
+      let less = law.next_arrival w id c j later u.route fills u.at sits.rules.sound.consistent in
       let room = sits.rules.roomy.arrivals c u.route u.at in
       omega (arith, less, room)
 
@@ -59,7 +58,7 @@ calls_kept law r w s c rules inside =
     omega (arith, called, most)
 
 -- A tuple that a fetch finds may be taken.
-module _ (r : Rooms) (w : Plain) (s : Table Part Seat) (id : ℕ) (v : Seat) (sits : Sits r w s id v) (rooms : RoomLaws) (law : FoundLaws) where
+module _ (r : Rooms) (w : Plain) (s : Table Part Seat) (id : ℕ) (v : Seat) (sits : Sits r w s id v) (rooms : RoomLaws) (law : FoundLaws) (unsent : UnsentLaws) where
   in_range : (position planned : ℕ) → position ≤ planned → planned ≤ MOST_PLANNED → position < 2 ^ 64 - 1
   in_range position planned few most = omega (arith, few, most)
 
@@ -71,7 +70,7 @@ module _ (r : Rooms) (w : Plain) (s : Table Part Seat) (id : ℕ) (v : Seat) (si
       let known = routine_known r w s id v sits g e in
       let held = in_phase r w s id v sits g Asked e asked in
       let consistent = sits.rules.sound.consistent in
-      let next = next_is r w s id v sits g e asked a has one ∙ ap (option_map (call_of g.routine)) is in
+      let next = next_is r w s id v sits g e asked a has one law ∙ ap (option_map (call_of g.routine)) is in
       let less = rooms.call w id c u.route (call_of g.routine f) held next u.at consistent in
       let room = sits.rules.roomy.calls c u.route u.at in
       let most = law.planned w.routes w.counts c u.route u.at sits.rules.fixed in
@@ -81,7 +80,7 @@ module _ (r : Rooms) (w : Plain) (s : Table Part Seat) (id : ℕ) (v : Seat) (si
       let needed = sits.rules.fixed.needed c u.route u.at in
       let messages : length (messages_of f.0) ≡ length u.route.readers = law.messages w c u.route (call_of g.routine f) next u.at sits.rules.fixed in (
         record {
-          none_waits = ap (λ (x : RoutineView). x.pending) known ∙ ap (option_map out_in) (asked_unsent w id c held consistent.held);
+          none_waits = ap (λ (x : RoutineView). x.pending) known ∙ ap (option_map out_in) (unsent.asked w id c held consistent.held);
           room = omega (arith, less, room, spare);
           in_range = in_range f.1 (planned_count w.routes w.counts (first_reader u.route)) (law.position w c u.route (call_of g.routine f) next u.at consistent) most;
           needed = subst (λ (p : ℕ × ℕ). p.0 ≤ p.1) (ap₂ (λ (x : ℕ) (y : ℕ). (x, y)) (sym (ap messages_needed kind)) (sym messages)) needed;

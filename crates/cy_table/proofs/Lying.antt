@@ -13,7 +13,9 @@ use Rattle.cy_table.specs.declared.part.Part.{Part}
 use Rattle.cy_table.specs.declared.part.Part.TheVariants as part
 use Rattle.cy_table.specs.Layout.{number_of, yes_or_no}
 use Rattle.cy_table.specs.Seats.{Seat, Seen, no_seat}
-use Rattle.cy_table.specs.Rule.{Rooms, AreRoomy, Rules, Knows, IsEmpty, AreSeen, Kept, AtHome, OutWith, LiesOpen, spread, routine_in, visitor_in, tape_in, routine_of, visitor_of, hand_of, routine_at, visitor_at, tape_at, total_live}
+use Rattle.cy_table.specs.Seats.{IsEmpty, AreSeen, total_live}
+use Rattle.cy_table.specs.Shown.{Rooms, AreRoomy, Kept, AtHome, OutWith, LiesOpen, spread, routine_in, visitor_in, tape_in, routine_of, visitor_of, hand_of, routine_at, visitor_at, tape_at}
+use Rattle.cy_table.specs.Rule.{Rules, Knows}
 use Rattle.cy_table.specs.Steps.{Sits, first_seat, at_rest}
 use Rattle.cy_table.proofs.Places.{place, is_word, home_is}
 use Rattle.cy_table.proofs.Holding.{routine_back}

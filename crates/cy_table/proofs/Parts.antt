@@ -14,7 +14,8 @@ use Rattle.wake_core.specs.Plain.{hand}
 use Rattle.cy_table.specs.declared.part.Part.TheVariants as part
 use Rattle.cy_table.specs.Layout.{number_of}
 use Rattle.cy_table.specs.Seats.{Seat, Grip, Visit, TapeView}
-use Rattle.cy_table.specs.Rule.{Spread, Home, routine_in, visitor_in, tape_in, routine_of, visitor_of, hand_of, Kept, ShowsParts, ShowsWords, ShowsThreads}
+use Rattle.cy_table.specs.Shown.{Spread, Home, routine_in, visitor_in, tape_in, routine_of, visitor_of, hand_of, Kept}
+use Rattle.cy_table.specs.Rule.{ShowsParts, ShowsWords, ShowsThreads}
 use Rattle.cy_table.proofs.Places.{place, there, other, unseen, shown_still, shown_anew, after}
 use Rattle.cy_table.proofs.Keeping.{stays, has_it, taken, given, turned}
 

@@ -9,7 +9,7 @@ use Rattle.atomic_table.proofs.Lists.{set_here, set_else}
 use Rattle.wake_core.specs.Run.{set_at}
 use Rattle.cy_table.specs.declared.part.Part.{Part}
 use Rattle.cy_table.specs.Seats.{Seat, no_seat}
-use Rattle.cy_table.specs.Rule.{Spread, Home, spread}
+use Rattle.cy_table.specs.Shown.{Spread, Home, spread}
 
 pub place : (k i : ℕ) → (k ≡ i) ⊎ (k ≢ i)
 place k i = elim (eqb_tells k i) [ inl h ↦ inl h.1 | inr h ↦ inr h.1 ]

@@ -20,14 +20,12 @@ use Rattle.wake_core.specs.Plain.{Plain, hand, outs_of, unsent_of}
 use Rattle.wake_core.specs.Events.{IsNext, Tapes, Sends, MaySend as MaySendIn, after_tape, after_send}
 use Rattle.wake_core.specs.Sound.{Consistent}
 use Rattle.wake_core.specs.Laws.{KeepsSound, SendLaws}
-use Rattle.wake_core.proofs.Taping.{played_taped, send_taped, IsUnsent, unsent_is}
-use Rattle.wake_core.proofs.Timing.{played-own, played-other}
-use Rattle.wake_core.proofs.Outputs.{outs_but_last}
-use Rattle.wake_core.proofs.Writers.{writes_own}
+use Rattle.wake_core.specs.TapeLaws.{IsUnsent, UnsentLaws, PutLaws}
 use Rattle.cy_table.specs.declared.part.Part.{Part}
 use Rattle.cy_table.specs.declared.part.Part.TheVariants as part
 use Rattle.cy_table.specs.Seats.{Seat, Grip, TapeView}
-use Rattle.cy_table.specs.Rule.{Rooms, Home, Kept, Shows, ShowsParts, spread, routine_in, routine_of, hand_of, routine_at, visitor_at, tape_at, out_in}
+use Rattle.cy_table.specs.Shown.{Rooms, Home, Kept, spread, routine_in, routine_of, hand_of, routine_at, visitor_at, tape_at, out_in}
+use Rattle.cy_table.specs.Rule.{Shows, ShowsParts}
 use Rattle.cy_table.specs.Steps.{Sits, Becomes, with_message, MayTape, taping, MaySend, out_at, output_at, phase_sent, sent_of, sending}
 use Rattle.cy_table.proofs.Places.{other, shown_still, shown_anew, after, spread_gives}
 use Rattle.cy_table.proofs.Parts.{routine_beside, routine_turned, same_words}
@@ -92,9 +90,9 @@ module _ (r : Rooms) (w : Plain) (s : Table Part Seat) (v : Seat) (sits : Sits r
       }
 
   -- The player puts a message there.
-  pub tape_becomes : (x : TapeView) (m : Token) → v.tape ≡ Some x → MayTape v m → (out : List (ℕ × Part)) → KeepsSound (Tapes m)
+  pub tape_becomes : (x : TapeView) (m : Token) → v.tape ≡ Some x → MayTape v m → (out : List (ℕ × Part)) → KeepsSound (Tapes m) → PutLaws
       → Becomes r (Tapes m) w (stepped s 3 0 0 ((0, part.Tape (with_message x m)) ∷ out) (taping v m) gives)
-  tape_becomes x m has may out keep =
+  tape_becomes x m has may out keep put =
       let t = spread s in
       let x' : TapeView = with_message x m in
       let back : Home = some (some (part.Tape x')) in
@@ -117,7 +115,7 @@ module _ (r : Rooms) (w : Plain) (s : Table Part Seat) (v : Seat) (sits : Sits r
         player = λ ne. absurd (ne refl);
       } in
       let kept : (d : ℕ) → d < length w.routes → Kept (routine_in (h (2 * d + 1))) (set_at 3 0 t.word (4 * d + 4)) (λ j. routine_of d (set_at 0 v' t.seat j).hand) (routine_at r w' d) = λ d less.
-      subst (λ (y : RoutineView). Kept (routine_in (h (2 * d + 1))) (set_at 3 0 t.word (4 * d + 4)) (λ j. routine_of d (set_at 0 v' t.seat j).hand) y) (ap (as_taped r w d) (sym (played_taped w m un d)))
+      subst (λ (y : RoutineView). Kept (routine_in (h (2 * d + 1))) (set_at 3 0 t.word (4 * d + 4)) (λ j. routine_of d (set_at 0 v' t.seat j).hand) y) (ap (as_taped r w d) (sym (put.no_output w m un d)))
       (routine_beside sits.rules.shows.parts 3 0 0 v' h d less (other 3 0 t.word (4 * d + 4) (λ e. omega arith)) (other 0 back t.home (2 * d + 1) (λ e. omega arith)) (ap (λ (u : Seat). routine_of d u.hand) (sym at))) in
       let shows : Shows r w' (after t 3 0 0 v' h) = record {
         parts = subst (λ (y : TapeView). ShowsParts (length w.routes) y (routine_at r w') (visitor_at r w') (after t 3 0 0 v' h)) (ap (λ (y : TapeView). with_message y m) known)
@@ -144,7 +142,7 @@ module _ (r : Rooms) (w : Plain) (s : Table Part Seat) (v : Seat) (sits : Sits r
               calls = k.calls;
               past = k.past;
               closes = k.closes;
-              player = λ z. (ap (λ (l : List Token). l ++ m ∷ []) (k.player z).0 ∙ sym (played-own w.routes w.tape m un), (k.player z).1, (k.player z).2);
+              player = λ z. (ap (λ (l : List Token). l ++ m ∷ []) (k.player z).0 ∙ sym (put.played w.routes w.tape m un), (k.player z).1, (k.player z).2);
             };
       }
 
@@ -158,26 +156,26 @@ module _ (r : Rooms) (w : Plain) (s : Table Part Seat) (id : ℕ) (v : Seat) (si
       may.sends
 
   -- The output that waits is the last of the component's outputs.
-  pub number_known : (g : Grip) (o : Out) → v.hand ≡ Some g → g.routine.pending ≡ Some o
+  pub number_known : UnsentLaws → (g : Grip) (o : Out) → v.hand ≡ Some g → g.routine.pending ≡ Some o
       → length (on_channel (out_at v.routes g.croutine) w.tape) + 1 ≡ length (outs (out_at v.routes g.croutine) g.routine.calls)
-  number_known g o e pends =
+  number_known law g o e pends =
       let c : ℕ = g.croutine in
       let routine_is : g.routine ≡ routine_at r w c = routine_known r w s id v sits g e in
       let by : IsShownBy (unsent_of w c) o = shown_by (unsent_of w c) o (sym (ap (λ (y : RoutineView). y.pending) routine_is) ∙ pends) in
-      let u : IsUnsent w c by.from = unsent_is w c by.from by.is in
+      let u : IsUnsent w c by.from = law.next w c by.from by.is in
       let channel_is : out_at v.routes c ≡ u.route.out =
       ap (λ (l : List Route). out_at l c) ((mine r w s id v sits).made sits.live).0 ∙ ap (λ (x : Option Route). option_map_or (λ (y : Route). y.out) x 0) u.at in
       let but_last = sits.rules.sound.consistent.delivered.but_last c u.route u.at in
-      let few = outs_but_last u.route.out (w.calls c) in
+      let few = law.one u.route.out (w.calls c) in
       let more = slice_get_within (outs u.route.out (w.calls c)) (length (on_channel u.route.out w.tape)) by.from u.next in
       let count : length (on_channel u.route.out w.tape) + 1 ≡ length (outs u.route.out (w.calls c)) = omega (arith, but_last, few, more) in
       subst (λ channel. length (on_channel channel w.tape) + 1 ≡ length (outs channel g.routine.calls)) (sym channel_is) (count ∙ ap (λ (y : RoutineView). length (outs u.route.out y.calls)) (sym routine_is))
 
   -- A holder puts its output there.
-  pub send_becomes : (g : Grip) (x : TapeView) (o : Out) → v.hand ≡ Some g → v.tape ≡ Some x → g.routine.pending ≡ Some o → MaySend v g → (out : List (ℕ × Part)) → SendLaws
+  pub send_becomes : (g : Grip) (x : TapeView) (o : Out) → v.hand ≡ Some g → v.tape ≡ Some x → g.routine.pending ≡ Some o → MaySend v g → (out : List (ℕ × Part)) → SendLaws → UnsentLaws → PutLaws
       → Becomes r (Sends id g.croutine (phase_sent g.phase) (output_at v.routes g.croutine x.messages o)) w
       (stepped s 3 0 id ((0, part.Tape (with_message x (output_at v.routes g.croutine x.messages o))) ∷ out) (sending v g (output_at v.routes g.croutine x.messages o)) gives)
-  send_becomes g x o e has pends may out law =
+  send_becomes g x o e has pends may out law unsent_law put =
       let t = spread s in
       let c : ℕ = g.croutine in
       let next : Phase = phase_sent g.phase in
@@ -195,19 +193,18 @@ module _ (r : Rooms) (w : Plain) (s : Table Part Seat) (id : ℕ) (v : Seat) (si
       let known : x ≡ tape_at r w = tape_known r w s id v sits x has in
       let routine_is : g.routine ≡ routine_at r w c = routine_known r w s id v sits g e in
       let by : IsShownBy (unsent_of w c) o = shown_by (unsent_of w c) o (sym (ap (λ (y : RoutineView). y.pending) routine_is) ∙ pends) in
-      let u : IsUnsent w c by.from = unsent_is w c by.from by.is in
+      let u : IsUnsent w c by.from = unsent_law.next w c by.from by.is in
       let m_is : m ≡ by.from = ap₂ (λ (l : List Route) (ms : List Token). output_at l c ms o) made.0 (ap (λ (y : TapeView). y.messages) known) ∙ output_is w c o by u in
       let unsent : unsent_of w c ≡ Some m = by.is ∙ ap Some (sym m_is) in
-      let written : writes_from 0 w.routes m.channel ≡ Some c = ap (λ (y : Token). writes_from 0 w.routes y.channel) m_is ∙ (ap (writes_from 0 w.routes) u.its ∙ writes_own consistent.wired c u.route u.at) in
+      let written : writes_from 0 w.routes m.channel ≡ Some c = put.written w c m unsent consistent.wired in
       let sends = may_send g e may in
-      let taped = send_taped id c next m w sends unsent consistent.wired in
       let all : unsent_of w' c ≡ None = law.all id c next m w sends unsent consistent in
       let happens : Sends id c next m w w' = record { owes = owes_known r w s id v sits may.owes; held = sends; unsent = unsent; effect = refl } in
       let grows : Grows w.routes w.tape w'.tape w.clock w.clock w.calls w.calls w.closing w.closing id = record {
         rises = omega arith;
         begins = λ d. take-length (w.calls d);
         closes = λ z. z;
-        player = λ ne. (played-other w.routes w.tape m c written, refl, refl);
+        player = λ ne. (put.not_played w.routes w.tape m c written, refl, refl);
       } in
       let shows : Shows r w' (after t 3 0 id v' h) = record {
         parts = subst (λ (y : TapeView). ShowsParts (length w.routes) y (routine_at r w') (visitor_at r w') (after t 3 0 id v' h)) (ap (λ (y : TapeView). with_message y m) known)
@@ -215,7 +212,7 @@ module _ (r : Rooms) (w : Plain) (s : Table Part Seat) (id : ℕ) (v : Seat) (si
             (λ d less. routine_turned sits.rules.shows.parts 3 0 id v' h (routine_at r w') g (sent_of g) (hand_is r w s id v sits g e) refl refl
             (ap (λ (y : RoutineView). let z : RoutineView = record y { pending = None } in z) routine_is
             ∙ ap (λ (p : Option Out). let z : RoutineView = record (routine_at r w c) { pending = p } in z) (sym (ap (option_map out_in) all)))
-            (λ b ne. ap (as_taped r w b) (sym (taped.other b ne)))
+            (λ b ne. ap (as_taped r w b) (sym (put.others w c m unsent consistent.wired b ne)))
             d less (other 3 0 t.word (4 * d + 4) (λ z. omega arith)) (other 0 back t.home (2 * d + 1) (λ z. omega arith))));
         words = same_words 3 0 (tape_others 0 t.word) sits.rules.shows.words;
         threads = record {
@@ -239,6 +236,6 @@ module _ (r : Rooms) (w : Plain) (s : Table Part Seat) (id : ℕ) (v : Seat) (si
               calls = k.calls;
               past = k.past;
               closes = k.closes;
-              player = λ z. ((k.player z).0 ∙ sym (played-other w.routes w.tape m c written), (k.player z).1, (k.player z).2);
+              player = λ z. ((k.player z).0 ∙ sym (put.not_played w.routes w.tape m c written), (k.player z).1, (k.player z).2);
             };
       }

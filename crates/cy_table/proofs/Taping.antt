@@ -12,7 +12,8 @@ use Rattle.wake_core.specs.Events.{Sends}
 use Rattle.cy_table.specs.declared.part.Part.{Part}
 use Rattle.cy_table.specs.declared.part.Part.TheVariants as part
 use Rattle.cy_table.specs.Seats.{Seat, Grip, TapeView}
-use Rattle.cy_table.specs.Rule.{Rooms, Ruled}
+use Rattle.cy_table.specs.Shown.{Rooms}
+use Rattle.cy_table.specs.Rule.{Ruled}
 use Rattle.cy_table.specs.Steps.{Sits, Becomes, entering, MayTape, with_message, taping, MaySend, out_at, output_at, phase_sent, sending}
 use Rattle.cy_table.specs.Laws.{TapeDoorSwaps, TapeStores, RoomsLeft}
 use Rattle.cy_table.specs.Plays.{Thread, in_hand, MayPut, entered, last_token, last_put, taped, sent}

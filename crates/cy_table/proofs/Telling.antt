@@ -15,7 +15,8 @@ use Rattle.cy_table.specs.declared.part.Part.{Part}
 use Rattle.cy_table.specs.Layout.{number_of, yes_or_no}
 use Rattle.cy_table.specs.Seats.{Seat, Grip}
 use Rattle.cy_table.specs.Seats.Entry.{Clock, Closing}
-use Rattle.cy_table.specs.Rule.{Rooms, Rules, Shows, ShowsWords, spread, routine_of, hand_of}
+use Rattle.cy_table.specs.Shown.{Rooms, spread, routine_of, hand_of}
+use Rattle.cy_table.specs.Rule.{Rules, Shows, ShowsWords}
 use Rattle.cy_table.specs.Steps.{Sits, Becomes, MaySpend, spending, looking, clearing_but, seeing, ticking, heeding, closing_all}
 use Rattle.cy_table.proofs.Places.{place, there, other, unseen, shown_still, shown_anew, word_is, is_word, after, spread_keeps}
 use Rattle.cy_table.proofs.Parts.{DoorsStay, OthersStay, same_words, parts_same, state_doors, threads_hand, threads_still}

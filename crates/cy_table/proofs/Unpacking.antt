@@ -6,6 +6,7 @@ use mathlib.Core.Option.{some, some-injective, some-ne-none}
 use lib.ListN.{get_elem?}
 use Rattle.atomic_table.specs.Table.{Final, Seen}
 use Rattle.cy_msg.specs.declared.token.Token.{Token}
+use Rattle.cy_msg.specs.Tokens.{on_channel}
 use Rattle.cy_fuse.specs.Visitor.{VisitorView}
 use Rattle.cy_comp.specs.declared.kind.Kind.TheVariants.{Pass}
 use Rattle.cy_comp.specs.declared.call.Call.{Call}
@@ -21,14 +22,16 @@ use Rattle.wake_core.specs.Fields.{read, no_routine, no_visitor, IsFixed, IsVisi
 use Rattle.wake_core.specs.WorldOf.{routes_in, counts_in}
 use Rattle.wake_core.specs.WorldCalls.{IsRoutineOf}
 use Rattle.wake_core.specs.Laws.{IsIdle, ThreadLaws, OutsideLaws, AgreesWithin, SaysNothing}
+use Rattle.wake_core.specs.TapeLaws.{UnsentLaws}
 use Rattle.wake_core.specs.Rest.{at_rest}
 use Rattle.wake_core.specs.Parts.{routine_in, shown_by, AreFit}
-use Rattle.wake_core.proofs.Outputs.{outs_at}
 use Rattle.cy_table.specs.declared.part.Part.{Part}
 use Rattle.cy_table.specs.declared.part.Part.TheVariants as part
 use Rattle.cy_table.specs.Layout.{yes_or_no}
 use Rattle.cy_table.specs.Seats.{Seat, Seen as Sight, TapeView}
-use Rattle.cy_table.specs.Rule.{Rooms, Ruled, AreRoomy, AreSeen, Knows, IsEmpty, out_in, pending_at, routine_at, visitor_at, tape_at}
+use Rattle.cy_table.specs.Seats.{AreSeen, IsEmpty}
+use Rattle.cy_table.specs.Shown.{Rooms, AreRoomy, out_in, pending_at, routine_at, visitor_at, tape_at}
+use Rattle.cy_table.specs.Rule.{Ruled, Knows}
 use Rattle.cy_table.specs.Steps.{Sits}
 use Rattle.cy_table.specs.Plays.{HasSeen}
 use Rattle.cy_table.specs.Laws.{TableEnds}
@@ -293,23 +296,24 @@ module _ {routes : List Route} {counts : List ℕ} {v : Seat} {words : List ℕ}
       (threads.replaced e.world (at_rest e.world) e.idle (λ j. record { hand = refl; owes = record { filled = refl; looked = refl; cleared = refl } }) refl e.sound)
 
   -- An unsent output has the number behind those that were sent.
-  waits_as : (c : ℕ) (x : Route) → slice_get e.world.routes c ≡ Some x → unsent_of e.world c ≡ option_map (output x.out (taped_of e.world.routes e.world.tape c + 1)) (pending_at e.world c)
-  waits_as c x at = by (unsent_of e.world c) refl
+  waits_as : UnsentLaws → (c : ℕ) (x : Route) → slice_get e.world.routes c ≡ Some x → unsent_of e.world c ≡ option_map (output x.out (taped_of e.world.routes e.world.tape c + 1)) (pending_at e.world c)
+  waits_as law c x at = by (unsent_of e.world c) refl
     where
       numbered : (t : Token) → unsent_of e.world c ≡ Some t → t ≡ output x.out (taped_of e.world.routes e.world.tape c + 1) (out_in t)
       numbered t is =
-          let there : slice_get (outs x.out (e.world.calls c)) (taped_of e.world.routes e.world.tape c) ≡ Some t =
-          ap (λ (o : Option Route). slice_get (option_map_or (λ (y : Route). outs y.out (e.world.calls c)) o []) (taped_of e.world.routes e.world.tape c)) (sym at) ∙ is in
-          let h = outs_at x.out (e.world.calls c) (taped_of e.world.routes e.world.tape c) t there in
-          ap₂ (λ (m : ℕ) (n : ℕ). output m n (out_in t)) h.its h.number
+          let u = law.next e.world c t is in
+          let own : u.route.out ≡ x.out = ap (λ (o : Option Route). option_map_or (λ (y : Route). y.out) o 0) (sym u.at ∙ at) in
+          let behind : length (on_channel u.route.out e.world.tape) ≡ taped_of e.world.routes e.world.tape c =
+          ap (λ (o : Option Route). length (option_map_or (λ (y : Route). on_channel y.out e.world.tape) o [])) (sym u.at) in
+          ap₂ (λ (m : ℕ) (n : ℕ). output m n (out_in t)) (u.its ∙ own) (u.number ∙ ap (λ n. n + 1) behind)
 
       by : (o : Option Token) → unsent_of e.world c ≡ o → o ≡ option_map (output x.out (taped_of e.world.routes e.world.tape c + 1)) (option_map out_in o)
       by None is = refl
       by (Some t) is = ap Some (numbered t is)
 
-  its_routines : (c : ℕ) → c < length e.world.routes → IsRoutineOf c mended (routine_in p c)
+  its_routines : UnsentLaws → (c : ℕ) → c < length e.world.routes → IsRoutineOf c mended (routine_in p c)
   unfolding shown_by
-  its_routines c less =
+  its_routines law c less =
       let is = its_routine c less in
       record {
         kind = λ x at. ap (λ (r : RoutineView). r.kind) is ∙ ap (λ (o : Option Route). option_map_or (λ (y : Route). y.kind) o Pass) at;
@@ -319,7 +323,7 @@ module _ {routes : List Route} {counts : List ℕ} {v : Seat} {words : List ℕ}
             let calls : (routine_in p c).calls ≡ e.world.calls c = ap (λ (r : RoutineView). r.calls) is in
             let outs_same : option_map_or (λ (y : Route). outs y.out (routine_in p c).calls) (slice_get e.world.routes c) [] ≡ option_map_or (λ (y : Route). outs y.out (e.world.calls c)) (slice_get e.world.routes c) [] =
             ap (λ (cs : List Call). option_map_or (λ (y : Route). outs y.out cs) (slice_get e.world.routes c) []) calls in
-            ap (λ (l : List Token). slice_get l (taped_of e.world.routes e.world.tape c)) outs_same ∙ waits_as c x at
+            ap (λ (l : List Token). slice_get l (taped_of e.world.routes e.world.tape c)) outs_same ∙ waits_as law c x at
             ∙ ap (option_map (output x.out (taped_of e.world.routes e.world.tape c + 1))) (sym (ap (λ (r : RoutineView). r.pending) is));
       }
 
@@ -344,13 +348,13 @@ module _ {routes : List Route} {counts : List ℕ} {v : Seat} {words : List ℕ}
       within : (c : ℕ) (x : Route) → slice_get e.world.routes c ≡ Some x → c < length e.world.routes
       within c x at = Rattle.std.proofs.lemmas.Option.slice_get_within e.world.routes c x at
 
-  pub parts_fit : ThreadLaws → OutsideLaws → AreFit p
+  pub parts_fit : ThreadLaws → OutsideLaws → UnsentLaws → AreFit p
   unfolding shown_by
-  parts_fit threads outside = record {
+  parts_fit threads outside unsent = record {
     routines_fit = taken.routines_many ∙ sym (ap length fr);
     visitors_fit = taken.visitors_many ∙ sym (ap length fr);
     spent_fit = taken.spent_many ∙ sym (ap length fr);
-    routines = λ c less. subst (λ (u : Plain). IsRoutineOf c u (routine_in p c)) (sym same) (its_routines c (omega (arith, less, ap length routes_same)));
+    routines = λ c less. subst (λ (u : Plain). IsRoutineOf c u (routine_in p c)) (sym same) (its_routines unsent c (omega (arith, less, ap length routes_same)));
     visited = subst (λ (l : List Route). IsVisited l (counts_in p.fixed) (read (λ v. v) no_visitor p.visitors)) (sym routes_same)
         (subst (λ (l : List ℕ). IsVisited e.world.routes l (read (λ v. v) no_visitor p.visitors)) (sym counts_same) visited_as);
     played = rest.played;

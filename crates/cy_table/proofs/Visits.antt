@@ -14,7 +14,8 @@ use Rattle.wake_core.specs.Plain.{Plain}
 use Rattle.cy_table.specs.declared.part.Part.{Part}
 use Rattle.cy_table.specs.declared.part.Part.TheVariants as part
 use Rattle.cy_table.specs.Seats.{Seat, Grip, Visit}
-use Rattle.cy_table.specs.Rule.{Rooms, Ruled, roles_at, queue_at}
+use Rattle.cy_table.specs.Shown.{Rooms, roles_at, queue_at}
+use Rattle.cy_table.specs.Rule.{Ruled}
 use Rattle.cy_table.specs.Steps.{Sits, visiting, filling, called, fetching}
 use Rattle.cy_table.specs.Laws.{VisitorDoorSwaps, FillStores, FetchStores, RoomsLeft}
 use Rattle.cy_table.specs.Plays.{Thread, in_hand, VisitTells, visited, first_fill, later_fills, filled, finding, fetched}

@@ -8,7 +8,8 @@ use Rattle.wake_core.specs.Plain.{blank, to_play_from}
 use Rattle.wake_core.specs.Laws.{with_idle}
 use Rattle.cy_table.specs.declared.part.Part.{Part}
 use Rattle.cy_table.specs.Seats.{Seat, no_seat}
-use Rattle.cy_table.specs.Rule.{Ruled, IsEmpty}
+use Rattle.cy_table.specs.Seats.{IsEmpty}
+use Rattle.cy_table.specs.Rule.{Ruled}
 use Rattle.cy_table.specs.Steps.{Sits, seeing, ticking, heeding, closing_all, looking, clearing_but, splitting, split_off, joining}
 use Rattle.cy_table.specs.Laws.{ClockSteps, ClosingSteps, StateLoads, FlagStores, BenchSteps}
 use Rattle.cy_table.specs.Plays.{Thread, but_first, but_last, saw, ticked, heeded, closed, looked, cleared}

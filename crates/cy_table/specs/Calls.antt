@@ -20,7 +20,8 @@ use Rattle.cy_table.specs.declared.hold.Hold.{Hold}
 use Rattle.cy_table.specs.declared.table.FlagTable.{FlagTable}
 use Rattle.cy_table.specs.Layout.{routine_slot, visitor_slot, tape_slot}
 use Rattle.cy_table.specs.Seats.{Seat, TapeView}
-use Rattle.cy_table.specs.Rule.{IsEmpty, roles_at, queue_at}
+use Rattle.cy_table.specs.Seats.{IsEmpty}
+use Rattle.cy_table.specs.Shown.{roles_at, queue_at}
 use Rattle.cy_comp.specs.declared.state.State.{State}
 use Rattle.cy_table.specs.Steps.{visiting, entering, fetching, MayTape, MaySend, sending, out_at}
 use Rattle.cy_table.specs.Steps.{MayReady, readying, MaySpend, spending, seeing}

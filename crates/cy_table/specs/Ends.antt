@@ -20,7 +20,8 @@ use Rattle.cy_table.specs.declared.table.ends.Taken.{Taken}
 use Rattle.cy_table.specs.Layout.{clock_word, closing_word, tape_door, hold_word, state_word}
 use Rattle.cy_table.specs.Layout.{flag_word, visitor_door, tape_slot, routine_slot, visitor_slot}
 use Rattle.cy_table.specs.Layout.{words_for, slots_for, number_of, yes_or_no}
-use Rattle.cy_table.specs.Rule.{Rooms, IsEmpty, routine_at, visitor_at, tape_at}
+use Rattle.cy_table.specs.Seats.{IsEmpty}
+use Rattle.cy_table.specs.Shown.{Rooms, routine_at, visitor_at, tape_at}
 use Rattle.cy_table.specs.Plays.{HasSeen, seat_for}
 use Rattle.cy_table.specs.Calls.{made_of, thread_of, seat_of, IsPlayer}
 
@@ -36,10 +37,10 @@ pub record IsLast (t : FlagTable) (p : Pass) : Type 0 where
   pub alone : (seat_of p).split ≡ 0
   pub empty : IsEmpty (seat_of p)
 
--- A world that a table leaves to the player: one at rest, for the components and counts of the world
--- that the table was made of; with the played messages, the clock and the closing that the player
--- knows; and each component with all calls that the player has seen, those of the passes that were
--- joined among them.
+-- A world that a table leaves to the player: one at rest, for the components and counts of the
+-- world that the table was made of; with the played messages, the clock and the closing that the
+-- player knows; and each component with all calls that the player has seen, those of the passes
+-- that were joined among them.
 pub record IsLeft (t : FlagTable) (p : Pass) (w : Plain) : Type 0 where
   pub routes : w.routes ≡ (made_of t).routes
   pub counts : w.counts ≡ (made_of t).counts

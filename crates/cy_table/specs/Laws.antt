@@ -29,8 +29,9 @@ use Rattle.cy_table.specs.Layout.{clock_word, closing_word, hold_word, state_wor
 use Rattle.cy_table.specs.Layout.{tape_door, visitor_door, tape_slot, routine_slot}
 use Rattle.cy_table.specs.Layout.{visitor_slot, number_of}
 use Rattle.cy_table.specs.Seats.{Seat, Seen, Grip, Visit, TapeView, no_seat}
-use Rattle.cy_table.specs.Rule.{Rooms, AreRoomy, AreSeen, LiesOpen, Rules, IsEmpty, routine_at}
-use Rattle.cy_table.specs.Rule.{visitor_at, tape_at}
+use Rattle.cy_table.specs.Seats.{AreSeen, IsEmpty}
+use Rattle.cy_table.specs.Shown.{Rooms, AreRoomy, LiesOpen, routine_at, visitor_at, tape_at}
+use Rattle.cy_table.specs.Rule.{Rules}
 use Rattle.cy_table.specs.Steps.{Sits, Becomes, acquiring, failing, MayReady, readying, MayAsk}
 use Rattle.cy_table.specs.Steps.{asking, MayYield, next_state, yielding, MayRelease, releasing}
 use Rattle.cy_table.specs.Steps.{MaySpend, spending, looking, clearing_but, seeing, ticking}

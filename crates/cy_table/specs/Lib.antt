@@ -1,5 +1,6 @@
 pub mod Layout
 pub mod Seats
+pub mod Shown
 pub mod Rule
 pub mod Steps
 pub mod Laws

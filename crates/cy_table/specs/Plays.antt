@@ -21,7 +21,8 @@ use Rattle.cy_table.specs.declared.part.Part.TheVariants as part
 use Rattle.cy_table.specs.Layout.{hold_word, routine_slot, visitor_door, visitor_slot}
 use Rattle.cy_table.specs.Layout.{tape_slot}
 use Rattle.cy_table.specs.Seats.{Seat, Seen, Grip, Visit, TapeView}
-use Rattle.cy_table.specs.Rule.{Ruled, roles_at, queue_at}
+use Rattle.cy_table.specs.Shown.{roles_at, queue_at}
+use Rattle.cy_table.specs.Rule.{Ruled}
 use Rattle.cy_table.specs.Steps.{acquiring, failing, releasing, asking, yielding, first_seat}
 use Rattle.cy_table.specs.Steps.{visiting, filling, called, fetching, entering, MayTape, taping}
 use Rattle.cy_table.specs.Steps.{sending, readying, spending, seeing}

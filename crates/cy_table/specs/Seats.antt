@@ -1,5 +1,5 @@
 -- What a thread at the table knows: plain data, which each of its steps changes.
-use Rattle.std.specs.Prelude.{ℕ, Bool, false, List, [], Option, None}
+use Rattle.std.specs.Prelude.{ℕ, ◌+◌, ◌≡◌, Bool, false, List, [], ◌∷◌, length, take, Option, None}
 use Rattle.cy_msg.specs.declared.token.Token.{Token}
 use Rattle.cy_fuse.specs.Visitor.{VisitorView}
 use Rattle.cy_comp.specs.declared.call.Call.{Call}
@@ -92,3 +92,22 @@ idle_seat routes counts seen live = record {
 -- No seat: that of a thread which was joined, or never came.
 abbrev pub no_seat : Seat
 no_seat = idle_seat [] [] [] 0
+
+-- Calls that were seen begin those that the component has now.
+abbrev pub AreSeen : (ℕ → List Call) → List Seen → Type 0
+AreSeen calls [] = Unit {0}
+AreSeen calls (x ∷ rest) =
+    (take (length x.calls) (calls x.component) ≡ x.calls) × AreSeen calls rest
+
+-- A seat has nothing and owes nothing.
+pub record IsEmpty (v : Seat) : Type 0 where
+  pub hand : v.hand ≡ None
+  pub visit : v.visit ≡ None
+  pub tape : v.tape ≡ None
+  pub fills : v.fills ≡ []
+  pub news : v.news ≡ []
+  pub clearing : v.clearing ≡ []
+
+abbrev pub total_live : List Seat → ℕ
+total_live [] = 0
+total_live (v ∷ rest) = v.live + total_live rest

@@ -26,7 +26,8 @@ use Rattle.wake_core.specs.Events.{IsDue, phase_after_spend, state_after}
 use Rattle.cy_table.specs.declared.part.Part.{Part}
 use Rattle.cy_table.specs.Seats.{Seat, Seen, Grip, TapeView, Entry, idle_seat}
 use Rattle.cy_table.specs.Seats.Entry.{Busy, Found, Clock, Closing}
-use Rattle.cy_table.specs.Rule.{Rooms, Rules}
+use Rattle.cy_table.specs.Shown.{Rooms}
+use Rattle.cy_table.specs.Rule.{Rules}
 
 -- A seat that is not joined, at a table that shows a world.
 pub record Sits (r : Rooms) (w : Plain) (s : Table Part Seat) (id : ℕ) (v : Seat) : Type 0 where

@@ -90,6 +90,8 @@ pub fn tape_stores()
 {
     laws::tape();
     laws::send();
+    laws::unsent();
+    laws::put();
 }
 
 /// The store of a visitor's door after a fetch makes a call, or finds nothing.
@@ -97,6 +99,8 @@ pub fn fetch_stores()
     ensures { FetchStores }
 {
     laws::fetch();
+    laws::found();
+    laws::unsent();
 }
 
 /// A seat that is split off, or joined, changes nothing.
@@ -112,6 +116,7 @@ pub fn rooms_left()
 {
     laws::room();
     laws::found();
+    laws::unsent();
 }
 
 /// At its start a table shows the world that it is made of, and at its end one that is at rest.

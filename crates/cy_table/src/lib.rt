@@ -1,10 +1,10 @@
 //! The world of a run as words and slots, which threads change step by step.
 //!
 //! `specs/Layout` says which word and which slot is whose, `specs/Seats` what a thread at the table
-//! knows, `specs/Rule` what words, slots and threads show between any two steps: one plain world of
-//! `wake_core`, of which all holds that holds of a run. `specs/Steps` says what each kind of step
-//! leaves, and the laws of `specs/Laws` that each step is one event of that world, or none; they
-//! are the contracts of [`laws`].
+//! knows, `specs/Shown` what shows which part of a world, and `specs/Rule` that words, slots and
+//! threads show between any two steps one plain world of `wake_core`, of which all holds that holds
+//! of a run. `specs/Steps` says what each kind of step leaves, and the laws of `specs/Laws` that
+//! each step is one event of that world, or none; they are the contracts of [`laws`].
 #![tactic(auto)]
 
 mod counted_routine;

@@ -14,7 +14,8 @@ use Rattle.wake_core.specs.Rest.{IsAtRest}
 use Rattle.wake_core.specs.Turns.{Delivers, Delivered, Plays, IsInHand, IsCalled, IsCalledFrom, MaySendOut, MayGiveBack, GivesBack, SendsOut, Resumes, Finds, is_held}
 use Rattle.wake_core.proofs.Places.{set_at_same, set_at_there}
 use Rattle.wake_core.proofs.Playing.{plays_by}
-use Rattle.wake_core.proofs.Sending.{output_written, delivered_by}
+use Rattle.wake_core.proofs.Taping.{send_written}
+use Rattle.wake_core.proofs.Sending.{delivered_by}
 use Rattle.wake_core.proofs.Resuming.{held_resumes, none_resumes}
 use Rattle.wake_core.proofs.Called.{called_by, called_quiet, called_sent}
 use Rattle.wake_core.proofs.Taking.{takes_hand, passes_rest}
@@ -58,7 +59,7 @@ module _ (t : Token) (w m : Plain) (rest : IsAtRest w) (next : IsNext t w) (tick
 -- An output of the croutine in hand may be sent.
 module _ (t : Token) (w : Plain) (may : MaySendOut t w) (s : Sound w) where
   out_written : writes_from 0 w.routes t.channel ≡ Some (in_hand 0 w)
-  out_written = output_written w (in_hand 0 w) t may.sends.unsent s.consistent
+  out_written = send_written w (in_hand 0 w) t may.sends.unsent s.consistent.wired
 
   some_none : (n : ℕ) → Some n ≡ None → ⊥
   some_none n e = cc

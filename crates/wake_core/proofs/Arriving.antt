@@ -1,5 +1,5 @@
 -- How much comes to a reader, and to a component.
-use Rattle.std.proofs.Common.{ℕ, zero, suc, ◌+◌, ◌≡◌, ◌≤◌, ◌<◌, refl, arith, ap, List, [], ◌∷◌, length, slice_get, Option, Some, None, take, map, sum, le_trans}
+use Rattle.std.proofs.Common.{ℕ, zero, suc, ◌+◌, ◌≡◌, ◌≤◌, ◌<◌, refl, arith, ap, List, [], ◌∷◌, length, slice_get, Some, take, map, sum, le_trans}
 use Rattle.std.proofs.lemmas.List.{length-take}
 use Rattle.std.proofs.lemmas.List.Sums.{sum_by-cons}
 use Rattle.cy_msg.specs.declared.token.Token.{Token}

@@ -1,9 +1,9 @@
 -- What a world begins with.
-use Rattle.std.proofs.Common.{ℕ, zero, suc, ◌+◌, ◌-◌, ◌*◌, ◌≡◌, ◌≢◌, ◌≤◌, ◌<◌, Bool, true, false, refl, sym, ◌∙◌, ap, subst, inl, inr, arith, Option, Some, None, List, [], ◌∷◌, ◌++◌, length, map, sum, replicate, get_or, slice_get, slice_index, drop, max, min, vec_capacity, option_map, unwrap_or}
+use Rattle.std.proofs.Common.{ℕ, zero, suc, ◌+◌, ◌-◌, ◌*◌, ◌≡◌, ◌≤◌, ◌<◌, Bool, true, false, refl, sym, ◌∙◌, ap, subst, inl, inr, arith, Option, Some, None, List, [], ◌∷◌, ◌++◌, length, map, sum, replicate, slice_get, slice_index, drop, max, min, option_map, unwrap_or}
 use Rattle.std.specs.Option.{option_map_or}
 use mathlib.Core.Path.{fun_ext}
-use Rattle.std.proofs.lemmas.List.{length-map, length-append, length-replicate, drop_all}
-use Rattle.std.proofs.lemmas.Option.{slice_get_within, slice_get-map}
+use Rattle.std.proofs.lemmas.List.{length-append, length-replicate, drop_all}
+use Rattle.std.proofs.lemmas.Option.{slice_get-map}
 use Rattle.cy_msg.specs.declared.token.Token.{Token}
 use Rattle.cy_msg.specs.Tokens.{on_channel}
 use Rattle.cy_fuse.specs.Fusion.{Arrival}
@@ -14,11 +14,11 @@ use Rattle.cy_comp.specs.Calls.{cursor_after, outs, output}
 use Rattle.cy_comp.specs.Routine.{RoutineView, new_routine}
 use Rattle.wake_core.specs.declared.found.Found.{Found}
 use Rattle.wake_core.specs.declared.owed.Owed.{Owed}
-use Rattle.wake_core.specs.Run.{Route, route_of, routes_of, readers_of, played_of}
+use Rattle.wake_core.specs.Run.{Route, route_of, readers_of, played_of}
 use Rattle.wake_core.specs.Planned.{planned, planned_count, counts_from, first_reader}
-use Rattle.wake_core.specs.Plain.{Plain, Hand, hand, Phase, State, Ready, blank, taped_of, opening_world}
+use Rattle.wake_core.specs.Plain.{Plain, Hand, hand, Phase, State, Ready, blank, opening_world}
 use Rattle.wake_core.specs.Sound.{IsWired, Sound}
-use Rattle.wake_core.specs.Fields.{read, no_visitor, no_routine, shown_calls, calls_at, fills_of, plain_at, queue_of, IsSized, IsFlagged, IsStepping, IsWaiting, IsVisited, IsRoomy, IsOwing, AreOwing}
+use Rattle.wake_core.specs.Fields.{read, no_visitor, no_routine, shown_calls, calls_at, fills_of, plain_at, queue_of, IsFlagged, IsStepping, IsWaiting, IsVisited, IsRoomy, IsOwing, AreOwing}
 use Rattle.wake_core.specs.Opening.{first_visitor, first_routine, IsNothing, AreNothing}
 use Rattle.wake_core.proofs.Runs.{opening_sound}
 use Rattle.wake_core.proofs.Listing.{get_snoc}

@@ -1,15 +1,14 @@
 -- Sums over components and channels, from one to the next.
-use Rattle.std.proofs.Common.{ℕ, zero, suc, ◌+◌, ◌-◌, ◌*◌, ◌≡◌, ◌≢◌, ◌≤◌, ◌<◌, ◌==◌, Bool, true, false, refl, sym, ◌∙◌, ap, inl, inr, arith, Option, Some, None, List, [], ◌∷◌, length, map, sum, slice_get, slice_index, get_or, drop, cond, position, option_map}
+use Rattle.std.proofs.Common.{ℕ, zero, suc, ◌+◌, ◌-◌, ◌≡◌, ◌≤◌, ◌<◌, ◌==◌, Bool, true, false, refl, sym, ◌∙◌, ap, arith, Option, Some, None, List, [], ◌∷◌, length, map, sum, slice_get, slice_index, get_or, drop, cond, position, option_map}
 use Rattle.std.specs.List.{position_or_len, fold}
 use Rattle.std.specs.Prelude.{nat_lt}
-use Rattle.std.proofs.lemmas.Bool.Decides.{eqb_tells, nat_tests}
-use Rattle.std.proofs.lemmas.List.{drop_all}
+use Rattle.std.proofs.lemmas.Bool.Decides.{nat_tests}
 use Rattle.std.proofs.lemmas.List.Quantifiers.{position-Some}
-use Rattle.std.proofs.lemmas.Option.{slice_get_within, slice_get-map, slice_get_read, slice_get-get_or}
+use Rattle.std.proofs.lemmas.Option.{slice_get-map, slice_get_read, slice_get-get_or}
 use Rattle.cy_comp.specs.declared.plan.Plan.{Plan}
 use Rattle.cy_comp.specs.Wiring.{IsWiring, writer_from}
 use Rattle.wake_core.specs.Run.{Route, route_of, routes_of, writes_from}
-use Rattle.wake_core.specs.Planned.{planned_count, source_of, source_after, first_reader, counts_from}
+use Rattle.wake_core.specs.Planned.{planned_count, source_of, source_after, counts_from}
 use Rattle.wake_core.proofs.Writers.{source_root}
 use Rattle.wake_core.proofs.Rooted.{writes_from-routes, source_of-writer}
 

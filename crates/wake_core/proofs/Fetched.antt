@@ -1,21 +1,19 @@
 -- What a fetch by a visitor is in a world.
-use Rattle.std.proofs.Common.{ℕ, ◌+◌, ◌-◌, ◌≡◌, ◌≢◌, ◌≤◌, ◌<◌, Bool, true, false, refl, sym, ◌∙◌, ap, ap₂, subst, inl, inr, arith, Option, Some, None, List, [], ◌∷◌, ◌++◌, length, slice_get, option_map, option_and_then, ◌==◌, ◌||◌, if◌then◌else◌, nat_lt, nat_le, min, max}
+use Rattle.std.proofs.Common.{ℕ, ◌+◌, ◌-◌, ◌≡◌, ◌≢◌, ◌≤◌, Bool, true, false, refl, sym, ◌∙◌, ap, ap₂, arith, Option, Some, None, List, length, slice_get, option_map, option_and_then, ◌==◌, ◌||◌, if◌then◌else◌, nat_lt, nat_le, min, max}
 use Rattle.std.proofs.lemmas.Bool.Decides.{nat_tests}
 use Rattle.cy_msg.specs.declared.token.Tuple.{Tuple}
 use Rattle.cy_fuse.specs.Fusion.{fused}
 use Rattle.cy_fuse.specs.Fetch.{fetch}
 use Rattle.cy_fuse.specs.Visitor.{VisitorView, visited}
-use Rattle.cy_comp.specs.declared.kind.Kind.{Kind}
 use Rattle.cy_comp.specs.declared.call.Call.{Call}
-use Rattle.cy_comp.specs.Step.{outcome_after, out_of}
-use Rattle.cy_comp.specs.Calls.{tuples_of}
-use Rattle.cy_comp.specs.Routine.{RoutineView, answer_to}
+use Rattle.cy_comp.specs.Routine.{RoutineView}
 use Rattle.wake_core.specs.Run.{Route}
 use Rattle.wake_core.specs.Planned.{planned_count, first_reader}
-use Rattle.wake_core.specs.Plain.{Plain, tail_at}
+use Rattle.wake_core.specs.Plain.{Plain}
 use Rattle.wake_core.specs.Events.{call_on, next_call}
 use Rattle.wake_core.specs.Sound.{Consistent}
 use Rattle.wake_core.specs.Fields.{queue_of}
+use Rattle.wake_core.specs.Laws.{call_of}
 use Rattle.wake_core.proofs.Arriving.{fused_planned}
 
 -- A buffer that keeps as many items as ever come answers as one that keeps more.
@@ -38,10 +36,6 @@ same_ring index tail queue few some l = by (tail == 0) (nat_lt tail index) (inde
     by false false false false false ea eb ec ed ee = refl
     by false false false true false ea eb ec ed ee = absurd (grind (arith, nat_tests, ec, ed, ee, more))
     by false false false false true ea eb ec ed ee = absurd (grind (arith, nat_tests, ec, ed, ee, less))
-
--- The call that a tuple makes which a fetch found, with its position and the tail.
-abbrev pub call_of : RoutineView → (Tuple × ℕ × ℕ) → Call
-call_of r f = record { position = f.1; tail = f.2; tuple = f.0; out = out_of (answer_to r f.0) }
 
 -- What a fetch finds, mapped to the calls that it makes.
 mapped : (r : RoutineView) (tuples : List Tuple) (o : Option ℕ)

@@ -1,5 +1,5 @@
 -- What a fetch finds in a world, over its fields.
-use Rattle.std.proofs.Common.{ℕ, ◌≡◌, ◌≢◌, ◌≤◌, ◌<◌, ◌∷◌, ◌++◌, refl, sym, ◌∙◌, ap, arith, Option, Some, None, List, [], length, get_or, option_map, slice_get}
+use Rattle.std.proofs.Common.{ℕ, ◌≡◌, ◌<◌, ◌∷◌, ◌++◌, sym, ◌∙◌, ap, arith, Option, Some, None, List, [], length, get_or, option_map}
 use Rattle.cy_msg.specs.declared.token.Tuple.{Tuple}
 use Rattle.cy_fuse.specs.Visitor.{VisitorView, visited}
 use Rattle.cy_comp.specs.declared.call.Call.{Call}
@@ -7,14 +7,15 @@ use Rattle.cy_comp.specs.Calls.{cursor_after}
 use Rattle.cy_comp.specs.Routine.{RoutineView}
 use Rattle.wake_core.specs.declared.world.World.{World}
 use Rattle.wake_core.specs.declared.found.Found.{Found}
-use Rattle.wake_core.specs.Plain.{Plain, hand, Asked}
+use Rattle.wake_core.specs.Plain.{hand, Asked}
 use Rattle.wake_core.specs.Events.{next_call}
 use Rattle.wake_core.specs.WorldOf.{plain_of, to_step}
 use Rattle.wake_core.specs.WorldCalls.{in_hand, MayFetch}
 use Rattle.wake_core.specs.Fields.{read, no_visitor, no_routine, shown_calls}
 use Rattle.wake_core.proofs.Arriving.{there}
 use Rattle.wake_core.proofs.Reading.{read_is}
-use Rattle.wake_core.proofs.Fetched.{call_of, next_visited}
+use Rattle.wake_core.specs.Laws.{call_of}
+use Rattle.wake_core.proofs.Fetched.{next_visited}
 use Rattle.wake_core.proofs.Shown.{calls_stepped, asked_unsent, asked_stepped, none_waiting}
 
 -- A croutine that asks, and the routine and the visitor of its component.

@@ -1,5 +1,5 @@
 -- What the arrival of a message at a reader comes to.
-use Rattle.std.proofs.Common.{ℕ, zero, suc, ◌+◌, ◌-◌, ◌*◌, ◌≡◌, ◌≢◌, ◌≤◌, ◌<◌, ◌==◌, Bool, true, false, if◌then◌else◌, refl, sym, ◌∙◌, ap, inl, inr, arith, Option, Some, None, List, [], ◌∷◌, ◌++◌, length, length-append, get_or, set, slice_get, drop, map, sum}
+use Rattle.std.proofs.Common.{ℕ, zero, suc, ◌+◌, ◌-◌, ◌≡◌, ◌≤◌, ◌<◌, ◌==◌, Bool, true, false, if◌then◌else◌, refl, sym, ◌∙◌, ap, inl, inr, arith, Option, Some, None, List, [], ◌∷◌, ◌++◌, length, length-append, get_or, set, slice_get, drop, map, sum}
 use Rattle.std.proofs.lemmas.Option.{slice_get_within}
 use Rattle.cy_msg.specs.declared.token.Token.{Token}
 use Rattle.cy_fuse.specs.Fusion.{Arrival}
@@ -10,10 +10,9 @@ use Rattle.wake_core.specs.Run.{Route, set_at, readers_of}
 use Rattle.wake_core.specs.Planned.{planned_count}
 use Rattle.wake_core.specs.Plain.{Plain, blank, reads, lists_reader}
 use Rattle.wake_core.specs.Events.{Fills, after_fill}
-use Rattle.wake_core.specs.WorldCalls.{MayFill}
 use Rattle.wake_core.specs.Owing.{FilledFirst, MayFillFirst}
-use Rattle.wake_core.specs.Fields.{read, no_visitor, fills_of, IsOwing, IsVisited, IsRoomy}
-use Rattle.wake_core.specs.Sound.{Sound, Consistent}
+use Rattle.wake_core.specs.Fields.{read, fills_of, IsOwing, IsVisited, IsRoomy}
+use Rattle.wake_core.specs.Sound.{Sound}
 use Rattle.wake_core.proofs.Places.{place, set_at_there, set_at_other}
 use Rattle.wake_core.proofs.Reading.{read-set, read-set_same, read_is, read_within}
 use Rattle.wake_core.proofs.Readers.{lists_reader_first}

@@ -1,5 +1,5 @@
 -- Acquire flags, and components that are still to be stepped, when a hand changes.
-use Rattle.std.proofs.Common.{ℕ, ◌≡◌, ◌≢◌, ◌<◌, Bool, true, false, refl, sym, ◌∙◌, ap, inl, inr, arith, Option, Some, None}
+use Rattle.std.proofs.Common.{ℕ, ◌≡◌, ◌≢◌, Bool, true, refl, sym, ◌∙◌, ap, inl, inr, arith, Option, Some, None}
 use Rattle.wake_core.specs.declared.found.Found.{Found}
 use Rattle.wake_core.specs.Run.{set_at}
 use Rattle.wake_core.specs.Plain.{Hand, hand, Phase, Fresh, Running}

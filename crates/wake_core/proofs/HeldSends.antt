@@ -14,7 +14,8 @@ use Rattle.wake_core.specs.Events.{MaySend}
 use Rattle.wake_core.specs.Sound.{Consistent, IsOutput, WasHeld, Timely}
 use Rattle.wake_core.proofs.Listing.{take_next}
 use Rattle.wake_core.proofs.Outputs.{put_out, put_out_one, outs_push, outs_take, last_at}
-use Rattle.wake_core.proofs.Taping.{IsUnsent, unsent_is, unsent_less}
+use Rattle.wake_core.specs.TapeLaws.{IsUnsent}
+use Rattle.wake_core.proofs.Taping.{unsent_is, unsent_less}
 
 -- An output that was held back, with its time.
 pub record IsHeldTo (outcome : Outcome) (out : Out) : Type 0 where

@@ -1,5 +1,5 @@
 -- How many messages a tuple has that was fused.
-use Rattle.std.proofs.Common.{ℕ, zero, suc, ◌+◌, ◌-◌, ◌≡◌, ◌≤◌, Bool, true, false, refl, sym, ◌∙◌, ap, inl, inr, arith, List, [], ◌∷◌, ◌++◌, length, Some, None, Option, slice_get, ◌==◌, if◌then◌else◌, option_map, option_and_then, option_to_list}
+use Rattle.std.proofs.Common.{ℕ, zero, suc, ◌-◌, ◌≡◌, ◌≤◌, Bool, true, false, refl, sym, ◌∙◌, ap, inl, inr, arith, List, [], ◌∷◌, ◌++◌, length, Some, None, Option, slice_get, ◌==◌, if◌then◌else◌, option_map, option_and_then, option_to_list}
 use Rattle.cy_msg.specs.declared.token.Token.{Token}
 use Rattle.cy_msg.specs.declared.token.Tuple.{Tuple}
 use Rattle.cy_msg.specs.Tuple.{messages_of}

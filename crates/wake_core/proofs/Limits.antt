@@ -1,7 +1,7 @@
 -- What is planned is within the limit, part by part.
-use Rattle.std.proofs.Common.{ℕ, zero, suc, ◌+◌, ◌≡◌, ◌≤◌, ◌<◌, inl, inr, refl, sym, ap, ◌∙◌, arith, List, [], ◌∷◌, length, map, sum, slice_get, Some}
+use Rattle.std.proofs.Common.{ℕ, zero, suc, ◌+◌, ◌≤◌, ◌<◌, inl, inr, arith, List, length}
 use Rattle.wake_core.specs.Run.{Route}
-use Rattle.wake_core.specs.Planned.{planned, planned_count, counts_from, first_reader}
+use Rattle.wake_core.specs.Planned.{planned, planned_count, counts_from}
 use Rattle.wake_core.proofs.Places.{place}
 
 pub counts_in : (routes : List Route) (counts : List ℕ) (first more channel : ℕ) → first ≤ channel → channel < first + more → planned_count routes counts channel ≤ counts_from routes counts first more

@@ -1,7 +1,7 @@
 -- What a look and a clearing leave of what a thread owes.
-use Rattle.std.proofs.Common.{ℕ, zero, suc, ◌+◌, ◌-◌, ◌*◌, ◌≡◌, ◌≢◌, ◌≤◌, ◌<◌, ◌==◌, ◌||◌, Bool, true, false, if◌then◌else◌, refl, sym, ◌∙◌, ap, inl, inr, arith, Option, Some, None, List, [], ◌∷◌, ◌++◌, length, get_or, set, slice_get, take, drop, remove, position, cond, vec_capacity, option_and_then, unwrap_or, subst}
+use Rattle.std.proofs.Common.{ℕ, zero, suc, ◌+◌, ◌-◌, ◌≡◌, ◌≢◌, ◌≤◌, ◌<◌, ◌==◌, ◌||◌, Bool, true, false, if◌then◌else◌, refl, sym, ◌∙◌, ap, inl, inr, arith, Option, Some, None, List, [], ◌∷◌, ◌++◌, length, get_or, set, slice_get, take, drop, remove, position, vec_capacity, option_and_then, unwrap_or, subst}
 use Rattle.std.specs.List.{position_or_len}
-use Rattle.std.proofs.lemmas.Bool.Decides.{eqb_tells, nat_tests}
+use Rattle.std.proofs.lemmas.Bool.Decides.{nat_tests}
 use Rattle.std.proofs.lemmas.List.{length-append}
 use Rattle.std.proofs.lemmas.List.Quantifiers.{position-Some}
 use Rattle.std.proofs.lemmas.Option.{slice_get_within, slice_get-get_or}
@@ -9,8 +9,8 @@ use Rattle.cy_msg.specs.declared.token.Token.{Token}
 use Rattle.wake_core.specs.declared.owed.Owed.{Owed}
 use Rattle.wake_core.specs.Run.{Route, set_at, readers_of}
 use Rattle.wake_core.specs.Plain.{Plain, lists, blank, reads}
-use Rattle.wake_core.specs.Events.{Looks, Clears, is_waiting, after_look, after_clear}
-use Rattle.wake_core.specs.WorldCalls.{MayLook, MayClear}
+use Rattle.wake_core.specs.Events.{Looks, Clears, after_look, after_clear}
+use Rattle.wake_core.specs.WorldCalls.{MayLook}
 use Rattle.wake_core.specs.Fields.{read, fills_of, IsOwing, AreOwing}
 use Rattle.wake_core.specs.Sound.{Sound}
 use Rattle.wake_core.specs.Owing.{MayLookAt, LookedAt, IsTakenOut}

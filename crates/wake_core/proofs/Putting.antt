@@ -14,7 +14,7 @@ use Rattle.wake_core.specs.Plain.{Plain}
 use Rattle.wake_core.specs.Sound.{Consistent}
 use Rattle.wake_core.proofs.Outputs.{last_push, outs_few}
 use Rattle.wake_core.proofs.Listing.{get_last}
-use Rattle.wake_core.proofs.Taping.{IsUnsent}
+use Rattle.wake_core.specs.TapeLaws.{IsUnsent}
 use Rattle.wake_core.proofs.MoreCalls.{outs-push, length_outs-push}
 
 outs_after_none : (channel before : ℕ) (calls : List Call) (x : Call) → x.out ≡ None → outs_after channel before (calls ++ x ∷ []) ≡ outs_after channel before calls

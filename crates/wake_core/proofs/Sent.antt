@@ -1,18 +1,16 @@
 -- What a message that comes onto the tape changes.
-use Rattle.std.proofs.Common.{ℕ, zero, suc, ◌+◌, ◌-◌, ◌*◌, ◌≡◌, ◌≢◌, ◌≤◌, ◌<◌, ◌==◌, Bool, true, false, cond, refl, sym, ◌∙◌, ap, subst, inl, inr, arith, Option, Some, None, is_some, List, [], ◌∷◌, ◌++◌, length, length-append, get_or, set, slice_get, drop, filter, not, option_map}
+use Rattle.std.proofs.Common.{ℕ, suc, ◌+◌, ◌-◌, ◌*◌, ◌≡◌, ◌≤◌, ◌<◌, ◌==◌, Bool, true, false, cond, refl, sym, ◌∙◌, ap, inl, inr, arith, Option, Some, None, is_some, List, [], ◌∷◌, ◌++◌, length, length-append, get_or, set, slice_get, drop, filter, not, option_map}
 use Rattle.std.proofs.lemmas.Option.{slice_get_within}
 use Rattle.cy_msg.specs.declared.token.Token.{Token}
-use Rattle.cy_msg.specs.Tokens.{on_channel}
 use Rattle.cy_fuse.specs.Visitor.{VisitorView}
 use Rattle.cy_comp.specs.declared.call.Call.{Call}
 use Rattle.cy_comp.specs.declared.call.Out.{Out}
-use Rattle.cy_comp.specs.Calls.{cursor_after, outs, output}
+use Rattle.cy_comp.specs.Calls.{cursor_after, outs}
 use Rattle.cy_comp.specs.Routine.{RoutineView}
 use Rattle.wake_core.specs.declared.owed.Owed.{Owed}
 use Rattle.wake_core.specs.declared.found.Found.{Found}
 use Rattle.wake_core.specs.Run.{Route, set_at, roles_of, readers_from, readers_of, writes_from, played_of}
-use Rattle.wake_core.specs.Planned.{planned_count, first_reader}
-use Rattle.wake_core.specs.Plain.{Plain, Hand, hand, State, Ready, Phase, blank, taped_of, outs_of}
+use Rattle.wake_core.specs.Plain.{Plain, Hand, hand, State, Phase, blank, taped_of, outs_of}
 use Rattle.wake_core.specs.Events.{Tapes, Sends, after_tape, after_send}
 use Rattle.wake_core.specs.Owing.{HasToFill}
 use Rattle.wake_core.specs.Fields.{read, no_routine, shown_calls, calls_at, fills_of, IsOwing, IsWaiting, IsRoomy}

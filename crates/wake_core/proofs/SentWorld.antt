@@ -1,31 +1,28 @@
 -- A message that comes onto the tape of a world, over its fields.
-use Rattle.std.proofs.Common.{ℕ, ◌+◌, ◌≡◌, ◌≢◌, ◌≤◌, ◌<◌, ◌∷◌, ◌++◌, Bool, true, refl, sym, ◌∙◌, ap, inl, inr, arith, Option, Some, None, is_some, List, [], length, get_or, set, drop, length-append, option_map, slice_get, vec_capacity}
+use Rattle.std.proofs.Common.{ℕ, ◌+◌, ◌≡◌, ◌<◌, ◌∷◌, ◌++◌, Bool, true, refl, sym, ◌∙◌, ap, arith, Option, Some, None, is_some, List, [], length, get_or, set, drop, length-append, option_map, vec_capacity}
 use Rattle.std.specs.Option.{option_map_or}
 use Rattle.cy_msg.specs.declared.token.Token.{Token}
-use Rattle.cy_comp.specs.Calls.{cursor_after, output}
+use Rattle.cy_comp.specs.Calls.{cursor_after}
 use Rattle.cy_comp.specs.Routine.{RoutineView}
 use Rattle.wake_core.specs.declared.world.World.{World}
 use Rattle.wake_core.specs.declared.found.Found.{Found}
 use Rattle.wake_core.specs.declared.owed.Owed.{Owed}
 use Rattle.wake_core.specs.declared.entries.TheConstants.{MOST_PLANNED}
-use Rattle.wake_core.specs.Run.{Route, set_at, readers_of, writes_from, played_of}
-use Rattle.wake_core.specs.Plain.{Plain, Hand, hand, Ready, Phase, Known, Running, blank, taped_of, unsent_of}
+use Rattle.wake_core.specs.Run.{set_at, readers_of, writes_from, played_of}
+use Rattle.wake_core.specs.Plain.{Hand, hand, Ready, Phase, Running, blank}
 use Rattle.wake_core.specs.Events.{Tapes, Sends, after_tape, after_send}
 use Rattle.wake_core.specs.Owing.{HasToFill}
 use Rattle.wake_core.specs.WorldOf.{plain_of, to_step}
 use Rattle.wake_core.specs.WorldCalls.{phase_sent}
 use Rattle.wake_core.specs.Fields.{read, no_visitor, no_routine, fills_of, calls_at, IsFlagged, IsStepping, IsWaiting, IsRoomy, AreOwing}
-use Rattle.wake_core.specs.Sound.{Sound}
 use Rattle.wake_core.proofs.Arriving.{there, planned_messages}
 use Rattle.wake_core.proofs.Reading.{read-set, read-set_same, read_is, read_within, hands_set}
 use Rattle.wake_core.proofs.Flags.{phase_flags, hand_stepping}
 use Rattle.wake_core.proofs.Shown.{calls_stepped, waiting_unsent}
 use Rattle.wake_core.proofs.Listing.{get_last}
-use Rattle.wake_core.proofs.Writers.{writes_own}
-use Rattle.wake_core.proofs.Taping.{message_room, send_room, send_taped, send_all, unsent_is, played_taped}
+use Rattle.wake_core.proofs.Taping.{message_room, send_room, send_taped, send_written, send_all, played_taped}
 use Rattle.wake_core.proofs.Totals.{output_room, message_total}
 use Rattle.wake_core.proofs.Timing.{played-own, played-other}
-use Rattle.wake_core.proofs.Sounding.{tape_sound, send_sound}
 use Rattle.wake_core.proofs.Owing.{owing_set, owed_each}
 use Rattle.wake_core.proofs.Sent.{readers_few, taped_few, played_few, sent_owing, fills_sent, news_sent, clearing_sent, tokens_sent, unpended, calls_sent, played_world, sent_world, tapes, sends, played_waiting, sent_waiting, sent_roomy, some_waits}
 
@@ -128,7 +125,7 @@ module _ (s : World) (p : ℕ) (h : Hand) (t : Token) (held : (plain_of s).hands
 
   written : writes_from 0 (plain_of s).routes t.channel ≡ Some h.croutine
   unfolding plain_of
-  written = let u = unsent_is (plain_of s) h.croutine t may.unsent in ap (writes_from 0 s.fixed.routes.items) u.its ∙ writes_own s.sound.consistent.wired h.croutine u.route u.at
+  written = send_written (plain_of s) h.croutine t may.unsent s.sound.consistent.wired
 
   pub send_counted : (tape : List Token) → tape ≡ s.tape.items ++ t ∷ [] → s.played ≡ length (played_of s.fixed.routes.items tape)
   unfolding plain_of
@@ -195,7 +192,7 @@ module _ (s : World) (p : ℕ) (h : Hand) (t : Token) (held : (plain_of s).hands
           unwaits,
           sym its_routine,
           sym (read_is (λ n. n) 0 s.sent.items h.croutine count_sent within sent_at),
-        ) (sent_waiting (plain_of s).calls h.croutine t (send_taped p h.croutine (phase_sent (Some h)) t (plain_of s) may.held may.unsent s.sound.consistent.wired) same_calls may.unsent
+        ) (sent_waiting (plain_of s).calls h.croutine t (send_taped (plain_of s) h.croutine t may.unsent s.sound.consistent.wired) same_calls may.unsent
         (send_all p h.croutine (phase_sent (Some h)) t (plain_of s) may.held may.unsent s.sound.consistent) s.waiting)
 
     pub send_roomy : {capacity : ℕ} → capacity ≡ vec_capacity s.tape → IsRoomy s.fixed.routes.items s.fixed.counts.items (read (λ v. v) no_visitor s.visitors.items) (read (λ r. r) no_routine (set s.routines.items h.croutine routine)) capacity

@@ -1,5 +1,5 @@
 -- What the fields show to readers.
-use Rattle.std.proofs.Common.{ℕ, true, ◌+◌, ◌-◌, ◌≡◌, ◌≢◌, ◌≤◌, ◌<◌, refl, sym, ◌∙◌, ap, arith, Option, Some, None, List, [], ◌∷◌, length, get_or, slice_get, drop, option_map, option_and_then}
+use Rattle.std.proofs.Common.{ℕ, true, ◌+◌, ◌-◌, ◌≡◌, ◌≢◌, ◌≤◌, ◌<◌, refl, sym, ◌∙◌, ap, arith, Option, Some, None, List, [], ◌∷◌, length, get_or, slice_get, option_map, option_and_then}
 use Rattle.std.specs.Option.{option_map_or}
 use Rattle.std.proofs.lemmas.Option.{slice_get_within, slice_get-get_or, slice_get_past}
 use Rattle.cy_msg.specs.declared.token.Token.{Token}
@@ -14,10 +14,10 @@ use Rattle.wake_core.specs.declared.owed.Owed.{Owed}
 use Rattle.wake_core.specs.declared.entries.TheConstants.{MOST_PLANNED}
 use Rattle.wake_core.specs.Run.{Route, readers_of}
 use Rattle.wake_core.specs.Planned.{planned}
-use Rattle.wake_core.specs.Plain.{Plain, outs_of, taped_of, unsent_of, reads, lists_reader}
+use Rattle.wake_core.specs.Plain.{Plain, outs_of, taped_of, reads, lists_reader}
 use Rattle.wake_core.specs.Sound.{Sound}
 use Rattle.wake_core.specs.WorldCalls.{IsRoutineOf}
-use Rattle.wake_core.specs.Fields.{read, no_routine, shown_calls, calls_at, fills_of, IsFixed, IsWaiting, IsOwing}
+use Rattle.wake_core.specs.Fields.{read, no_routine, shown_calls, calls_at, fills_of, IsFixed, IsWaiting}
 use Rattle.wake_core.proofs.Owing.{drop_first}
 use Rattle.wake_core.proofs.Listing.{get_in}
 use Rattle.wake_core.proofs.Readers.{reader_reads, lists_reader_first}

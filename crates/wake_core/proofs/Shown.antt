@@ -1,18 +1,17 @@
 -- What a world shows of calls that are still to be made, and how a fetch changes it.
-use Rattle.std.proofs.Common.{ℕ, ◌+◌, ◌≡◌, ◌≢◌, ◌≤◌, ◌<◌, refl, sym, ◌∙◌, ap, subst, inl, inr, arith, Option, Some, None, List, [], ◌∷◌, ◌++◌, length, set, slice_get, option_map}
+use Rattle.std.proofs.Common.{ℕ, ◌+◌, ◌≡◌, ◌≤◌, ◌<◌, refl, sym, ◌∙◌, ap, inl, inr, arith, Option, Some, None, List, [], ◌∷◌, ◌++◌, length, set, slice_get, option_map}
 use Rattle.std.proofs.lemmas.Option.{slice_get_past}
 use mathlib.Core.Path.{fun_ext}
 use Rattle.cy_msg.specs.declared.token.Token.{Token}
-use Rattle.cy_msg.specs.declared.token.Tuple.{Tuple}
 use Rattle.cy_comp.specs.declared.call.Call.{Call}
 use Rattle.cy_comp.specs.declared.call.Out.{Out}
 use Rattle.cy_comp.specs.Calls.{cursor_after, outs, output}
 use Rattle.cy_comp.specs.Routine.{RoutineView}
 use Rattle.wake_core.specs.declared.found.Found.{Found}
 use Rattle.wake_core.specs.Run.{Route, set_at}
-use Rattle.wake_core.specs.Plain.{Plain, Hand, hand, Phase, Asked, Running, taped_of, made_of, outs_of, unsent_of}
-use Rattle.wake_core.specs.Sound.{HeldIn, NotRunning, Sound}
-use Rattle.wake_core.specs.Events.{Fetches, next_call, after_call, after_none, after_fetch}
+use Rattle.wake_core.specs.Plain.{Plain, Hand, hand, Asked, Running, taped_of, made_of, outs_of, unsent_of}
+use Rattle.wake_core.specs.Sound.{HeldIn}
+use Rattle.wake_core.specs.Events.{Fetches, next_call, after_call, after_fetch}
 use Rattle.wake_core.specs.Fields.{read, no_routine, shown_calls, calls_at, IsWaiting, IsStepping}
 use Rattle.wake_core.proofs.Places.{place, set_at_there, set_at_other, set_at_itself}
 use Rattle.wake_core.proofs.Reading.{read-set}

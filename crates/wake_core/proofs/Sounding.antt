@@ -18,11 +18,11 @@ use Rattle.wake_core.proofs.HeldCalls.{OneTaped}
 use Rattle.wake_core.proofs.Arrived.{fused_other_role}
 use Rattle.wake_core.proofs.Consisting.{none_unsent, acquire_consistent, spend_consistent, ready_consistent, ask_consistent, none_in, none_consistent, yield_consistent, release_consistent, fill_consistent, look_consistent, clear_consistent}
 use Rattle.wake_core.proofs.Making.{call_made, none_made, call_in, call_consistent, sent_few}
-use Rattle.wake_core.proofs.Taping.{played_taped, tape_consistent, unsent_is, send_taped, send_consistent}
+use Rattle.wake_core.proofs.Taping.{played_taped, tape_consistent, send_taped, send_written, send_consistent}
 use Rattle.wake_core.proofs.Waking.{acquire_wakes, spend_wakes, ready_wakes, ask_wakes, none_wakes, call_wakes, send_wakes, fill_wakes, quiet_fill_wakes, look_wakes, clear_wakes, yield_empty_wakes, yield_wakes, release_wakes}
 use Rattle.wake_core.proofs.Timing.{tick_timely, store_timely, call_timely, tape_timely, send_timely}
 use Rattle.wake_core.proofs.HeldSends.{send_past}
-use Rattle.wake_core.proofs.Writers.{unwritten_out, writes_own}
+use Rattle.wake_core.proofs.Writers.{unwritten_out}
 
 pub acquire_sound : (p c : ℕ) (w v : Plain) → Acquires p c w v → Sound w → Sound v
 acquire_sound p c w v e s = subst Sound (sym e.effect) record {
@@ -141,10 +141,10 @@ send_sound p c next t w v e s = subst Sound (sym e.effect) record {
 }
   where
     written : writes_from 0 w.routes t.channel ≡ Some c
-    written = let u = unsent_is w c t e.unsent in ap (writes_from 0 w.routes) u.its ∙ writes_own s.consistent.wired c u.route u.at
+    written = send_written w c t e.unsent s.consistent.wired
 
     fewer : (k : ℕ) → taped_of w.routes w.tape k ≤ taped_of w.routes (w.tape ++ t ∷ []) k
-    fewer k = by (send_taped p c next t w e.held e.unsent s.consistent.wired) (place k c)
+    fewer k = by (send_taped w c t e.unsent s.consistent.wired) (place k c)
       where
         by : OneTaped c (taped_of w.routes w.tape) (taped_of w.routes (w.tape ++ t ∷ [])) → (k ≡ c) ⊎ (k ≢ c) → taped_of w.routes w.tape k ≤ taped_of w.routes (w.tape ++ t ∷ []) k
         by o (inl e) = subst (λ n. taped_of w.routes w.tape n ≤ taped_of w.routes (w.tape ++ t ∷ []) n) (sym e) (one _ _ o.one)

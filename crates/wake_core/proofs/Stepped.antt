@@ -1,26 +1,22 @@
 -- What a step of a component on the tuple that its fetch found comes to.
-use Rattle.std.proofs.Common.{ℕ, zero, suc, ◌+◌, ◌-◌, ◌^◌, ◌≡◌, ◌≢◌, ◌≤◌, ◌<◌, refl, sym, ◌∙◌, ap, subst, inl, inr, arith, Option, Some, None, List, [], ◌∷◌, ◌++◌, length, length-append, set, get_or, slice_get, option_map, le_trans}
+use Rattle.std.proofs.Common.{ℕ, ◌+◌, ◌-◌, ◌≡◌, ◌≢◌, ◌≤◌, ◌<◌, refl, sym, ◌∙◌, ap, inl, inr, arith, Option, Some, None, List, [], ◌∷◌, ◌++◌, length, length-append, set, slice_get, option_map}
 use mathlib.Core.Path.{fun_ext}
 use Rattle.cy_msg.specs.declared.token.Token.{Token}
 use Rattle.cy_msg.specs.declared.token.Tuple.{Tuple}
-use Rattle.cy_msg.specs.Tuple.{messages_of}
-use Rattle.cy_fuse.specs.Fusion.{fused}
 use Rattle.cy_comp.specs.declared.call.Call.{Call}
-use Rattle.cy_comp.specs.declared.call.Out.{Out}
 use Rattle.cy_comp.specs.Calls.{cursor_after, outs, output}
-use Rattle.cy_comp.specs.Routine.{RoutineView, taken, MayTake}
+use Rattle.cy_comp.specs.Routine.{RoutineView, taken}
 use Rattle.wake_core.specs.declared.found.Found.{Found}
 use Rattle.wake_core.specs.Run.{Route, set_at}
 use Rattle.wake_core.specs.Planned.{planned_count, first_reader}
 use Rattle.wake_core.specs.Plain.{Plain, Hand, State}
 use Rattle.wake_core.specs.Fields.{read, no_routine, shown_calls, calls_at, IsWaiting, IsStepping, IsRoomy}
-use Rattle.wake_core.specs.Sound.{NotRunning}
 use Rattle.cy_fuse.specs.Visitor.{VisitorView}
 use Rattle.wake_core.proofs.Places.{place, set_at_there, set_at_other}
 use Rattle.wake_core.proofs.Reading.{read-set}
 use Rattle.wake_core.proofs.Listing.{get_in}
 use Rattle.wake_core.proofs.Outputs.{put_out, outs_push, next_out}
-use Rattle.wake_core.proofs.Fetched.{call_of}
+use Rattle.wake_core.specs.Laws.{call_of}
 
 -- What is shown of the calls stays as it was, since it had the call already.
 pub calls_same : (routines : List RoutineView) (found : List (Option Found)) (c : ℕ) (r : RoutineView) → c < length routines → c < length found

@@ -1,5 +1,5 @@
 -- A component that is to be stepped in a world, over its fields.
-use Rattle.std.proofs.Common.{ℕ, ◌+◌, ◌-◌, ◌^◌, ◌≡◌, ◌≢◌, ◌≤◌, ◌<◌, ◌∷◌, ◌++◌, refl, sym, ◌∙◌, ap, arith, Option, Some, None, List, [], length, length-append, get_or, set, option_map, slice_get, le_trans}
+use Rattle.std.proofs.Common.{ℕ, ◌-◌, ◌^◌, ◌≡◌, ◌≢◌, ◌≤◌, ◌<◌, ◌∷◌, refl, sym, ◌∙◌, ap, arith, Option, Some, None, [], length, length-append, get_or, set, option_map, slice_get, le_trans}
 use Rattle.cy_msg.specs.declared.token.Tuple.{Tuple}
 use Rattle.cy_comp.specs.declared.call.Call.{Call}
 use Rattle.cy_comp.specs.declared.call.Outcome.{Outcome}
@@ -9,9 +9,7 @@ use Rattle.wake_core.specs.declared.found.Found.{Found}
 use Rattle.cy_comp.specs.Step.{outcome_after}
 use Rattle.cy_comp.specs.Calls.{cursor_after, last_outcome, tuples_of}
 use Rattle.wake_core.specs.declared.entries.TheConstants.{MOST_PLANNED}
-use Rattle.wake_core.specs.Planned.{planned_count, first_reader}
-use Rattle.wake_core.specs.Plain.{Plain, Ready, last_of}
-use Rattle.wake_core.specs.Run.{Route}
+use Rattle.wake_core.specs.Plain.{Ready, last_of}
 use Rattle.wake_core.specs.WorldOf.{plain_of, to_step}
 use Rattle.wake_core.specs.WorldCalls.{in_hand, MayStep}
 use Rattle.wake_core.specs.Fields.{read, no_routine, shown_calls, calls_at}
@@ -21,7 +19,7 @@ use Rattle.wake_core.proofs.Listing.{get_last}
 use Rattle.wake_core.proofs.Joining.{fused_messages}
 use Rattle.wake_core.proofs.Fetching.{fetch_bounds}
 use Rattle.wake_core.proofs.Outputs.{last_push}
-use Rattle.wake_core.proofs.Fetched.{call_of}
+use Rattle.wake_core.specs.Laws.{call_of}
 use Rattle.wake_core.proofs.Stepped.{calls_same, stepped_world}
 
 -- A component is to be stepped on what was found.

@@ -1,5 +1,5 @@
 -- A croutine in hand changes its phase, its flag or its state.
-use Rattle.std.proofs.Common.{ℕ, ◌+◌, ◌≡◌, ◌≢◌, ◌≤◌, ◌<◌, Bool, true, false, refl, sym, ◌∙◌, ap, inl, inr, arith, Option, Some, None, List, length, get_or, set, option_map, slice_get, subst}
+use Rattle.std.proofs.Common.{ℕ, ◌+◌, ◌≡◌, ◌≢◌, ◌≤◌, ◌<◌, Bool, true, false, refl, sym, ◌∙◌, ap, inl, inr, arith, Option, Some, None, List, length, set, option_map, slice_get, subst}
 use mathlib.Core.Path.{fun_ext}
 use Rattle.cy_comp.specs.declared.call.Call.{Call}
 use Rattle.cy_msg.specs.declared.token.Token.{Token}
@@ -8,14 +8,13 @@ use Rattle.cy_comp.specs.Calls.{cursor_after, outs, output}
 use Rattle.cy_comp.specs.Routine.{RoutineView}
 use Rattle.wake_core.specs.declared.found.Found.{Found}
 use Rattle.wake_core.specs.Run.{Route, set_at}
-use Rattle.wake_core.specs.Plain.{Plain, Hand, hand, State, Ready, DataWait, Phase, Fresh, Woken, Known, Empty, Running, Sending, Done}
+use Rattle.wake_core.specs.Plain.{Plain, Hand, hand, State, Ready, Phase, Fresh, Woken, Known, Empty, Running, Sending, Done}
 use Rattle.wake_core.specs.Planned.{planned_count, first_reader}
-use Rattle.wake_core.specs.Sound.{Sound}
 use Rattle.wake_core.specs.Events.{Spends, Readies, Asks, Yields, Releases, after_spend, after_ready, after_ask, after_yield, after_release, phase_after_spend}
 use Rattle.wake_core.specs.WorldCalls.{in_hand, MaySpend, MayReady, MayAsk, MayYieldAs, MayRelease, IsStepped}
-use Rattle.wake_core.specs.Fields.{read, no_routine, shown_calls, calls_at, plain_at, IsFlagged, IsStepping, IsWaiting, IsRoomy}
-use Rattle.wake_core.proofs.Places.{place, set_at_there, set_at_other, set_at_itself}
-use Rattle.wake_core.proofs.Reading.{read-set, read_is}
+use Rattle.wake_core.specs.Fields.{read, no_routine, shown_calls, calls_at, IsFlagged, IsStepping, IsWaiting, IsRoomy}
+use Rattle.wake_core.proofs.Places.{place, set_at_there, set_at_other}
+use Rattle.wake_core.proofs.Reading.{read-set}
 use Rattle.wake_core.proofs.Flags.{hand_stepping}
 use Rattle.wake_core.proofs.Holding.{in_hand_is}
 

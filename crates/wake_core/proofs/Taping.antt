@@ -1,5 +1,5 @@
 -- What a message that comes onto the tape keeps.
-use Rattle.std.proofs.Common.{ℕ, ◌+◌, ◌-◌, take, ◌≡◌, ◌≢◌, ◌≤◌, ◌<◌, refl, sym, ◌∙◌, ap, subst, inl, inr, arith, [], ◌∷◌, ◌++◌, length, Some, None, Option, slice_get, slice_index, length-append}
+use Rattle.std.proofs.Common.{ℕ, ◌+◌, ◌-◌, take, ◌≡◌, ◌≢◌, ◌≤◌, ◌<◌, refl, sym, ◌∙◌, ap, subst, inl, inr, arith, List, [], ◌∷◌, ◌++◌, length, Some, None, Option, slice_get, slice_index, length-append}
 use Rattle.std.proofs.lemmas.Option.{slice_get_within, slice_get_past}
 use Rattle.cy_msg.specs.declared.token.Token.{Token}
 use Rattle.cy_msg.specs.Tokens.{on_channel}
@@ -9,6 +9,7 @@ use Rattle.wake_core.specs.Planned.{planned_count, first_reader}
 use Rattle.wake_core.specs.Plain.{Plain, hand, Phase, Known, Running, Sending, made_of, taped_of, outs_of, unsent_of}
 use Rattle.wake_core.specs.Events.{OwesNothing, IsNext, MaySend, after_tape, after_send}
 use Rattle.wake_core.specs.Sound.{HeldIn, Consistent, IsWired, Room}
+use Rattle.wake_core.specs.TapeLaws.{IsUnsent}
 use Rattle.wake_core.proofs.Places.{set_at_there, set_at_itself}
 use Rattle.wake_core.proofs.HeldCalls.{OneTaped, send_running_held, send_held_held, same_taped_held}
 use Rattle.wake_core.proofs.Arrived.{on_channel-own, on_channel-other}
@@ -56,14 +57,6 @@ tape_consistent t w owes next s = record {
     none_some : (c : ℕ) → None ≡ Some c → ⊥
     none_some c e = cc
 
--- Which component's output an unsent one is.
-pub record IsUnsent (w : Plain) (c : ℕ) (t : Token) : Type 0 where
-  pub route : Route
-  pub at : slice_get w.routes c ≡ Some route
-  pub next : slice_get (outs route.out (w.calls c)) (length (on_channel route.out w.tape)) ≡ Some t
-  pub its : t.channel ≡ route.out
-  pub number : t.seq ≡ length (on_channel route.out w.tape) + 1
-
 pub unsent_is : (w : Plain) (c : ℕ) (t : Token) → unsent_of w c ≡ Some t → IsUnsent w c t
 unsent_is w c t e = by (slice_get w.routes c) refl
   where
@@ -89,27 +82,32 @@ send_room w c t is s =
         → length (on_channel u.route.out w.tape) + 1 ≤ planned_count w.routes w.counts (first_reader u.route)
     fits u l = omega (arith, slice_get_within (outs u.route.out (w.calls c)) (length (on_channel u.route.out w.tape)) t u.next, outs_few u.route.out (w.calls c))
 
+-- It is one more of its component's on the tape, and none of another's.
+pub send_taped : (w : Plain) (c : ℕ) (t : Token) → unsent_of w c ≡ Some t → IsWired w.routes w.counts → OneTaped c (taped_of w.routes w.tape) (taped_of w.routes (w.tape ++ t ∷ []))
+send_taped w c t is wired =
+    let u = unsent_is w c t is in
+    record {
+      one = rw u.at (ap length (on_channel-own u.route.out w.tape t u.its) ∙ length-append (on_channel u.route.out w.tape) (t ∷ []));
+      other = λ k apart. by u k apart (slice_get w.routes k) refl;
+    }
+  where
+    by : IsUnsent w c t → (k : ℕ) → k ≢ c → (o : Option Route) → slice_get w.routes k ≡ o → taped_of w.routes (w.tape ++ t ∷ []) k ≡ taped_of w.routes w.tape k
+    by u k apart None at = rw at refl
+    by u k apart (Some x) at = rw at (ap length (on_channel-other x.out w.tape t (λ e. apart (wired.own_outs k c x u.route at u.at (sym e ∙ u.its)))))
+
+-- Its channel is written by that component.
+pub send_written : {counts : List ℕ} (w : Plain) (c : ℕ) (t : Token) → unsent_of w c ≡ Some t → IsWired w.routes counts → writes_from 0 w.routes t.channel ≡ Some c
+send_written w c t is wired = let u = unsent_is w c t is in ap (writes_from 0 w.routes) u.its ∙ writes_own wired c u.route u.at
+
 module _ (p c : ℕ) (next : Phase) (t : Token) (w : Plain) (held : MaySend p c next w) (is : unsent_of w c ≡ Some t) where
   pub unsent_less : taped_of w.routes w.tape c < made_of w.routes w.calls c
   unsent_less = slice_get_within (outs_of w.routes w.calls c) (taped_of w.routes w.tape c) t is
 
-  pub send_taped : IsWired w.routes w.counts → OneTaped c (taped_of w.routes w.tape) (taped_of w.routes (w.tape ++ t ∷ []))
-  send_taped wired =
-      let u = unsent_is w c t is in
-      record {
-        one = rw u.at (ap length (on_channel-own u.route.out w.tape t u.its) ∙ length-append (on_channel u.route.out w.tape) (t ∷ []));
-        other = λ k apart. by u k apart (slice_get w.routes k) refl;
-      }
-    where
-      by : IsUnsent w c t → (k : ℕ) → k ≢ c → (o : Option Route) → slice_get w.routes k ≡ o → taped_of w.routes (w.tape ++ t ∷ []) k ≡ taped_of w.routes w.tape k
-      by u k apart None at = rw at refl
-      by u k apart (Some x) at = rw at (ap length (on_channel-other x.out w.tape t (λ e. apart (wired.own_outs k c x u.route at u.at (sym e ∙ u.its)))))
-
   pub send_in : IsWired w.routes w.counts → HeldIn w → HeldIn (after_send p c next t w)
   send_in wired h = elim held [
     | inl r ↦ let same : w.hands ≡ set_at p (hand c next) w.hands = rw r.2 (sym (ap (λ x. set_at p x w.hands) (sym r.0) ∙ set_at_itself p w.hands)) in
-        subst (λ hands. HeldIn (record (after_tape p t w) { hands = hands })) same (send_running_held p c r.0 r.1 unsent_less (send_taped wired) h)
-    | inr k ↦ rw k.2 (send_held_held p c k.0 k.1 unsent_less (send_taped wired) h)
+        subst (λ hands. HeldIn (record (after_tape p t w) { hands = hands })) same (send_running_held p c r.0 r.1 unsent_less (send_taped w c t is wired) h)
+    | inr k ↦ rw k.2 (send_held_held p c k.0 k.1 unsent_less (send_taped w c t is wired) h)
   ]
 
   -- The phase in which the component is in hand.
@@ -119,7 +117,7 @@ module _ (p c : ℕ) (next : Phase) (t : Token) (w : Plain) (held : MaySend p c 
   pub send_consistent : OwesNothing p w → Consistent w → Consistent (after_send p c next t w)
   send_consistent owes s =
       let u = unsent_is w c t is in
-      let written : writes_from 0 w.routes t.channel ≡ Some c = ap (writes_from 0 w.routes) u.its ∙ writes_own s.wired c u.route u.at in
+      let written : writes_from 0 w.routes t.channel ≡ Some c = send_written w c t is s.wired in
       let alone : (q : ℕ) → q ≢ p → w.fills q ≢ [] → (w.tokens q).channel ≢ t.channel = λ q other some same.
       let not : (f : Phase) → w.hands q ≡ hand c f → ⊥ = λ f e. other (s.held.one c q p f its_hand.0 e its_hand.1) in
       not Sending (s.delivered.holder q c some (ap (writes_from 0 w.routes) same ∙ written) (not Running)) in
@@ -158,7 +156,7 @@ module _ (p c : ℕ) (next : Phase) (t : Token) (w : Plain) (held : MaySend p c 
   pub send_all : Consistent w → unsent_of (after_send p c next t w) c ≡ None
   send_all s =
       let u = unsent_is w c t is in
-      let one = send_taped s.wired in
+      let one = send_taped w c t is s.wired in
       let few : length (outs u.route.out (w.calls c)) ≤ length (on_channel u.route.out w.tape) + 1 = at_most u (s.delivered.but_last c u.route u.at) in
       let made_few : made_of w.routes w.calls c ≤ taped_of w.routes w.tape c + 1 = rw u.at few in
       ap (slice_get (outs_of w.routes w.calls c)) one.one ∙ slice_get_past (outs_of w.routes w.calls c) (taped_of w.routes w.tape c + 1) made_few

@@ -1,9 +1,8 @@
 -- What the fields of a world show, and what holds of them.
-use Rattle.std.specs.Prelude.{ℕ, zero, suc, ◌+◌, ◌-◌, ◌*◌, ◌≡◌, ◌≢◌, ◌≤◌, ◌<◌, Bool, true, false}
+use Rattle.std.specs.Prelude.{ℕ, ◌+◌, ◌-◌, ◌*◌, ◌≡◌, ◌≢◌, ◌≤◌, ◌<◌, Bool, true, false}
 use Rattle.std.specs.Prelude.{List, [], length, map, sum, drop, get_or, max, min, Option, Some}
 use Rattle.std.specs.Prelude.{None, option_map, slice_get, vec_capacity}
 use Rattle.cy_msg.specs.declared.token.Token.{Token}
-use Rattle.cy_msg.specs.declared.token.Tuple.{Tuple}
 use Rattle.cy_fuse.specs.Visitor.{VisitorView, prepared}
 use Rattle.cy_comp.specs.declared.kind.Kind.TheVariants.{Pass}
 use Rattle.cy_comp.specs.declared.call.Call.{Call}
@@ -15,7 +14,7 @@ use Rattle.wake_core.specs.declared.owed.Owed.{Owed}
 use Rattle.wake_core.specs.declared.entries.TheConstants.{MOST_PLANNED}
 use Rattle.wake_core.specs.Run.{Route, readers_of}
 use Rattle.wake_core.specs.Planned.{planned, planned_count, counts_from, first_reader}
-use Rattle.wake_core.specs.Plain.{Plain, Hand, State, Ready, blank, taped_of}
+use Rattle.wake_core.specs.Plain.{Plain, Hand, Ready, blank, taped_of}
 use Rattle.wake_core.specs.Events.{IsFree}
 use Rattle.wake_core.specs.Sound.{NotRunning}
 

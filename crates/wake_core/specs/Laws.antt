@@ -3,12 +3,16 @@
 -- component keeps the calls that it had (`calls`). The first two ask only for the conditions that
 -- they need.
 use Rattle.std.specs.Prelude.{ℕ, ◌≡◌, ◌≢◌, ◌⊎◌, ◌≤◌, ◌<◌, true, List, [], ◌∷◌, ◌++◌, length, take}
-use Rattle.std.specs.Prelude.{map, sum, Some, None, slice_get}
+use Rattle.std.specs.Prelude.{map, sum, Some, None, slice_get, option_map}
 use Rattle.cy_msg.specs.declared.token.Token.{Token}
+use Rattle.cy_msg.specs.declared.token.Tuple.{Tuple}
 use Rattle.cy_msg.specs.Tuple.{messages_of}
 use Rattle.cy_fuse.specs.Fusion.{Arrival}
+use Rattle.cy_fuse.specs.Visitor.{VisitorView, visited}
 use Rattle.cy_comp.specs.declared.call.Call.{Call}
 use Rattle.cy_comp.specs.declared.plan.Plan.{Plan}
+use Rattle.cy_comp.specs.Routine.{RoutineView, answer_to}
+use Rattle.cy_comp.specs.Step.{out_of}
 use Rattle.cy_comp.specs.Wiring.{IsWiring}
 use Rattle.wake_core.specs.declared.entries.TheConstants.{MOST_PLANNED}
 use Rattle.wake_core.specs.Run.{Route, routes_of, set_at, writes_from}
@@ -22,7 +26,7 @@ use Rattle.wake_core.specs.Events.{after_yield, after_release, Acquires, Spends,
 use Rattle.wake_core.specs.Events.{Fetches, Tapes, Sends, Fills, Looks, Clears, Yields, Releases}
 use Rattle.wake_core.specs.Events.{Ticks, Closes}
 use Rattle.wake_core.specs.Sound.{IsWired, StandsOn, HeldIn, Consistent, Sound}
-use Rattle.wake_core.specs.Fields.{IsFixed}
+use Rattle.wake_core.specs.Fields.{IsFixed, queue_of}
 use Rattle.wake_core.specs.LawfulRun.{Lost}
 
 -- An event keeps all that holds of a world.
@@ -270,6 +274,9 @@ pub record RoomLaws : Type 0 where
   pub arrival : (w : Plain) (p v j : ℕ) (x : Route) → lists_reader v j (w.fills p) ≡ true
       → slice_get w.routes v ≡ Some x
       → Consistent w → length (w.arrivals v) < sum (map (planned_count w.routes w.counts) x.readers)
+  pub next_arrival : (w : Plain) (p v j : ℕ) (later : List (ℕ × ℕ)) (x : Route)
+      → w.fills p ≡ (v, j) ∷ later → slice_get w.routes v ≡ Some x
+      → Consistent w → length (w.arrivals v) < sum (map (planned_count w.routes w.counts) x.readers)
   pub call : (w : Plain) (p c : ℕ) (x : Route) (call : Call) → w.hands p ≡ hand c Asked
       → next_call w c ≡ Some call
       → slice_get w.routes c ≡ Some x → Consistent w
@@ -279,8 +286,27 @@ pub record RoomLaws : Type 0 where
 pub record LimitLaws : Type 0 where
   pub tape : (w : Plain) → Consistent w → IsFixed w.routes w.counts → length w.tape ≤ MOST_PLANNED
 
+-- The call that a tuple makes which a fetch found, with its position and the tail.
+abbrev pub call_of : RoutineView → (Tuple × ℕ × ℕ) → Call
+call_of r f = record {
+  position = f.1;
+  tail = f.2;
+  tuple = f.0;
+  out = out_of (answer_to r f.0);
+}
+
+-- A routine and a visitor show the calls and the arrivals of a component.
+pub record ShowsComponent (w : Plain) (c : ℕ) (x : Route) (r : RoutineView) (v : VisitorView)
+    : Type 0 where
+  pub kind : r.kind ≡ x.kind
+  pub calls : r.calls ≡ w.calls c
+  pub arrivals : v.arrivals ≡ w.arrivals c
+  pub roles : v.roles ≡ length x.readers
+  pub queue : v.queue ≡ queue_of w.routes w.counts x
+
 -- What a fetch finds: a tuple with one message of each reader, at a position that is no more than
--- what is planned for the component; and that is no more than a world keeps.
+-- what is planned for the component; and that is no more than a world keeps. It is what the
+-- component's visitor finds.
 pub record FoundLaws : Type 0 where
   pub messages : (w : Plain) (c : ℕ) (x : Route) (call : Call) → next_call w c ≡ Some call
       → slice_get w.routes c ≡ Some x → IsFixed w.routes w.counts
@@ -291,6 +317,9 @@ pub record FoundLaws : Type 0 where
   pub planned : (routes : List Route) (counts : List ℕ) (c : ℕ) (x : Route)
       → slice_get routes c ≡ Some x → IsFixed routes counts
       → planned_count routes counts (first_reader x) ≤ MOST_PLANNED
+  pub visitor : (w : Plain) (c : ℕ) (x : Route) (r : RoutineView) (v : VisitorView)
+      → ShowsComponent w c x r v → slice_get w.routes c ≡ Some x → 1 ≤ x.queue → Consistent w
+      → next_call w c ≡ option_map (call_of r) (visited (w.cursors c) v)
 
 -- A wiring's components are wired, whatever is played.
 pub record WiringLaws : Type 0 where

@@ -7,6 +7,8 @@ pub mod Events
 pub mod Sound
 pub mod LawfulRun
 pub mod Laws
+pub mod TapeLaws
+pub mod Bounds
 pub mod Rest
 pub mod Turns
 pub mod Fields

@@ -8,10 +8,10 @@ use Rattle.cy_msg.specs.declared.token.Tuple.{Tuple}
 use Rattle.cy_comp.specs.Calls.{output}
 use Rattle.cy_comp.specs.Routine.{RoutineView}
 use Rattle.wake_core.specs.Run.{Route, writes_from}
-use Rattle.wake_core.specs.Plain.{Plain, Hand, hand, State, Phase, Fresh, Woken, Known, Asked}
+use Rattle.wake_core.specs.Plain.{Plain, Hand, hand, State, Phase, Known, Asked}
 use Rattle.wake_core.specs.Planned.{planned}
 use Rattle.wake_core.specs.declared.entries.TheConstants.{MOST_PLANNED}
-use Rattle.wake_core.specs.Plain.{Empty, Running, Sending, Done, lists, taped_of, unsent_of}
+use Rattle.wake_core.specs.Plain.{Running, Sending, Done, lists, taped_of, unsent_of}
 use Rattle.wake_core.specs.Plain.{opening_world}
 use Rattle.wake_core.specs.Events.{IsFree, Acquires, Spends, Readies, Asks, Tapes, Sends}
 use Rattle.wake_core.specs.Events.{Yields, after_spend, after_ready, after_ask, after_tape}

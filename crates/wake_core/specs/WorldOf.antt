@@ -1,5 +1,5 @@
 -- What a world shows of its run.
-use Rattle.std.specs.Prelude.{ℕ, List, [], ◌∷◌, None, Option, option_map}
+use Rattle.std.specs.Prelude.{ℕ, List, None, Option, option_map}
 use Rattle.cy_msg.specs.declared.token.Tuple.{Tuple}
 use Rattle.wake_core.specs.declared.route.Route.{Route}
 use Rattle.wake_core.specs.declared.fixed.Fixed.{Fixed}

@@ -1,12 +1,15 @@
 //! Laws over plain worlds: what each event keeps.
 //!
-//! A function here does nothing: its contract is a law of `specs/Laws`, over the worlds of
-//! `specs/Plain`, the events of `specs/Events` and what `specs/Sound` says of a world.
+//! A function here does nothing: its contract is a law of `specs/Laws`, `specs/TapeLaws` or
+//! `specs/Bounds`, over the worlds of `specs/Plain`, the events of `specs/Events` and what
+//! `specs/Sound` says of a world.
 ghost use Rattle.wake_core.specs.Laws.{AcquireLaws, SpendLaws, ReadyLaws, AskLaws, FetchLaws};
 ghost use Rattle.wake_core.specs.Laws.{TapeLaws, SendLaws, FillLaws, LookLaws, ClearLaws};
 ghost use Rattle.wake_core.specs.Laws.{YieldLaws, ReleaseLaws, TickLaws, CloseLaws, RunLaws};
 ghost use Rattle.wake_core.specs.Laws.{TapedLaws, ThreadLaws, FewerLaws, RoomLaws, FoundLaws};
 ghost use Rattle.wake_core.specs.Laws.{OutsideLaws, LimitLaws, WiringLaws};
+ghost use Rattle.wake_core.specs.TapeLaws.{UnsentLaws, PutLaws};
+ghost use Rattle.wake_core.specs.Bounds.{PlaceLaws, BoundLaws};
 
 /// Taking a croutine that is free keeps what holds of a world.
 pub fn acquire()
@@ -109,12 +112,33 @@ pub fn room()
     ensures { RoomLaws }
 {}
 
+/// An output that is not sent yet is the next one of its component's channel.
+pub fn unsent()
+    ensures { UnsentLaws }
+{}
+
+/// A message more on the tape is one that was played, or an output of one component.
+pub fn put()
+    ensures { PutLaws }
+{}
+
+/// Each message stands where its number says.
+pub fn places()
+    ensures { PlaceLaws }
+{}
+
+/// No more messages are taped, come to a channel or are fused than are planned.
+pub fn bounds()
+    ensures { BoundLaws }
+{}
+
 /// The tape has no more messages than a world keeps.
 pub fn limits()
     ensures { LimitLaws }
 {}
 
-/// A fetch finds one message of each reader, at a position within what is planned.
+/// A fetch finds one message of each reader, at a position within what is planned, and what the
+/// component's visitor finds.
 pub fn found()
     ensures { FoundLaws }
 {}

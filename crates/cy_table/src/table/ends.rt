@@ -76,6 +76,7 @@ impl FlagTable {
         wake_core::laws::threads();
         wake_core::laws::outside();
         wake_core::laws::limits();
+        wake_core::laws::unsent();
         let FlagTable { table, fixed } = self;
         let Pass { seat, split_off: _ } = pass;
         let mut closed = table.close_with(seat);

@@ -18,7 +18,7 @@ impl FlagTable {
     ghost use Rattle.cy_table.specs.declared.part.Part.TheVariants as part;
     ghost use Rattle.cy_table.specs.Layout.{visitor_slot};
     ghost use Rattle.cy_table.specs.Steps.{visiting, filling};
-    ghost use Rattle.cy_table.specs.Rule.{roles_at};
+    ghost use Rattle.cy_table.specs.Shown.{roles_at};
     ghost use Rattle.cy_table.specs.Plays.{later_fills};
     ghost use Rattle.cy_table.specs.Calls.{seat_of, thread_of, knowing, Stays, CanVisit, CanFill};
     ghost use Rattle.cy_table.specs.Calls.{Visiting, CanFetch, Fetched};

@@ -25,5 +25,5 @@ tick-requires g c = let mine = c.loop-token.invariant.1.mine in record {
 }
 
 pub set_closing-requires : goal.set_closing-requires
-set_closing-requires g c = can_close c.args.table.now c.args.list.now.tokens c.as_slice-token-items.result.now c.loop-token.token-index c.args.player.now c.loop-token.player c.tick.new.pass 18446744073709551615
+set_closing-requires g c = can_close c.put.ensures c.args.table.now c.args.list.now.tokens c.as_slice-token-items.result.now c.loop-token.token-index c.args.player.now c.loop-token.player c.tick.new.pass 18446744073709551615
     c.requires.list.made (search rules) c.loop-token-test.false c.loop-token.invariant.1 c.tick.ensures.same c.tick.ensures.thread

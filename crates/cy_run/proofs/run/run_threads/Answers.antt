@@ -16,5 +16,5 @@ muster-requires-clause-crew g c = let v = c.in_ok-crew.crew in
     subst (λ l. All (λ (w : Worker). IsFree c.in_ok-table.table w.pass) l) (sym (written c.drive.new.crew v.items v.len long full)) (λ k d lt. (c.drive.ensures.worked k d (search rules)).free)
 
 pub finish-requires : goal.finish-requires
-finish-requires g c = may_finish c.args.world c.in_ok-table.table c.args.wiring.now.plans c.args.list.now.tokens (scan_of c.args.placement.now.contexts) c.crew_of.new.player c.drive.new.player c.muster.new.player
+finish-requires g c = may_finish c.put.ensures c.args.world c.in_ok-table.table c.args.wiring.now.plans c.args.list.now.tokens (scan_of c.args.placement.now.contexts) c.crew_of.new.player c.drive.new.player c.muster.new.player
     (plain_of c.in_ok-world.world) c.requires c.in_ok-table.ensures.made c.drive.ensures.played c.muster.ensures.played c.muster.ensures.clock c.in_ok-world.ensures.left

@@ -8,5 +8,5 @@ use Rattle.cy_table.proofs.laws.fetch_stores.Goals as goal
 pub returns : goal.returns
 returns k = record {
   fetch = λ r w s id v g a out sits e asked has one.
-      fetch_becomes r w s id v sits g e asked a has one out (k.fetch.ensures.sound id g.croutine) (k.fetch.ensures.calls id g.croutine) (visited (cursor_after g.routine.calls) a.visitor) refl;
+      fetch_becomes r w s id v sits g e asked a has one k.found.ensures k.unsent.ensures out (k.fetch.ensures.sound id g.croutine) (k.fetch.ensures.calls id g.croutine) (visited (cursor_after g.routine.calls) a.visitor) refl;
 }

@@ -1,4 +1,4 @@
-use Rattle.std.proofs.Common.{◌∙◌, ◌<◌, sym, ap, length, map, sum, List, ℕ, arith}
+use Rattle.std.proofs.Common.{◌∙◌, ◌<◌, ap, length, map, sum, List, ℕ, arith}
 use Rattle.wake_core.specs.Run.{Route, route_of, routes_of}
 use Rattle.wake_core.specs.Planned.{planned_count}
 use Rattle.wake_core.proofs.Counting.{sum_added, plan_at, route_at}

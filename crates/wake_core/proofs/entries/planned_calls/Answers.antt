@@ -1,4 +1,4 @@
-use Rattle.std.proofs.Common.{◌∙◌, ◌<◌, sym, ap, length, slice_index, List, ℕ, arith}
+use Rattle.std.proofs.Common.{◌∙◌, ◌<◌, ap, length, slice_index, List, ℕ, arith}
 use Rattle.wake_core.specs.Run.{Route, route_of, routes_of}
 use Rattle.wake_core.specs.Planned.{planned_count, first_reader}
 use Rattle.wake_core.proofs.Counting.{sum_added, plan_at, route_at}

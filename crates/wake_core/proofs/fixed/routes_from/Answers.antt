@@ -1,4 +1,4 @@
-use Rattle.std.proofs.Common.{◌≡◌, ◌+◌, ◌<◌, ◌++◌, ◌∷◌, [], ◌∙◌, sym, ap, length, take, List, ℕ, refl, arith}
+use Rattle.std.proofs.Common.{◌≡◌, ◌<◌, ◌++◌, ◌∷◌, [], ◌∙◌, sym, ap, length, take, List, ℕ, refl, arith}
 use Rattle.wake_core.specs.Run.{Route, route_of, routes_of}
 use Rattle.wake_core.proofs.Counting.{plan_at, route_at}
 use Rattle.wake_core.proofs.Listing.{take_next}

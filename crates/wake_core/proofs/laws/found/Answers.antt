@@ -1,4 +1,6 @@
 -- The laws, from the lemmas on what a fetch makes.
+use Rattle.std.proofs.Common.{refl}
+use Rattle.wake_core.proofs.Fetched.{next_visited}
 use Rattle.wake_core.proofs.FoundBounds.{found_messages, found_position, planned_kept}
 use Rattle.wake_core.proofs.laws.found.Goals as goal
 
@@ -7,4 +9,5 @@ returns k = record {
   messages = found_messages;
   position = found_position;
   planned = planned_kept;
+  visitor = λ w c x r v shows at some s. next_visited w c (w.cursors c) x r v at shows.kind shows.calls shows.arrivals shows.roles shows.queue some refl s;
 }

@@ -12,7 +12,7 @@ use Rattle.wake_core.specs.Parts.{shown_by}
 use Rattle.cy_table.specs.declared.part.Part.{Part}
 use Rattle.cy_table.specs.declared.part.Part.TheVariants as part
 use Rattle.cy_table.specs.Seats.{TapeView}
-use Rattle.cy_table.specs.Rule.{routine_at, visitor_at, tape_at}
+use Rattle.cy_table.specs.Shown.{routine_at, visitor_at, tape_at}
 use Rattle.cy_table.proofs.Unpacking.{TakenOut, AreRest, IsFrom, shuts, same_part, same_tape, taken_as, taken_more, index_of, from_more, few_played, parts_fit, played_left, clock_left, closing_left, calls_seen}
 use Rattle.cy_table.proofs.table.FlagTable.unpack.Goals as goal
 
@@ -125,7 +125,7 @@ returns-clause-fit c =
       closing = ap (λ n. n == 1) (sym (index_of words 2 c.word-closing.result (ap (λ (l : List ℕ). get_elem? l 2) (sym same_words) ∙ c.word-closing.ensures)));
       played = c.played_in-played.ensures ∙ ap (λ (l : List Token). length (played_of p.fixed.routes.items l)) c.as_slice.ensures.value;
     } in
-    parts_fit e p taken rest c.args.self.made c.args.self.counted c.threads.ensures c.outside.ensures
+    parts_fit e p taken rest c.args.self.made c.args.self.counted c.threads.ensures c.outside.ensures c.unsent.ensures
 
 pub returns-clause-left : goal.returns-clause-left
 unfolding shown_by

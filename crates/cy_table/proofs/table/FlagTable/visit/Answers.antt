@@ -3,7 +3,7 @@ use Rattle.std.proofs.Common.{ℕ, ◌≡◌, ◌≤◌, ◌+◌, ◌*◌, List,
 use Rattle.cy_fuse.specs.Visitor.{VisitorView}
 use Rattle.wake_core.specs.WorldOf.{plain_of}
 use Rattle.cy_table.specs.declared.part.Part.TheVariants as part
-use Rattle.cy_table.specs.Rule.{roles_at, queue_at}
+use Rattle.cy_table.specs.Shown.{roles_at, queue_at}
 use Rattle.cy_table.specs.Steps.{visiting}
 use Rattle.cy_table.specs.Plays.{Thread}
 use Rattle.cy_table.proofs.Visits.{visits}

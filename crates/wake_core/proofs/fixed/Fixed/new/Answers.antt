@@ -1,5 +1,4 @@
-use Rattle.std.proofs.Common.{◌≡◌, ◌∙◌, sym, ap, length, subst, List, ℕ}
-use Rattle.cy_comp.specs.declared.plan.Plan.{Plan}
+use Rattle.std.proofs.Common.{◌∙◌, sym, ap, length, subst, List, ℕ}
 use Rattle.wake_core.specs.Run.{Route, routes_of}
 use Rattle.wake_core.specs.Fields.{IsFixed, IsTable, HaveFew}
 use Rattle.wake_core.proofs.Tabled.{fixed_wiring, few_of}

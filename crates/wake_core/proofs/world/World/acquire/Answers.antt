@@ -1,4 +1,4 @@
-use Rattle.std.proofs.Common.{◌<◌, length, refl, ◌∙◌, true, None, length-set, arith}
+use Rattle.std.proofs.Common.{◌<◌, length, refl, ◌∙◌, true, length-set, arith}
 use Rattle.wake_core.specs.WorldOf.{plain_of, to_step}
 use Rattle.wake_core.specs.Plain.{hand, Fresh}
 use Rattle.wake_core.proofs.Reading.{read-set, read_is, hands_set, with_hands}

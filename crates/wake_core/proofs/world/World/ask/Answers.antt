@@ -1,8 +1,8 @@
-use Rattle.std.proofs.Common.{◌<◌, length, refl, sym, ◌∙◌, ap, None, length-set, arith}
+use Rattle.std.proofs.Common.{◌<◌, length, refl, sym, ◌∙◌, ap, length-set, arith}
 use Rattle.cy_comp.specs.Routine.{RoutineView}
 use Rattle.wake_core.specs.WorldOf.{plain_of, to_step}
 use Rattle.wake_core.specs.Fields.{no_routine}
-use Rattle.wake_core.specs.Plain.{Plain, hand, DataWait, Known, Asked}
+use Rattle.wake_core.specs.Plain.{hand, DataWait, Known, Asked}
 use Rattle.wake_core.proofs.Reading.{read_is, hands_set}
 use Rattle.wake_core.proofs.Flags.{phase_flags, phase_stepping}
 use Rattle.wake_core.proofs.Storing.{held_as, routines_stored, calls_stored, states_stored, waiting_stored, roomy_stored, stored_world, asks}

@@ -1,6 +1,6 @@
-use Rattle.std.proofs.Common.{◌<◌, [], ◌++◌, length, refl, sym, ◌∙◌, ap, false, length-set, arith, ℕ}
+use Rattle.std.proofs.Common.{◌<◌, [], length, refl, sym, ◌∙◌, ap, false, length-set, arith}
 use Rattle.wake_core.specs.WorldOf.{plain_of, to_step}
-use Rattle.wake_core.specs.Plain.{Plain, lists}
+use Rattle.wake_core.specs.Plain.{lists}
 use Rattle.wake_core.proofs.Reading.{read_is}
 use Rattle.wake_core.proofs.Owing.{clear_thread, clear_known, owed_each, owing_set, taken_owing, cleared_world, clears}
 use Rattle.wake_core.proofs.Sounding.{clear_sound}

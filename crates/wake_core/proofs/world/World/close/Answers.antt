@@ -1,6 +1,5 @@
 use Rattle.std.proofs.Common.{refl}
 use Rattle.wake_core.specs.WorldOf.{plain_of, to_step}
-use Rattle.wake_core.proofs.Sounding.{close_sound}
 use Rattle.wake_core.proofs.world.World.close.Goals as goal
 
 pub returns-clause-event : goal.returns-clause-event

@@ -1,4 +1,4 @@
-use Rattle.std.proofs.Common.{List, ◌<◌, ◌++◌, ◌∷◌, [], length, length-set, refl, sym, ◌∙◌, ap, true, Some, None, option_map, arith}
+use Rattle.std.proofs.Common.{List, ◌<◌, length, length-set, refl, sym, ◌∙◌, ap, Some, None, option_map, arith}
 use Rattle.cy_comp.specs.declared.call.Call.{Call}
 use Rattle.wake_core.specs.WorldOf.{plain_of, to_step}
 use Rattle.wake_core.specs.Plain.{hand, Asked, Empty, Running}
@@ -8,7 +8,7 @@ use Rattle.wake_core.specs.declared.found.Found.{Found}
 use Rattle.wake_core.proofs.Reading.{read-set, hands_set, with_hands}
 use Rattle.wake_core.proofs.Flags.{phase_flags, phase_stepping}
 use Rattle.wake_core.proofs.Sounding.{fetch_sound}
-use Rattle.wake_core.proofs.Fetched.{call_of}
+use Rattle.wake_core.specs.Laws.{call_of}
 use Rattle.wake_core.proofs.Shown.{calls_set, called_world, fetches, found_waiting, found_stepping, step_set, none_there}
 use Rattle.wake_core.proofs.FetchedWorld.{asking, none_pending, fetch_next, shown_found, none_to_step}
 use Rattle.wake_core.proofs.world.World.fetch.Goals as goal

@@ -1,8 +1,8 @@
-use Rattle.std.proofs.Common.{ℕ, ◌<◌, ◌≡◌, length, length-set, refl, sym, ◌∙◌, ap, Some, [], get_or, slice_get, arith}
+use Rattle.std.proofs.Common.{◌<◌, length, length-set, refl, sym, ◌∙◌, ap, [], arith}
 use Rattle.cy_fuse.specs.Visitor.{VisitorView, arrived}
 use Rattle.wake_core.specs.declared.owed.Owed.{Owed}
 use Rattle.wake_core.specs.WorldOf.{plain_of, to_step}
-use Rattle.wake_core.specs.Fields.{read, no_visitor, fills_of}
+use Rattle.wake_core.specs.Fields.{no_visitor, fills_of}
 use Rattle.wake_core.proofs.Arriving.{there}
 use Rattle.wake_core.proofs.Reading.{read-set, read_is}
 use Rattle.wake_core.proofs.Sounding.{fill_sound}

@@ -1,6 +1,5 @@
 use Rattle.std.proofs.Common.{◌≤◌, ◌<◌, length, [], sym, ◌∙◌, ap, arith, List, slice_get, ℕ}
 use Rattle.wake_core.specs.WorldOf.{plain_of}
-use Rattle.wake_core.specs.Run.{readers_of}
 use Rattle.wake_core.specs.Fields.{fills_of}
 use Rattle.wake_core.proofs.Reading.{read_is}
 use Rattle.wake_core.proofs.Owing.{owed_each}

@@ -1,4 +1,4 @@
-use Rattle.std.proofs.Common.{◌≤◌, ◌<◌, length, [], sym, ◌∙◌, ap, arith, List, slice_get, drop, refl, ℕ}
+use Rattle.std.proofs.Common.{◌<◌, length, [], sym, ◌∙◌, ap, arith, List, slice_get, drop, refl, ℕ}
 use Rattle.std.proofs.lemmas.Option.{slice_get_past, slice_get_read}
 use Rattle.wake_core.specs.WorldOf.{plain_of}
 use Rattle.wake_core.proofs.Reading.{read_is}

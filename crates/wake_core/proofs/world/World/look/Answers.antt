@@ -1,7 +1,7 @@
-use Rattle.std.proofs.Common.{◌+◌, ◌<◌, length, refl, sym, ◌∙◌, ap, Bool, List, [], ◌∷◌, ◌++◌, drop, if◌then◌else◌, length-set, arith, ℕ}
+use Rattle.std.proofs.Common.{◌+◌, ◌<◌, length, refl, sym, ◌∙◌, ap, Bool, [], ◌∷◌, ◌++◌, drop, if◌then◌else◌, length-set, arith}
 use Rattle.wake_core.specs.Run.{set_at}
 use Rattle.wake_core.specs.WorldOf.{plain_of, to_step}
-use Rattle.wake_core.specs.Plain.{Plain, State, Ready}
+use Rattle.wake_core.specs.Plain.{Ready}
 use Rattle.wake_core.specs.Events.{is_waiting}
 use Rattle.wake_core.proofs.Reading.{read_is}
 use Rattle.wake_core.proofs.Owing.{look_thread, look_first, look_known, may_look_at, owed_each, owing_set, looked_owing, looked_world, looks}

@@ -1,10 +1,8 @@
-use Rattle.std.proofs.Common.{ℕ, ◌*◌, ◌≡◌, ◌≤◌, sym, ◌∙◌, ap, refl, length, map, replicate, arith, List, Option, None, true, false, [], option_map}
+use Rattle.std.proofs.Common.{ℕ, ◌≡◌, sym, ◌∙◌, ap, length, replicate, arith, List, Option, None, true, false, option_map}
 use Rattle.std.proofs.lemmas.List.{length-map, length-replicate}
-use Rattle.cy_comp.specs.declared.plan.Plan.{Plan}
 use Rattle.wake_core.specs.WorldOf.{plain_of, to_step}
 use Rattle.wake_core.specs.declared.found.Found.{Found}
-use Rattle.wake_core.specs.Run.{Route, route_of, routes_of}
-use Rattle.wake_core.specs.Plain.{Plain, Hand, opening_world}
+use Rattle.wake_core.specs.Run.{route_of, routes_of}
 use Rattle.wake_core.specs.Fields.{read}
 use Rattle.wake_core.specs.Opening.{first_visitor, first_routine}
 use Rattle.wake_core.proofs.Rooted.{wired}

@@ -1,6 +1,5 @@
 use Rattle.std.proofs.Common.{◌<◌, length, refl, false, true, None, length-set, arith}
 use Rattle.wake_core.specs.WorldOf.{plain_of, to_step}
-use Rattle.wake_core.specs.Plain.{Plain}
 use Rattle.wake_core.proofs.Reading.{read-set, hands_set, with_hands}
 use Rattle.wake_core.proofs.Flags.{phase_stepping}
 use Rattle.wake_core.proofs.Storing.{release_phase, release_flags, releases}

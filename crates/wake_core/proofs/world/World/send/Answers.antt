@@ -1,4 +1,4 @@
-use Rattle.std.proofs.Common.{refl, ap, sym, ◌∙◌, length, length-set, is_some, Some, true, ◌+◌, arith}
+use Rattle.std.proofs.Common.{refl, ap, sym, ◌∙◌, length, length-set, is_some, Some, ◌+◌, arith}
 use Rattle.cy_comp.specs.Routine.{RoutineView}
 use Rattle.wake_core.specs.Plain.{Hand}
 use Rattle.wake_core.specs.declared.owed.Owed.{Owed}

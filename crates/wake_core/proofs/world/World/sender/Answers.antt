@@ -1,4 +1,4 @@
-use Rattle.std.proofs.Common.{◌<◌, None, length, ◌∙◌, sym, arith}
+use Rattle.std.proofs.Common.{◌<◌, None, length, ◌∙◌, arith}
 use Rattle.std.proofs.lemmas.Bool.Decides.{nat_tests}
 use Rattle.wake_core.specs.WorldOf.{plain_of}
 use Rattle.wake_core.proofs.Reading.{read_is}

@@ -1,4 +1,4 @@
-use Rattle.std.proofs.Common.{ap, None, Option, option_map}
+use Rattle.std.proofs.Common.{ap, Option, option_map}
 use Rattle.wake_core.specs.declared.found.Found.{Found}
 use Rattle.wake_core.specs.WorldOf.{plain_of, to_step}
 use Rattle.wake_core.proofs.Runs.{none_lost}

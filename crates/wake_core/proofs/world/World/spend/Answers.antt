@@ -1,6 +1,6 @@
-use Rattle.std.proofs.Common.{◌<◌, length, refl, sym, ◌∙◌, ap, not, Bool, true, None, length-set, arith}
+use Rattle.std.proofs.Common.{◌<◌, length, refl, sym, ◌∙◌, ap, not, true, length-set, arith}
 use Rattle.wake_core.specs.WorldOf.{plain_of, to_step}
-use Rattle.wake_core.specs.Plain.{Plain, hand, Ready, Fresh}
+use Rattle.wake_core.specs.Plain.{hand, Ready, Fresh}
 use Rattle.wake_core.proofs.Reading.{read-set, read_is, hands_set}
 use Rattle.wake_core.proofs.Flags.{phase_flags, phase_stepping}
 use Rattle.wake_core.proofs.Storing.{held_as, spent_world, spends}

@@ -1,4 +1,4 @@
-use Rattle.std.proofs.Common.{◌<◌, length, sym, ◌∙◌, true, arith}
+use Rattle.std.proofs.Common.{◌<◌, length, sym, true, arith}
 use Rattle.wake_core.specs.WorldOf.{plain_of}
 use Rattle.wake_core.proofs.Reading.{read_is}
 use Rattle.wake_core.proofs.world.World.spent.Goals as goal

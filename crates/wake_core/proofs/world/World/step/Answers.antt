@@ -1,4 +1,4 @@
-use Rattle.std.proofs.Common.{◌<◌, length, length-set, sym, ◌∙◌, ap, subst, Some, None, arith}
+use Rattle.std.proofs.Common.{◌<◌, length, length-set, sym, ◌∙◌, ap, subst, None, arith}
 use Rattle.cy_comp.specs.Routine.{RoutineView}
 use Rattle.wake_core.specs.Sound.{Sound}
 use Rattle.wake_core.specs.declared.found.Found.{Found}

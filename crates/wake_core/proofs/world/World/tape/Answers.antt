@@ -1,8 +1,8 @@
-use Rattle.std.proofs.Common.{sym, Some, None, subst, Option}
+use Rattle.std.proofs.Common.{subst, Option}
 use Rattle.wake_core.specs.WorldOf.{plain_of}
 use Rattle.wake_core.specs.Plain.{Hand}
 use Rattle.wake_core.specs.WorldCalls.{IsSender}
-use Rattle.wake_core.proofs.Senders.{thread_known, may_send, sender_stepped, taped_sent, may_play, taped_played}
+use Rattle.wake_core.proofs.Senders.{thread_known, may_send, sender_stepped, taped_sent, may_play}
 use Rattle.wake_core.proofs.world.World.tape.Goals as goal
 
 pub sender-requires : goal.sender-requires

@@ -1,6 +1,5 @@
 use Rattle.std.proofs.Common.{refl}
 use Rattle.wake_core.specs.WorldOf.{plain_of, to_step}
-use Rattle.wake_core.specs.Plain.{Plain}
 use Rattle.wake_core.proofs.Sounding.{tick_sound}
 use Rattle.wake_core.proofs.world.World.tick.Goals as goal
 

@@ -1,8 +1,8 @@
-use Rattle.std.proofs.Common.{◌<◌, length, refl, sym, ◌∙◌, ap, None, length-set, arith}
+use Rattle.std.proofs.Common.{◌<◌, length, refl, sym, ◌∙◌, ap, length-set, arith}
 use Rattle.cy_comp.specs.Routine.{RoutineView}
 use Rattle.wake_core.specs.WorldOf.{plain_of, to_step}
 use Rattle.wake_core.specs.Fields.{no_routine}
-use Rattle.wake_core.specs.Plain.{Plain, hand, Done}
+use Rattle.wake_core.specs.Plain.{hand, Done}
 use Rattle.wake_core.proofs.Reading.{read_is, hands_set}
 use Rattle.wake_core.proofs.Flags.{phase_flags}
 use Rattle.wake_core.proofs.Storing.{yield_phase, yield_stepping, routines_stored, calls_stored, states_stored, waiting_stored, roomy_stored, stored_world, yields}

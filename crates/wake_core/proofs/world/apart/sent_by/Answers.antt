@@ -1,4 +1,4 @@
-use Rattle.std.proofs.Common.{ℕ, ◌≡◌, ◌<◌, ◌++◌, ◌∷◌, [], ◌∙◌, sym, ap, refl, length, take, map, arith, List}
+use Rattle.std.proofs.Common.{ℕ, ◌++◌, ◌∷◌, [], ◌∙◌, sym, ap, refl, length, take, map, arith, List}
 use Rattle.std.proofs.lemmas.Option.{slice_get_read}
 use Rattle.wake_core.specs.Sent.{sent_of}
 use Rattle.wake_core.proofs.Listing.{take_next}

@@ -1,4 +1,3 @@
-use Rattle.std.proofs.Common.{◌≡◌, length}
 use Rattle.wake_core.specs.Opening.{AreNothing}
 use Rattle.wake_core.proofs.world.opening.owed_for.Given as goal
 

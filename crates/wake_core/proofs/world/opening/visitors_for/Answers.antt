@@ -1,8 +1,7 @@
-use Rattle.std.proofs.Common.{◌≡◌, ◌≤◌, ◌+◌, ◌<◌, ◌++◌, ◌∷◌, [], ◌∙◌, sym, ap, length, take, map, sum, List, ℕ, refl, subst, arith}
-use Rattle.std.proofs.lemmas.Option.{slice_get-map}
+use Rattle.std.proofs.Common.{◌≡◌, ◌<◌, ◌++◌, ◌∷◌, [], ◌∙◌, sym, ap, length, take, map, sum, List, ℕ, arith}
 use Rattle.cy_fuse.specs.Visitor.{VisitorView}
 use Rattle.wake_core.specs.declared.entries.TheConstants.{MOST_PLANNED}
-use Rattle.wake_core.specs.Run.{Route, route_of, routes_of}
+use Rattle.wake_core.specs.Run.{route_of, routes_of}
 use Rattle.wake_core.specs.Planned.{planned_count}
 use Rattle.wake_core.specs.Opening.{first_visitor}
 use Rattle.wake_core.proofs.Counting.{plan_at, route_at}
