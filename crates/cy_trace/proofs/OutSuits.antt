@@ -14,8 +14,7 @@ use Rattle.std.specs.Prelude.{filter, not, is_some}
 use Rattle.wake_core.specs.Run.{writes_from, played_of}
 use Rattle.wake_core.specs.Plain.{Plain}
 use Rattle.wake_core.specs.Sound.{Sound, IsOutput, StandsOn}
-use Rattle.wake_core.proofs.Standing.{item_stands, tape_stands}
-use Rattle.wake_core.proofs.Writers.{writes_some}
+use Rattle.wake_core.specs.Bounds.{PlaceLaws}
 use Rattle.cy_trace.specs.TraceForm.{IsLong, IsValue}
 use Rattle.cy_trace.specs.Laws.{Suits}
 use Rattle.cy_trace.proofs.StepSuits.{AllSuit, SuitsOut, outcome_suits}
@@ -133,7 +132,7 @@ passing p (s ∷ tape) (suc i) t e is = by (p s) (passing p tape i t e is)
     by true h = (suc h.0, h.1)
     by false h = h
 
-module _ (w : Plain) (s : Sound w) (played : (n : ℕ) (t : Token) → slice_get (played_of w.routes w.tape) n ≡ Some t → Suits t) where
+module _ (places : PlaceLaws) (w : Plain) (s : Sound w) (played : (n : ℕ) (t : Token) → slice_get (played_of w.routes w.tape) n ≡ Some t → Suits t) where
   -- A call's output fits where every message does that was fused when it was made.
   call_suits : (c n : ℕ) (x : Route) (call : Call) → slice_get w.routes c ≡ Some x → slice_get (w.calls c) n ≡ Some call
       → ((k : ℕ) (tuple : Tuple) → k < call.tail → slice_get (fused (w.arrivals c) (length x.readers)) k ≡ Some tuple → AllSuit tuple) → SuitsOut call.out
@@ -170,13 +169,14 @@ module _ (w : Plain) (s : Sound w) (played : (n : ℕ) (t : Token) → slice_get
       by : (o : Option ℕ) → writes_from 0 w.routes t.channel ≡ o → Suits t
       by None e = let h = passing (λ (u : Token). not (is_some (writes_from 0 w.routes u.channel))) w.tape i t on (ap (λ (o : Option ℕ). not (is_some o)) e) in played h.0 t h.1
       by (Some c) e =
-          let writer = writes_some w.routes 0 t.channel c e in
-          let same : c - 0 ≡ c = omega arith in
-          let at : slice_get w.routes c ≡ Some writer.route = ap (slice_get w.routes) (sym same) ∙ writer.at in
-          let stands = tape_stands w.tape s.consistent.delivered.numbered i t on in
-          let there : slice_get (on_channel writer.route.out w.tape) (t.seq - 1) ≡ Some t = ap (λ n. slice_get (on_channel n w.tape) (t.seq - 1)) writer.writes ∙ stands in
-          let made = taken_at (length (on_channel writer.route.out w.tape)) (outs writer.route.out (w.calls c)) (t.seq - 1) t (ap (λ l. slice_get l (t.seq - 1)) (sym (s.consistent.delivered.history c writer.route at)) ∙ there) in
-          sent c writer.route at writer.writes (outs_made writer.route.out (w.calls c) (t.seq - 1) t made.1)
+          let writer = places.writer w.routes t.channel c e in
+          let x : Route = writer.0 in
+          let at : slice_get w.routes c ≡ Some x = writer.1 in
+          let writes : x.out ≡ t.channel = writer.2 in
+          let stands = places.taped w.tape s.consistent.delivered.numbered i t on in
+          let there : slice_get (on_channel x.out w.tape) (t.seq - 1) ≡ Some t = ap (λ n. slice_get (on_channel n w.tape) (t.seq - 1)) writes ∙ stands in
+          let made = taken_at (length (on_channel x.out w.tape)) (outs x.out (w.calls c)) (t.seq - 1) t (ap (λ l. slice_get l (t.seq - 1)) (sym (s.consistent.delivered.history c x at)) ∙ there) in
+          sent c x at writes (outs_made x.out (w.calls c) (t.seq - 1) t made.1)
 
   tape_suits : (k i : ℕ) (t : Token) → i < k → slice_get w.tape i ≡ Some t → Suits t
   tape_suits zero i t less on = absurd (omega (arith, less))
@@ -185,4 +185,4 @@ module _ (w : Plain) (s : Sound w) (played : (n : ℕ) (t : Token) → slice_get
   -- So does all that calls put out.
   pub outs_suit : (c n : ℕ) (x : Route) (call : Call) → slice_get w.routes c ≡ Some x → slice_get (w.calls c) n ≡ Some call → SuitsOut call.out
   outs_suit c n x call at is = call_suits c n x call at is (λ k tuple less there j m on.
-      on_each Suits w.tape (λ i t e. tape_suits (suc i) i t (omega arith) e) m.channel (m.seq - 1) m (item_stands s.consistent.delivered c (length x.readers) k tuple there j m on))
+      on_each Suits w.tape (λ i t e. tape_suits (suc i) i t (omega arith) e) m.channel (m.seq - 1) m (places.fused_ones w s.consistent c (length x.readers) k tuple there j m on))

@@ -22,11 +22,7 @@ use Rattle.wake_core.specs.Plain.{Plain, blank}
 use Rattle.wake_core.specs.Planned.{planned, counts_from}
 use Rattle.wake_core.specs.Rest.{run_shown}
 use Rattle.wake_core.specs.Sound.{Sound, Room, StandsOn}
-use Rattle.wake_core.proofs.Arriving.{fused_planned, planned_trigger}
-use Rattle.wake_core.proofs.Joining.{fused_messages}
-use Rattle.wake_core.proofs.Limits.{count_limit, tape_limit}
-use Rattle.wake_core.proofs.Standing.{item_stands, tape_stands}
-use Rattle.wake_core.proofs.Totals.{room_total}
+use Rattle.wake_core.specs.Bounds.{PlaceLaws, BoundLaws}
 use Rattle.cy_trace.specs.TraceForm.{Each, IsLine, IsLong, IsOutput, IsSeqs, IsShort, IsTrace, IsValue, AreLines, lines_of_component}
 use Rattle.cy_trace.specs.TraceOfRun.{output_of_call, trace_call, trace_calls, trace_component, trace_components, tape_entry, trace_of_run}
 use Rattle.cy_trace.specs.Laws.{IsOf, AreTyped}
@@ -88,18 +84,6 @@ tape_fits : (names : List (List ℕ)) (tape : List Token) → ((n : ℕ) (t : To
 tape_fits names [] all = tt
 tape_fits names (t ∷ tape) all = (all 0 t refl, tape_fits names tape (λ n. all (suc n)))
 
--- A tape has no more messages than are planned.
-tape_few : (w : Plain) → Room w.routes w.counts w.calls w.tape → length w.tape ≤ counts_from w.routes w.counts 0 (length w.counts)
-tape_few w room = by (length w.tape) refl
-  where
-    by : (n : ℕ) → length w.tape ≡ n → length w.tape ≤ counts_from w.routes w.counts 0 (length w.counts)
-    by zero e = omega (arith, e)
-    by (suc n) e =
-        let t : Token = get_or w.tape n blank in
-        let whole : take n w.tape ++ t ∷ [] ≡ w.tape = sym (take_more w.tape n blank (omega (arith, e))) ∙ take_all (n + 1) w.tape (omega (arith, e)) in
-        let less = room_total w.routes w.counts (take n w.tape) t (subst (λ (ts : List Token). Room w.routes w.counts w.calls ts) (sym whole) room) in
-        omega (arith, e, less, length-take-le n w.tape (omega (arith, e)))
-
 -- What stands on a channel stands on the tape.
 on_known : (k : ℕ) (tape : List Token) → ((n : ℕ) (t : Token) → slice_get tape n ≡ Some t → t.channel < k) → (channel i : ℕ) (m : Token) → slice_get (on_channel channel tape) i ≡ Some m → m.channel < k
 on_known k [] known channel i m at = absurd (none-some m at)
@@ -110,27 +94,28 @@ on_known k (t ∷ tape) known channel i m at = go (t.channel == channel) (on_kno
     go true rest (suc j) e = rest j m e
     go false rest j e = rest j m e
 
-module _ (names : List (List ℕ)) (plans : List Plan) (w : Plain) (of : IsOf names plans w) (typed : AreTyped names plans w) (s : Sound w) where
+module _ (places : PlaceLaws) (bounds : BoundLaws) (names : List (List ℕ)) (plans : List Plan) (w : Plain) (of : IsOf names plans w) (typed : AreTyped names plans w) (s : Sound w) where
   route_at : (c : ℕ) (p : Plan) → slice_get plans c ≡ Some p → slice_get w.routes c ≡ Some (route_of p)
   route_at c p at = ap (λ (rs : List Route). slice_get rs c) of.routes ∙ slice_get-map route_of plans c ∙ ap (option_map route_of) at
 
   stands_short : (m : Token) → StandsOn w.tape m → IsShort m.seq
   stands_short m on =
       let known = on_known (length w.counts) w.tape s.consistent.room.channels m.channel (m.seq - 1) m on in
-      let few = count_limit w.routes w.counts m.channel 16777216 of.limited known in
-      omega (arith, slice_get_within (on_channel m.channel w.tape) (m.seq - 1) m on, s.consistent.room.taped m.channel, few)
+      let few = bounds.channel w.routes w.counts m.channel known in
+      let limit : planned w.routes w.counts ≤ 16777216 = of.limited in
+      omega (arith, slice_get_within (on_channel m.channel w.tape) (m.seq - 1) m on, s.consistent.room.taped m.channel, few, limit)
 
   fused_fits : (c : ℕ) (p : Plan) → slice_get plans c ≡ Some p → length (fused (w.arrivals c) (length p.readers)) ≤ 16777216
   fused_fits c p at =
-      let all = fused_planned w c (route_of p) (route_at c p at) s.consistent in
-      let one = planned_trigger w.routes w.counts c (route_of p) (route_at c p at) in
+      let all = bounds.tuples w c (route_of p) (route_at c p at) s.consistent in
+      let one = bounds.trigger w.routes w.counts c (route_of p) (route_at c p at) in
       let limit : planned w.routes w.counts ≤ 16777216 = of.limited in
       omega (arith, all, one, limit)
 
   calls_few : (c : ℕ) (p : Plan) → slice_get plans c ≡ Some p → length (w.calls c) ≤ 4294967295
   calls_few c p at =
       let all = s.consistent.room.called c (route_of p) (route_at c p at) in
-      let one = planned_trigger w.routes w.counts c (route_of p) (route_at c p at) in
+      let one = bounds.trigger w.routes w.counts c (route_of p) (route_at c p at) in
       let limit : planned w.routes w.counts ≤ 16777216 = of.limited in
       omega (arith, all, one, limit)
 
@@ -143,17 +128,17 @@ module _ (names : List (List ℕ)) (plans : List Plan) (w : Plain) (of : IsOf na
   call_at c n p x at is =
       let lawful = s.consistent.called.lawful c (route_of p) (route_at c p at) in
       let tuple : slice_get (fused (w.arrivals c) (length p.readers)) (x.position - 1) ≡ Some x.tuple = lawful.tuples n x is in
-      let size = fused_messages (length p.readers) (w.arrivals c) (of.wiring.some_reader c p at) (of.wiring.few_readers c p at) (x.position - 1) x.tuple tuple in
+      let size = bounds.messages (length p.readers) (w.arrivals c) (of.wiring.some_reader c p at) (of.wiring.few_readers c p at) (x.position - 1) x.tuple tuple in
       let mapped = length-mapped (λ (m : Token). m.seq) (messages_of x.tuple) in
       record {
         position = omega (arith, position_few c n p x at is);
         tail = omega (arith, lawful.tails_fused n x is, fused_fits c p at);
         seqs = (
-          mapped_each IsShort (λ (m : Token). m.seq) (messages_of x.tuple) (λ j m on. stands_short m (item_stands s.consistent.delivered c (length p.readers) (x.position - 1) x.tuple tuple j m on)),
+          mapped_each IsShort (λ (m : Token). m.seq) (messages_of x.tuple) (λ j m on. stands_short m (places.fused_ones w s.consistent c (length p.readers) (x.position - 1) x.tuple tuple j m on)),
           omega (arith, size, mapped, of.wiring.some_reader c p at),
           omega (arith, size, mapped, of.wiring.few_readers c p at),
         );
-        out = λ o e. subst SuitsOut e (outs_suit w s typed.played c n (route_of p) x (route_at c p at) is);
+        out = λ o e. subst SuitsOut e (outs_suit places w s typed.played c n (route_of p) x (route_at c p at) is);
       }
 
   role_at : (c n : ℕ) (p : Plan) (a : Arrival) → slice_get plans c ≡ Some p → slice_get (w.arrivals c) n ≡ Some a → a.0 < 10
@@ -185,24 +170,23 @@ module _ (names : List (List ℕ)) (plans : List Plan) (w : Plain) (of : IsOf na
   entry_at : (n : ℕ) (t : Token) → slice_get w.tape n ≡ Some t → IsUtf8 (channel_name names t.channel) × IsShort t.seq
   entry_at n t is =
       let known = s.consistent.room.channels n t is in
-      (name_at t.channel (omega (arith, known, of.channels)), stands_short t (tape_stands w.tape s.consistent.delivered.numbered n t is))
+      (name_at t.channel (omega (arith, known, of.channels)), stands_short t (places.taped w.tape s.consistent.delivered.numbered n t is))
 
   played_short : IsShort (length (played_of (routes_of plans) w.tape))
   played_short =
       let both = length-filter_both (λ (t : Token). not (is_some (writes_from 0 (routes_of plans) t.channel))) (λ t. not (not (is_some (writes_from 0 (routes_of plans) t.channel)))) (λ t. refl) w.tape in
-      let all = tape_few w s.consistent.room in
-      let one = tape_limit w.routes w.counts in
+      let all = bounds.tape w s.consistent in
       let limit : planned w.routes w.counts ≤ 16777216 = of.limited in
-      omega (arith, both, all, one, limit)
+      omega (arith, both, all, limit)
 
-pub run_fits : (names : List (List ℕ)) (plans : List Plan) (shadowed : ℕ) (w : Plain) → IsOf names plans w → AreTyped names plans w → IsShort shadowed → Sound w
+pub run_fits : PlaceLaws → BoundLaws → (names : List (List ℕ)) (plans : List Plan) (shadowed : ℕ) (w : Plain) → IsOf names plans w → AreTyped names plans w → IsShort shadowed → Sound w
     → IsTrace (trace_of_run names plans shadowed (run_shown w))
 unfolding IsTrace
-run_fits names plans shadowed w of typed short s = (
+run_fits places bounds names plans shadowed w of typed short s = (
   tt,
   (
-    (played_short names plans w of typed s, short),
+    (played_short places bounds names plans w of typed s, short),
     are_lines-append (flat_map lines_of_component (trace_components (run_shown w) 0 plans)) (map line.Tape (map (tape_entry names) w.tape))
-        (components_fit names plans w of typed s plans 0 (λ i p at. let same : i ≡ 0 + i = omega arith in subst (λ k. slice_get plans k ≡ Some p) same at)) (tape_fits names w.tape (entry_at names plans w of typed s)),
+        (components_fit places bounds names plans w of typed s plans 0 (λ i p at. let same : i ≡ 0 + i = omega arith in subst (λ k. slice_get plans k ≡ Some p) same at)) (tape_fits names w.tape (entry_at places bounds names plans w of typed s)),
   ),
 )

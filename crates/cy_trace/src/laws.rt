@@ -2,6 +2,8 @@
 ghost use Rattle.cy_trace.specs.Laws.{FirstBadIsOne, LinesAreSpelled, LinesReadBack, RunsAreTraces};
 ghost use Rattle.cy_trace.specs.Laws.{RunsFit, RunsReadBack, TextsOfTracesAreGood, TextsTellTraces};
 
+use wake_core::laws;
+
 /// A line that is written is read back, and whatever is read is just how a line is written.
 pub fn lines_read_back()
     ensures back { LinesReadBack }
@@ -29,4 +31,7 @@ pub fn runs_are_traces()
 pub fn runs_are_read_back()
     ensures fit { RunsFit }
     ensures back { RunsReadBack }
-{}
+{
+    laws::places();
+    laws::bounds();
+}
