@@ -17,7 +17,7 @@ use Rattle.cy_table.specs.Ends.{IsNew}
 use Rattle.cy_table.specs.Calls.{made_of, seat_of}
 use Rattle.cy_table.specs.Seats.{Seat}
 use Rattle.cy_table.specs.Plays.{Thread, seat_for}
-use Rattle.cy_table_tests.specs.Passes.{IsFirst}
+use Rattle.cy_table_tests.specs.Passes.{IsFirst, IsOpeningOfOne}
 
 -- The route of the only component is that of one that passes on.
 route_is : (p : Plan) → p.kind ≡ passing → p.readers ≡ 0 ∷ [] → p.out ≡ 1 → route_of p ≡ pass_route p.queue
@@ -29,13 +29,18 @@ only_route names [] w = absurd (omega (arith, w.one))
 only_route names (p ∷ []) w = (p.queue, ap (λ (x : Route). x ∷ []) (route_is p (w.passes p refl) (w.reads p refl) (w.writes p refl)))
 only_route names (p ∷ q ∷ rest) w = absurd (omega (arith, w.one))
 
--- A table that is new has the player's pass before the only message is played.
-pub first_is : {names : List (List ℕ)} {plans : List Plan} {to_step : ℕ → Option Tuple} {world : World} {t : FlagTable} {p : Pass} → IsPassWiring names plans
-    → IsOpening (routes_of plans) (1 ∷ 0 ∷ []) (plain_of world) to_step → IsNew world t p → IsFirst t p
-first_is {names} {plans} {to_step} {world} {t} {p} wiring opening new =
+-- An opening world of such a wiring.
+pub opening_is : {names : List (List ℕ)} {plans : List Plan} {count : ℕ} {to_step : ℕ → Option Tuple} {w : Plain} → IsPassWiring names plans
+    → IsOpening (routes_of plans) (count ∷ 0 ∷ []) w to_step → IsOpeningOfOne count w
+opening_is {names} {plans} {count} wiring opening =
     let only : (queue : ℕ) × (routes_of plans ≡ pass_route queue ∷ []) = only_route names plans wiring in
-    let opens : plain_of world ≡ opening_world (routes_of plans) (1 ∷ 0 ∷ []) = opening.opens in
-    let known : made_of t ≡ opening_world (routes_of plans) (1 ∷ 0 ∷ []) = new.made ∙ opens in
+    record { queue = only.0; opens = opening.opens ∙ ap (λ (l : List Route). opening_world l (count ∷ 0 ∷ [])) only.1 }
+
+-- A table that is new has the player's pass before the first message is played.
+pub first_is : {count : ℕ} {world : World} {t : FlagTable} {p : Pass} → IsOpeningOfOne count (plain_of world) → IsNew world t p → IsFirst count t p
+first_is {count} {world} {t} {p} opening new =
+    let opens : plain_of world ≡ opening_world (pass_route opening.queue ∷ []) (count ∷ 0 ∷ []) = opening.opens in
+    let known : made_of t ≡ opening_world (pass_route opening.queue ∷ []) (count ∷ 0 ∷ []) = new.made ∙ opens in
     let seat : seat_of p ≡ seat_for world = ap (λ (m : Thread). m.0) new.thread in
     record {
       free = record {
@@ -55,7 +60,7 @@ first_is {names} {plans} {to_step} {world} {t} {p} wiring opening new =
         out = ap (λ (m : Thread). m.1) new.thread;
       };
       player = new.player.player;
-      one = record { queue = only.0; routes = ap (λ (w : Plain). w.routes) known ∙ only.1 };
+      one = record { queue = opening.queue; routes = ap (λ (w : Plain). w.routes) known };
       counts = ap (λ (v : Seat). v.counts) seat ∙ ap (λ (w : Plain). w.counts) opens;
       played = ap (λ (v : Seat). v.played) seat ∙ ap (λ (w : Plain). played_of w.routes w.tape) opens;
       clock = ap (λ (v : Seat). v.clock) seat ∙ ap (λ (w : Plain). w.clock) opens;

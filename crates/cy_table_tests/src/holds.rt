@@ -1,39 +1,13 @@
 // Two passes, of which one finds the croutine held.
-ghost use Rattle.std.specs.Prelude.{◌≡◌, IfSome, IfNone};
-ghost use Rattle.cy_table.specs.Calls.{number_of, seat_of, state_of};
-ghost use Rattle.cy_table_tests.specs.Passes.{IsFree, IsOfOne, HasKnown};
+ghost use Rattle.std.specs.Prelude.{◌≡◌};
+ghost use Rattle.cy_table.specs.Calls.{number_of};
+ghost use Rattle.cy_table_tests.specs.Passes.{IsFree, IsOfOne};
 
 use crate::tables::{one_more, table_of_one, take_in, world_of};
+use crate::walk::{give, take};
 use cy_comp::State;
-use cy_table::{Busy, FlagTable, Hold, Pass};
+use cy_table::{FlagTable, Pass};
 use std::test::Fail;
-
-/// Takes component 0 and updates it; none where it was found held.
-pub(crate) fn take(table: &FlagTable, pass: &mut Pass) -> Option<(Hold, State)>
-    requires free { IsFree table.now pass.old }
-    requires one { IsOfOne table.now }
-    ensures number { number_of pass.new ≡ number_of pass.old }
-    ensures taken { IfSome result (λ r. HasKnown table.now pass.new r.0) }
-    ensures state { IfSome result (λ r. r.1 ≡ state_of (seat_of pass.new)) }
-    ensures busy { IfNone result (IsFree table.now pass.new) }
-{
-    match table.acquire(pass, 0) {
-        Ok(mut hold) => {
-            let state = table.update(pass, &mut hold);
-            Some((hold, state))
-        }
-        Err(Busy) => None,
-    }
-}
-
-/// Gives it back.
-pub(crate) fn give(table: &FlagTable, pass: &mut Pass, hold: Hold)
-    requires { HasKnown table.now pass.old hold }
-    ensures number { number_of pass.new ≡ number_of pass.old }
-    ensures free { IsFree table.now pass.new }
-{
-    table.release(pass, hold);
-}
 
 // Whether component 0 is held by another pass; where not, it is taken and given back.
 fn is_busy(table: &FlagTable, pass: &mut Pass) -> bool
@@ -74,7 +48,7 @@ pub(crate) fn take_beside(
 
 #[test]
 fn finds_a_held_croutine_busy(rt: HostRuntime) -> Result<(), Fail> {
-    let (table, mut player) = table_of_one(&rt)?;
+    let (table, mut player) = table_of_one(&rt, 1)?;
     let mut other = one_more(&table, &mut player)?;
     assert_eq!(rt;
         take_beside(&table, &mut player, &mut other),

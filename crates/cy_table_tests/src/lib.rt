@@ -10,3 +10,5 @@ mod holds;
 mod scans;
 #[cfg(test)]
 mod tables;
+#[cfg(test)]
+mod walk;

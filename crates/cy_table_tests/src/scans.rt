@@ -3,9 +3,9 @@ ghost use Rattle.std.specs.Prelude.{◌≡◌, [], ◌∷◌, IfOk};
 ghost use Rattle.cy_table.specs.Calls.{number_of};
 ghost use Rattle.cy_table_tests.specs.Passes.{IsFree, IsOfOne};
 
-use crate::doors::resume;
-use crate::holds::{give, take_beside};
+use crate::holds::take_beside;
 use crate::tables::{one_more, table_of_one, take_in, world_of};
+use crate::walk::{give, resume};
 use cy_comp::State;
 use cy_ctx::Context;
 use cy_msg::{ContextPlan, Items, Text, Token, Tuple};
@@ -53,7 +53,7 @@ fn resume_next<R: Wait>(
 #[test]
 fn scans_until_nothing_is_ready(rt: HostRuntime) -> Result<(), Fail> {
     let context = context_of_one(&rt)?;
-    let (table, mut player) = table_of_one(&rt)?;
+    let (table, mut player) = table_of_one(&rt, 1)?;
     let mut other = one_more(&table, &mut player)?;
     assert_eq!(rt;
         take_beside(&table, &mut player, &mut other),

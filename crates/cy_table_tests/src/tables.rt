@@ -3,7 +3,8 @@ ghost use Rattle.std.specs.Prelude.{ℕ, ◌≡◌, None, length, IfOk};
 ghost use Rattle.cy_table_tests.specs.PassWiring.{IsPassWiring};
 ghost use Rattle.wake_core.specs.WorldOf.{plain_of, to_step};
 ghost use Rattle.cy_table.specs.Calls.{number_of};
-ghost use Rattle.cy_table_tests.specs.Passes.{IsFree, IsFirst, IsOfOne};
+ghost use Rattle.cy_table_tests.specs.Passes.{IsFree, IsFirst, IsOfOne, IsOpeningOfOne};
+ghost use Rattle.cy_table_tests.specs.Passes.{KnowsTheSame};
 
 use cy_comp::{Kind, Plan, Wiring};
 use cy_msg::{Items, Names, Text};
@@ -32,12 +33,19 @@ fn pass_wiring(rt: &HostRuntime) -> Result<Wiring, Fail>
     Ok(Wiring::of_one(names, Items::new(vec![in rt.alloc(); plan]?)))
 }
 
-/// The table of that component, for one message of /a, and the player's pass.
-pub(crate) fn table_of_one(rt: &HostRuntime) -> Result<(FlagTable, Pass), Fail>
-    ensures { IfOk result (λ r. IsFirst r.0 r.1) }
+/// The world of that component, for so many messages of /a.
+pub(crate) fn world_of_one(rt: &HostRuntime, count: u32) -> Result<World, Fail>
+    ensures { IfOk result (λ w. IsOpeningOfOne count (plain_of w)) }
 {
     let wiring = pass_wiring(rt)?;
-    let world = World::new(rt.alloc(), &wiring, &[1, 0])?;
+    Ok(World::new(rt.alloc(), &wiring, &[count, 0])?)
+}
+
+/// The table of that world, and the player's pass.
+pub(crate) fn table_of_one(rt: &HostRuntime, count: u32) -> Result<(FlagTable, Pass), Fail>
+    ensures { IfOk result (λ r. IsFirst count r.0 r.1) }
+{
+    let world = world_of_one(rt, count)?;
     Ok(FlagTable::new(rt.alloc(), world)?)
 }
 
@@ -47,6 +55,7 @@ pub(crate) fn one_more(table: &FlagTable, player: &mut Pass) -> Result<Pass, Fai
     requires player { number_of player.old ≡ 0 }
     ensures number { number_of player.new ≡ 0 }
     ensures free { IsFree table.now player.new }
+    ensures same { KnowsTheSame player.old player.new }
     ensures other { IfOk result (λ q. IsFree table.now q) }
 {
     if player.split_off() >= 64 {
