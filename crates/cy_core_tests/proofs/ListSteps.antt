@@ -1,13 +1,14 @@
 -- Messages of a play list, one more at a time, and their numbers on channels.
-use Rattle.std.proofs.Common.{ℕ, zero, suc, ◌≡◌, ◌==◌, ◌+◌, ◌≤◌, ◌<◌, ◌⊎◌, refl, sym, ap, ◌∙◌, inl, inr, arith, List, [], ◌∷◌, ◌++◌, length, take, slice_get, slice_index, get_or, Some, cond}
+use Rattle.std.proofs.Common.{ℕ, zero, suc, ◌≡◌, ◌==◌, ◌+◌, ◌≤◌, ◌<◌, ◌⊎◌, refl, sym, ap, subst, ◌∙◌, inl, inr, arith, List, [], ◌∷◌, ◌++◌, length, take, slice_get, slice_index, get_or, Some, cond}
 use Rattle.std.proofs.lemmas.Bool.Decides.{eqb_tells}
 use Rattle.std.proofs.lemmas.Option.{none-some, slice_get_within}
+use Rattle.std.proofs.lemmas.List.{take-append-le}
+use Rattle.std.proofs.Math.Seq.{take-append_seam}
 use Rattle.std.proofs.lemmas.List.Filters.{length-filter_more}
 use Rattle.std.proofs.Math.ListN.{get_or-eq_default}
 use Rattle.cy_msg.proofs.OnceSteps.{slice_get-push_cases}
 use Rattle.cy_msg.specs.declared.token.Token.{Token}
 use Rattle.cy_msg.specs.Tokens.{on_channel}
-use Rattle.wake_core.proofs.Listing.{snoc_at}
 use Rattle.cy_core_tests.specs.Lists.{AreCounts, AreTokens, IsNext}
 
 pub tokens_none : (inputs : ℕ) → AreTokens inputs []
@@ -20,7 +21,10 @@ tokens_none inputs = record {
 pub tokens_more : (inputs : ℕ) (tokens : List Token) (t : Token) → AreTokens inputs tokens → IsNext inputs tokens t → AreTokens inputs (tokens ++ t ∷ [])
 tokens_more inputs tokens t are is = record {
   known = λ n s at. elim (slice_get-push_cases tokens t n s at) [ inl h ↦ are.known n s h | inr h ↦ rw (sym h.1) is.known ];
-  numbered = snoc_at (λ before (s : Token). s.seq ≡ length (on_channel s.channel before) + 1) tokens t are.numbered is.seq;
+  numbered = λ n s at. elim (slice_get-push_cases tokens t n s at) [
+    | inl h ↦ rw (take-append-le n tokens (t ∷ []) (omega (arith, slice_get_within tokens n s h))) (are.numbered n s h)
+    | inr h ↦ subst (λ (u : Token). u.seq ≡ length (on_channel u.channel (take n (tokens ++ t ∷ []))) + 1) h.1 (rw (h.0, take-append_seam tokens (t ∷ [])) is.seq)
+  ];
   timed = λ n r s p q. elim (slice_get-push_cases tokens t (n + 1) s q) [
     | inl later ↦ elim (slice_get-push_cases tokens t n r p) [
       | inl before ↦ are.timed n r s before later
