@@ -47,6 +47,13 @@ varint_in-varint_within (suc k) n at rest h = elim (cases_lt n 128) [
       ∙ ap (λ (m : ℕ). Ok (n, m)) (one-add (length (varint_within k (n / 128)))))
 ]
 
+-- A first byte that is low is the whole number.
+pub first_at : (at b : ℕ) (bytes : List ℕ) → b < 128 → varint_at at (b ∷ bytes) ≡ Ok (b, 1)
+unfolding varint_at
+first_at at b bytes h =
+    let fits : b < 2 ^ 64 = omega arith in
+    ap low_64_bits (varint_in-low 9 at b bytes h) ∙ ap (λ (m : ℕ). Ok (m, 1)) (mod-eq_of_lt fits)
+
 -- A number that was written is the one that is read, whatever follows it.
 pub varint_at-varint_bytes : (n at : ℕ) (rest : List ℕ) → n < 2 ^ 64 → varint_at at (varint_bytes n ++ rest) ≡ Ok (n, length (varint_bytes n))
 unfolding varint_at varint_bytes

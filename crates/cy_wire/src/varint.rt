@@ -6,8 +6,22 @@ ghost use Rattle.cy_wire.specs.Varint.{varint_at};
 use crate::WireError;
 use crate::writer::LONGEST;
 
-// The number at the front of bytes that stand at a place, and how many bytes it takes.
+// The number at the front of bytes that stand at a place, and how many bytes it takes. Most numbers
+// take one byte.
+#[tactic(auto, using(crate::proofs::VarintSteps::first_at))]
 pub(crate) fn varint_at(bytes: &[u8], at: u64) -> Result<(u64, usize), WireError>
+    ensures number { result ≡ varint_at at bytes.now }
+    ensures taken { IfOk result (λ x. TakesSome x.1 bytes.now) }
+    ensures not_memory { IfErr result (λ e. e ≢ WireError.Memory) }
+{
+    match bytes.split_first() {
+        Some((byte, _)) if *byte < 128 => Ok((u64::from(*byte), 1)),
+        _ => long_varint_at(bytes, at),
+    }
+}
+
+// The same, byte by byte.
+fn long_varint_at(bytes: &[u8], at: u64) -> Result<(u64, usize), WireError>
     ensures number { result ≡ varint_at at bytes.now }
     ensures taken { IfOk result (λ x. TakesSome x.1 bytes.now) }
     ensures not_memory { IfErr result (λ e. e ≢ WireError.Memory) }

@@ -1,7 +1,7 @@
 use Rattle.std.proofs.Common.{rules, ◌≡◌, ◌<◌, ◌≤◌, ◌^◌, ◌*◌, ◌+◌, ◌%◌, length, get_or, arith, sym}
 use Rattle.cy_wire.proofs.Fronts.{scale_bound, below_next, next_scale, last_scale}
 use Rattle.cy_wire.proofs.VarintSteps.{ends_at, last_at, last_fits, step, long_at}
-use Rattle.cy_wire.proofs.varint.varint_at.Goals as goal
+use Rattle.cy_wire.proofs.varint.long_varint_at.Goals as goal
 
 pub returns-in_default-clause-number : goal.returns-in_default-clause-number
 returns-in_default-clause-number c =

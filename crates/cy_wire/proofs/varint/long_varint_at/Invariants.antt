@@ -1,6 +1,6 @@
 use Rattle.std.proofs.Common.{◌≡◌, ◌<◌, ◌^◌, ◌-◌, drop}
 use Rattle.cy_wire.specs.Varint.{varint_in, above}
-use Rattle.cy_wire.proofs.varint.varint_at.Given as goal
+use Rattle.cy_wire.proofs.varint.long_varint_at.Given as goal
 
 abbrev pub invariant-loop-place : goal.invariant-loop-place
 invariant-loop-place l = record {
