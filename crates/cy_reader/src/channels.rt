@@ -21,6 +21,9 @@ const LARGEST_CHANNELS: u64 = 268_435_456;
 /// The longest name of a channel, in bytes.
 const LONGEST_NAME: u64 = 4_096;
 
+// As many channels as are looked at one by one.
+const FEW_CHANNELS: usize = 8;
+
 // The channels that were met so far, and the number of each name.
 #[derive(Drop)]
 pub(crate) struct Channels {
@@ -65,11 +68,24 @@ fn size_of(known: &Known) -> u64
     name + message_type + proto_desc
 }
 
-// The number of a channel's name.
+// The number of a channel's name, by a look at each channel.
+fn place_of(channels: &[Known], name: &str) -> Option<usize>
+    ensures { result ≡ number_of name.now channels.now }
+{
+    channels
+        .iter()
+        .position(|known| known.channel.name.as_str() == name)
+}
+
+// The number of a channel's name. Where there are few, a look at each takes less time than the hash
+// of the name.
 fn number_of(channels: &Channels, name: &str) -> Option<u32>
     requires { IsTied channels.now }
     ensures { result ≡ number_of name.now channels.now.list.items }
 {
+    if channels.list.len() <= FEW_CHANNELS {
+        return place_of(channels.list.as_slice(), name).map(|place| place as u32);
+    }
     channels.numbers.get(name).copied()
 }
 
