@@ -1,7 +1,7 @@
 # For the measuring scripts here.
 
-# As the launcher has it: large pages for the room that a run reserves.
-export GLIBC_TUNABLES=${GLIBC_TUNABLES:-glibc.malloc.hugetlb=1}
+# As the launcher has it: one piece of large pages for the room that a run reserves.
+export GLIBC_TUNABLES=${GLIBC_TUNABLES:-glibc.malloc.hugetlb=1:glibc.malloc.mmap_max=0:glibc.malloc.top_pad=67108864}
 
 # Enters a repository of its own, in the folder `work`, for a program that is measured, over copies of these crates.
 repository() { # the folder of this repository, the program, and the crates
