@@ -24,3 +24,4 @@ pub use laws::{
 pub use read::read_trace;
 pub use text::trace_text;
 pub use trace::{TapeEntry, Trace, TraceCall, TraceComponent, TraceOutput};
+pub use typed::trace_is_read_back;

@@ -11,7 +11,7 @@ ghost use Rattle.cy_trace.specs.TraceText.{components_text, trace_text as text_o
 
 use crate::TraceError;
 use crate::lines::{push_component, push_head, push_tape_lines};
-use crate::typed::is_read_back;
+use crate::typed::trace_is_read_back;
 use cy_comp::{Call, Plan, Wiring};
 use cy_msg::Bytes;
 use std::alloc::{AllocError, Global};
@@ -19,8 +19,8 @@ use wake_core::World;
 
 /// The trace of a world that was made for this wiring and whose run has come to its end: what was
 /// played and how many messages were shadowed, each component's arrivals, calls and end, and the
-/// tape. `read_trace` reads it back, since no more is planned than a world keeps. Its only error is
-/// `Memory`.
+/// tape. `read_trace` reads it back where no more is planned than a world keeps, as for every world
+/// that `World::new` makes. Its only error is `Memory`.
 pub fn trace_text(
     alloc: Global,
     world: &World,
@@ -36,7 +36,7 @@ pub fn trace_text(
         → IfOk result IsTraceText }
     ensures memory { IfErr result (λ e. e ≡ TraceError.Memory) }
 {
-    is_read_back(world, wiring, shadowed);
+    trace_is_read_back(world, wiring, shadowed);
     let mut to = Vec::new(alloc);
     push_trace(alloc, &mut to, world, wiring, shadowed)?;
     Ok(Bytes::from_vec(to))

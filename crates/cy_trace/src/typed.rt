@@ -54,9 +54,10 @@ fn messages_suit(messages: &[Token])
     }
 }
 
-// What is written of a world is the text of a trace, where no more is planned than a world keeps.
+/// What `trace_text` writes of a world is the text of a trace, where no more is planned than a world
+/// keeps. Proved here, and nothing to run.
 #[tactic(auto, using(crate::proofs::TextRead::text_is_read))]
-pub(crate) fn is_read_back(world: &World, wiring: &Wiring, shadowed: u32)
+pub fn trace_is_read_back(world: &World, wiring: &Wiring, shadowed: u32)
     requires routes { (plain_of world.now).routes ≡ routes_of wiring.now.plans }
     requires channels { (length (plain_of world.now).counts) ≡ length wiring.now.names }
     ensures { planned (plain_of world.now).routes (plain_of world.now).counts ≤ MOST_PLANNED
