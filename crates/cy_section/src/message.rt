@@ -66,6 +66,21 @@ pub fn message_size(name: &str, time: u64, content: &[u8]) -> u64
     1 + varint_len(size) + size
 }
 
+/// As many bytes as take less time one by one than by a copy.
+const FEW_BYTES: usize = 8;
+
+/// Appends bytes one by one, for which there is room.
+fn push_few(out: &mut Vec<u8>, bytes: &[u8])
+    requires { vec_len out.old + length bytes.now ≤ vec_capacity out.old }
+    ensures items { out.new.items ≡ out.old.items ++ bytes.now }
+    ensures len { vec_len out.new ≡ vec_len out.old + length bytes.now }
+    ensures capacity { vec_capacity out.new ≡ vec_capacity out.old }
+{
+    for byte in bytes {
+        out.push_reserved(*byte);
+    }
+}
+
 /// Appends bytes, for which there is room: that can't fail.
 fn push_bytes(out: &mut Vec<u8>, bytes: &[u8])
     requires { vec_len out.old + length bytes.now ≤ vec_capacity out.old }
@@ -73,7 +88,11 @@ fn push_bytes(out: &mut Vec<u8>, bytes: &[u8])
     ensures len { vec_len out.new ≡ vec_len out.old + length bytes.now }
     ensures capacity { vec_capacity out.old ≤ vec_capacity out.new }
 {
-    let _ = out.put_slice(bytes);
+    if bytes.len() <= FEW_BYTES {
+        push_few(out, bytes);
+    } else {
+        let _ = out.put_slice(bytes);
+    }
 }
 
 /// Appends a field that holds bytes, for which there is room.
