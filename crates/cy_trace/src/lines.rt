@@ -41,7 +41,7 @@ fn push_value(to: &mut Vec<u8>, value: Option<i64>) -> Result<(), AllocError>
     match value {
         None => Ok(()),
         Some(value) => {
-            to.extend_from_slice(b"=")?;
+            to.push(b'=')?;
             push_number(to, value)
         }
     }
@@ -56,7 +56,7 @@ fn push_out(to: &mut Vec<u8>, before: usize, out: &Option<Out>) -> Result<(), Al
         None => to.extend_from_slice(b"-"),
         Some(out) => {
             push_number(to, before + 1)?;
-            to.extend_from_slice(b"@")?;
+            to.push(b'@')?;
             push_number(to, out.time)?;
             push_value(to, out.whole)
         }
@@ -67,7 +67,7 @@ fn push_out(to: &mut Vec<u8>, before: usize, out: &Option<Out>) -> Result<(), Al
 fn push_seq(to: &mut Vec<u8>, message: &Token) -> Result<(), AllocError>
     ensures { OnOk result (to.new.items ≡ to.old.items ++ codes " " ++ decimal message.now.seq) }
 {
-    to.extend_from_slice(b" ")?;
+    to.push(b' ')?;
     push_number(to, message.seq)
 }
 
@@ -102,12 +102,13 @@ fn push_call_line(to: &mut Vec<u8>, before: usize, call: &Call) -> Result<(), Al
 {
     to.extend_from_slice(b"call ")?;
     push_number(to, call.position)?;
-    to.extend_from_slice(b"/")?;
+    to.push(b'/')?;
     push_number(to, call.tail)?;
     push_seqs(to, &call.tuple)?;
-    to.extend_from_slice(b" ")?;
+    to.push(b' ')?;
     push_out(to, before, &call.out)?;
-    to.extend_from_slice(b"\n")
+    to.push(b'\n')?;
+    Ok(())
 }
 
 // Calls, from a component's first one on.
@@ -204,7 +205,8 @@ fn push_tape_line(to: &mut Vec<u8>, starts: &[Bytes], token: &Token) -> Result<(
 {
     to.extend_from_slice(starts[token.channel as usize].as_slice())?;
     push_number(to, token.seq)?;
-    to.extend_from_slice(b"\n")
+    to.push(b'\n')?;
+    Ok(())
 }
 
 // The messages of the tape.
