@@ -1,5 +1,5 @@
 -- A file into which pieces are put, one by one.
-use Rattle.std.proofs.Common.{◌≡◌, ℕ, ◌+◌, ◌≤◌, Bool, cond, List, [], ◌∷◌, ◌++◌, length, Option, Some, None, Result, Ok, Err, IsErrOf, IfSome, refl, sym, ap, ◌∙◌, subst, inl, inr, arith, length-append, append-nil, append_assoc}
+use Rattle.std.proofs.Common.{◌≡◌, ℕ, ◌+◌, ◌≤◌, Bool, cond, List, [], ◌∷◌, ◌++◌, length, drop, Option, Some, None, Result, Ok, Err, IsErrOf, IfSome, refl, sym, ap, ◌∙◌, subst, inl, inr, arith, length-append, append-nil, append_assoc}
 use Rattle.std.specs.Prelude.{IsSomeAnd, OnOk, OnErr}
 use Rattle.std.specs.Option.{option_map, unwrap_or}
 use Rattle.std.proofs.lemmas.List.{take_all, drop_all, length-take, length-drop}
@@ -8,7 +8,7 @@ use Rattle.std.specs.Cmp.{eq_by_cmp_equiv}
 use Rattle.std.specs.Cmp.Lexicographic.{nat_list_cmp_total}
 use Rattle.std.specs.FinMap.{get, insert, get-insert}
 use Rattle.cy_store.specs.Files.{Files, Holds, Lacks}
-use Rattle.cy_store.specs.Write.{Write, Create, Put, after_write, after_writes, written_at, LeavesIn}
+use Rattle.cy_store.specs.Write.{Write, Create, Put, name_of, after_write, after_writes, written_at, LeavesIn}
 use Rattle.cy_store.specs.Store.{StoreView, Rose, StoreRose, WriteRose, SameCounts, HasCause, HasFault, HasWriteCauses}
 use Rattle.cy_store.specs.declared.error.StoreError.{StoreError}
 use Rattle.cy_store.specs.declared.error.StoreError.TheVariants as store_error
@@ -29,6 +29,17 @@ after_writes-append (x ∷ xs) ys m = after_writes-append xs ys (after_write x m
 pub map-after_writes : (xs ys : List Write) (files : Option Files) → option_map (after_writes ys) (option_map (after_writes xs) files) ≡ option_map (after_writes (xs ++ ys)) files
 map-after_writes xs ys None = refl
 map-after_writes xs ys (Some m) = ap (λ (n : Files). Some n) (sym (after_writes-append xs ys m))
+
+-- all writes of a file name it
+puts_named : (name : List ℕ) (puts : List (ℕ × List ℕ)) (before later : List Write) (w : Write) → before ++ w ∷ later ≡ puts_into name puts → name_of w ≡ name
+puts_named name [] [] later w e = cc
+puts_named name [] (x ∷ before) later w e = cc
+puts_named name (put ∷ rest) [] later w e = let same : w ≡ put_of name put = cc in ap name_of same
+puts_named name (put ∷ rest) (x ∷ before) later w e = puts_named name rest before later w (ap (drop 1) e)
+
+pub file_named : (name : List ℕ) (puts : List (ℕ × List ℕ)) (before later : List Write) (w : Write) → before ++ w ∷ later ≡ Create name ∷ puts_into name puts → name_of w ≡ name
+file_named name puts [] later w e = let same : w ≡ Create name = cc in ap name_of same
+file_named name puts (x ∷ before) later w e = puts_named name puts before later w (ap (drop 1) e)
 
 -- What an option holds.
 

@@ -1,8 +1,8 @@
 -- What the writes of a record make of the files: its bytes under its name.
-use Rattle.std.proofs.Common.{◌≡◌, ℕ, ◌+◌, Bool, true, false, cond, List, [], ◌∷◌, ◌++◌, map, length, Option, Some, refl, sym, ap, ◌∙◌, arith, append_assoc, append-nil, length-append}
+use Rattle.std.proofs.Common.{◌≡◌, ℕ, ◌+◌, Bool, true, false, cond, List, [], ◌∷◌, ◌++◌, map, length, Option, None, Some, refl, sym, ap, ◌∙◌, arith, append_assoc, append-nil, length-append}
 use Rattle.std.proofs.lemmas.List.{drop_at}
 use Rattle.std.specs.List.{flat_map}
-use Rattle.std.specs.Option.{unwrap_or}
+use Rattle.std.specs.Option.{option_map, unwrap_or}
 use Rattle.std.specs.Ordering.{nat_cmp, eq_by_cmp}
 use Rattle.std.specs.Cmp.Lexicographic.{slice_cmp, nat_list_cmp_total}
 use Rattle.std.specs.FinMap.{get, insert, get-insert, same_map, nat_cmp-IsAntisymmetric, slice_cmp-IsAntisymmetric}
@@ -83,6 +83,11 @@ after_puts (put ∷ rest) m name bytes =
 -- the writes of a file leave its bytes under its name
 pub after_file : (puts : List (ℕ × List ℕ)) (m : Files) (name : List ℕ) → after_writes (file_writes name puts) m ≡ insert m name (file_after [] puts)
 after_file puts m name = after_puts puts m name []
+
+-- those of a file in one piece leave that piece
+pub after_whole : (name bytes : List ℕ) (files : Option Files) → option_map (after_writes (file_writes name ((0, bytes) ∷ []))) files ≡ option_map (λ (m : Files). insert m name bytes) files
+after_whole name bytes None = refl
+after_whole name bytes (Some m) = ap Some (after_file ((0, bytes) ∷ []) m name ∙ ap (insert m name) (written_at-end [] bytes 0 refl))
 
 -- the writes of a record leave its bytes under its name
 pub after_record : (channels : List Channel) (chunks : List (List BodyMessage)) (m : Files) (name : List ℕ)

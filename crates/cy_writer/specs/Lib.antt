@@ -9,5 +9,6 @@ pub mod Steps
 pub mod Whole
 pub mod Laws
 pub mod RecordWrites
+pub mod File
 pub mod Messages
 pub mod Record

@@ -4,11 +4,12 @@
 //! `specs/Given` says what a writer was given and what it puts into its file for it, `specs/Stands`
 //! what it keeps of that, `specs/Writes` what stands in the store where a write fails.
 //! `specs/Record` says what one call comes to that writes a whole record, and `specs/Messages` how
-//! its messages are given.
+//! its messages are given, and `specs/File` what writing a file in one piece comes to.
 #![tactic(auto)]
 
 mod chunk;
 mod error;
+mod file;
 mod headers;
 mod kept;
 mod laws;
@@ -20,6 +21,7 @@ mod writer;
 mod writing;
 
 pub use error::WriteError;
+pub use file::write_file;
 pub use laws::{
     chunks_end_in_time, messages_stand_in_their_chunks, messages_stay_in_order,
     record_writes_leave_the_record,

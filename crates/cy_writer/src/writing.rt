@@ -20,6 +20,7 @@ ghost use Rattle.cy_writer.specs.Stands.{StandsFor, IsHeld};
 use crate::WriteError;
 use crate::chunk::{Chunk, NO_MESSAGES, counted};
 use crate::error::{no_memory_for_section, no_memory_for_text};
+use crate::file::write_file;
 use crate::headers::{Counts, complete, header_section, incomplete};
 use crate::kept::{KeptChannel, KeptChunk, index_entries};
 use crate::put::{put, put_both};
@@ -105,8 +106,7 @@ impl Writing {
         ensures { Begins self.now.name (S.shows store.old) (S.shows store.new) result }
     {
         let header = header_section(alloc, &incomplete())?;
-        store.create(self.name.as_str())?;
-        put(store, self.name.as_str(), 0, header.bytes())
+        write_file(store, self.name.as_str(), header.bytes())
     }
 
     /// Puts a channel.
