@@ -40,9 +40,6 @@ pub then_fault : {A Y B : Type 0} (w : Y → B) (reads : Files → Reads Refusal
 then_fault w reads next P Q old new x name f answer c is told =
     comes_fault w (λ m. reads m >>= next) Q old new name f answer record { same = c.same; counts = c.accepted.0 } is (λ g e. told_map old.files (λ m was. ap (λ q. q >>= next) was ∙ told g e) c.accepted.1)
 
-unless_none : {A : Type 0} (name : List ℕ) (g : DagError → Fault) (refusal : Option DagError) (x y : A) → refusal ≡ None → x ≡ y → in_file name g (unless refusal x) ≡ Accepts y
-unless_none name g refusal x y none same = rw (none, same) refl
-
 pub dag_accepted : (name : List ℕ) (file : Fields) (dag : Dag) → dag_refusal file ≡ None → dag.components ≡ components_of file → dag.unknown ≡ unknown_in_dag file → in_file name fault.Dag (dag_of file) ≡ Accepts (dag_says dag)
 dag_accepted name file dag none components unknown = rw (none, components, unknown) refl
 

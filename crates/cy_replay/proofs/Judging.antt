@@ -1,12 +1,12 @@
 -- What was read is judged, one test after another.
-use Rattle.std.proofs.Common.{ℕ, ◌≡◌, List, IfSome, Result, Ok, Err, Option, Some, None, refl, sym, ap, subst, ◌∙◌, arith}
+use Rattle.std.proofs.Common.{ℕ, ◌≡◌, List, IfSome, Result, Ok, Err, Option, Some, None, refl, sym, ap, subst, arith}
 use Rattle.std.specs.Prelude.{IfOk}
 use Rattle.cy_store.specs.Files.{Files}
-use Rattle.cy_store.specs.Reads.{Reads, Accepts, Refuses, ◌>>=◌}
+use Rattle.cy_store.specs.Reads.{Reads, Accepts, ◌>>=◌}
 use Rattle.cy_store.specs.Store.{StoreView, SameCounts}
 use Rattle.cy_replay.specs.declared.error.Refusal.{Refusal}
 use Rattle.cy_replay.specs.declared.error.SetupError.{SetupError}
-use Rattle.cy_replay.specs.declared.error.SetupError.TheVariants.{Refused, Memory}
+use Rattle.cy_replay.specs.declared.error.SetupError.TheVariants.{Memory}
 use Rattle.cy_replay.specs.Comes.{ComesTo, IsJudged}
 
 -- what is in the way of the first test is in the way of both
@@ -30,14 +30,6 @@ judges_memory {Y} w due e is = subst (λ a. let r : Result Y SetupError = Err a 
 
 pub judges_ok : {Y B : Type 0} (w : Y → B) (due : Reads Refusal B) (y : Y) → due ≡ Accepts (w y) → IsJudged w due (Ok y)
 judges_ok w due y is = record { accepted = is; refused = λ refusal e. absurd cc; unread = λ file e. absurd cc }
-
--- a refusal, or the want of memory for its name
-pub judges_refused : {Y B : Type 0} (w : Y → B) (due : Reads Refusal B) (refusal : Refusal) → due ≡ Refuses refusal → (let r : Result Y SetupError = Err (Refused refusal) in IsJudged w due r)
-judges_refused w due refusal is = record {
-  accepted = tt;
-  refused = λ other e. let same : refusal ≡ other = cc in is ∙ ap Refuses same;
-  unread = λ file e. absurd cc;
-}
 
 always : {P : Files → Type 0} (files : Option Files) → ((m : Files) → P m) → IfSome files P
 always None h = tt

@@ -1,5 +1,5 @@
 -- A record that was read, or why it wasn't.
-use Rattle.std.proofs.Common.{ℕ, ◌≡◌, List, Option, IfSome, Result, Ok, Err, refl, sym, ap, subst, ◌∙◌, inl, inr}
+use Rattle.std.proofs.Common.{ℕ, ◌≡◌, List, Option, IfSome, Result, Err, refl, sym, ap, subst, ◌∙◌, inl, inr}
 use Rattle.std.specs.Prelude.{◌⊎◌}
 use Rattle.cy_store.specs.Files.{Files, Holds, Lacks}
 use Rattle.cy_store.specs.Reads.{Refuses, Absent, judged, file_by}
@@ -19,18 +19,6 @@ use Rattle.cy_replay.proofs.Texts.{held_is_told}
 
 abbrev pub Comes : List ℕ → StoreView → StoreView → Result Contents SetupError → Type 0
 Comes name old new r = ComesTo (λ c. c) (record_in name) (λ file. file ≡ name) old new r
-
-pub is_read : (name : List ℕ) (old new : StoreView) (contents : Contents) → (let r : Result Contents LoadError = Ok contents in LoadAnswer old new name r) → Comes name old new (Ok contents)
-is_read name old new contents a =
-    let counts = a.causes.quiet (λ e. absurd cc) in
-    record {
-      accepted = (counts, held_is_told name (λ bytes. contents_or name (record_of name bytes)) old.files (λ bytes is. ap (λ q. judged (contents_or name q)) is) a.contents);
-      refused = λ refusal e. absurd cc;
-      failed = λ file e. absurd cc;
-      same = a.same;
-      faults_stay = a.causes.faults_stay;
-      misses_stay = a.causes.misses_stay;
-    }
 
 starved : (name : List ℕ) (old new : StoreView) (fault : LoadError) (answer : SetupError) → answer ≡ Memory → (let r : Result Contents LoadError = Err fault in LoadAnswer old new name r) → Comes name old new (Err answer)
 starved name old new fault answer none a = subst (λ e. Comes name old new (Err e)) (sym none) record {

@@ -6,9 +6,6 @@ use Rattle.cy_section.specs.RecordText.{IsRecordText, record_bytes}
 use Rattle.cy_msg.specs.declared.play_list.PlayList.{PlayList}
 use Rattle.cy_reader.specs.Record.{Contents}
 use Rattle.cy_reader.specs.Play.{Choice, IsPlayList}
-use Rattle.wake_core.specs.declared.route.Route.{Route}
-use Rattle.wake_core.specs.Run.{Run}
-use Rattle.wake_core.specs.Serial.{SerialRun}
 use Rattle.cy_replay.specs.Recording.{Source, IsWritable, channels_of_tape, messages_of_tape}
 use Rattle.cy_replay.specs.Recording.{chunks_of_tape}
 
@@ -23,10 +20,3 @@ abbrev pub PlacesAreThere : Type 0
 PlacesAreThere = (whole : Contents) (choice : Choice) (list : PlayList)
     → IsPlayList whole choice list → (n place : ℕ) → slice_get list.places n ≡ Some place
     → place < length whole.messages
-
--- Each message of a serial run of a play list comes from one of its places, if from any.
-abbrev pub OriginsAreThere : Type 0
-OriginsAreThere = (whole : Contents) (choice : Choice) (list : PlayList) (routes : List Route)
-    (scan : List ℕ) (w : Run) → IsPlayList whole choice list → SerialRun routes scan list.tokens w
-    → (n o : ℕ) (t : Token) → slice_get w.tape n ≡ Some t → t.origin ≡ Some o
-    → o < length list.places

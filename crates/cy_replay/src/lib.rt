@@ -24,9 +24,7 @@ pub use error::{Fault, Refusal, SetupError};
 pub use passing::pass_is_wired;
 pub use played::Played;
 pub use read::read_configuration;
-pub use recording::{
-    played_places_are_there, serial_origins_are_there, tape_record_is_its_text, write_record,
-};
+pub use recording::{played_places_are_there, tape_record_is_its_text, write_record};
 pub use setup::{Components, Replay, Request, set_up};
 pub use text::LONGEST_CONFIG;
 pub use wiring::{place_components, wire_components};

@@ -25,7 +25,7 @@ use cy_reader::Record;
 use cy_section::Channel;
 use cy_store::Store;
 use cy_writer::{ChannelRef, WriteError};
-pub use laws::{played_places_are_there, serial_origins_are_there, tape_record_is_its_text};
+pub use laws::{played_places_are_there, tape_record_is_its_text};
 use std::alloc::Global;
 
 // The component that writes a channel.

@@ -1,6 +1,5 @@
 // What holds of every record that is written of a tape: proved here, and nothing to run.
 ghost use Rattle.cy_replay.specs.RecordLaws.{WritesText, PlacesAreThere};
-ghost use Rattle.cy_replay.specs.RecordLaws.{OriginsAreThere};
 
 /// What is put of a tape is the record text of its messages, on the channels that have one.
 pub fn tape_record_is_its_text()
@@ -13,12 +12,4 @@ pub fn tape_record_is_its_text()
 /// [`write_record`]: crate::write_record
 pub fn played_places_are_there()
     ensures { PlacesAreThere }
-{}
-
-/// Each message of a serial run of a play list has the content of one of the list's messages, or of
-/// its own value, as [`write_record`] needs it.
-///
-/// [`write_record`]: crate::write_record
-pub fn serial_origins_are_there()
-    ensures { OriginsAreThere }
 {}
