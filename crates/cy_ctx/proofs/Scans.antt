@@ -1,5 +1,5 @@
 -- Scans, croutine by croutine.
-use Rattle.std.proofs.Common.{ℕ, ◌+◌, ◌≡◌, ◌<◌, ◌∙◌, List, [], ◌∷◌, ◌++◌, map, refl, sym, ap, subst, arith, append_assoc, append-nil, Option, Some, None, length, take, drop, slice_index_or}
+use Rattle.std.proofs.Common.{ℕ, ◌+◌, ◌≡◌, ◌<◌, ◌∙◌, List, [], ◌∷◌, ◌++◌, map, refl, sym, ap, subst, arith, append_assoc, Option, Some, None, length, take, drop, slice_index_or}
 use Rattle.std.proofs.lemmas.List.{map-append, take_more, drop_more, take-append-drop}
 use Rattle.std.proofs.lemmas.List.Elements.{filter-append}
 use Rattle.std.specs.List.{filter}
@@ -9,7 +9,7 @@ use Rattle.cy_table.specs.declared.hold.Hold.{Hold}
 use Rattle.cy_table.specs.declared.table.FlagTable.{FlagTable}
 use Rattle.cy_table.specs.Seats.{Entry, Seat}
 use Rattle.cy_table.specs.Seats.Entry.{Busy, Found, Clock, Closing}
-use Rattle.cy_table.specs.Calls.{seat_of, component_of, state_of, after_spend, Updated}
+use Rattle.cy_table.specs.Calls.{seat_of, component_of}
 use Rattle.cy_ctx.specs.Note.{found_in, closings_in, was_ready, IsVain, EndsAt, GrewBy}
 use Rattle.cy_ctx.specs.Scan.{Looked, Passes, Takes}
 
@@ -61,14 +61,6 @@ grew_on P Q R u v w a b both = record {
   entries = a.entries ++ b.entries;
   grown = b.grown ∙ (ap (λ l. l ++ b.entries) a.grown ∙ append_assoc u a.entries b.entries);
   such = both a.entries b.entries a.such b.such;
-}
-
--- At the start of a scan.
-pub passes_none : (p : Pass) → Rattle.cy_table.specs.Calls.HasNoHold p → Passes [] p p
-passes_none p free = record {
-  free = record { hand = free.hand; out = free.out };
-  looked = record { same = refl; later = omega arith };
-  noted = record { entries = []; grown = sym (append-nil (seat_of p).note); such = record { each = refl; none_ready = refl; no_load = refl } };
 }
 
 -- One croutine more.

@@ -7,15 +7,15 @@ use Rattle.std.proofs.lemmas.Grind.{flat_map-append}
 use Rattle.std.proofs.lemmas.List.{take-append-drop, take_more, drop_more}
 use Rattle.std.proofs.lemmas.Option.{slice_get_within, get_or_from_slice_get}
 use Rattle.cy_store.specs.Files.{Files}
-use Rattle.cy_store.specs.Write.{Write, Create, name_of, after_writes}
+use Rattle.cy_store.specs.Write.{Write, after_writes}
 use Rattle.cy_store.specs.Store.{StoreView, SameCounts, HasWriteCauses}
 use Rattle.cy_writer.specs.declared.error.WriteError.{WriteError}
 use Rattle.cy_writer.specs.declared.error.WriteError.TheVariants as write_error
-use Rattle.cy_writer.specs.Writes.{Makes, StopsAt, StopsBefore, puts_into}
+use Rattle.cy_writer.specs.Writes.{Makes, StopsAt, StopsBefore}
 use Rattle.cy_section.specs.declared.types.BodyMessage.{BodyMessage}
 use Rattle.cy_writer.specs.Record.{messages_on}
 use Rattle.cy_writer.specs.RecordWrites.{file_writes, record_puts, chunks_given}
-use Rattle.cy_writer.proofs.Puts.{put_of, map-after_writes, StopsAt-first, StopsAt-then, StopsBefore-first, StopsBefore-then, causes_same, causes_then, causes_none, makes_nothing, untold_map}
+use Rattle.cy_writer.proofs.Puts.{file_named, map-after_writes, StopsAt-first, StopsAt-then, StopsBefore-first, StopsBefore-then, causes_same, causes_then, causes_none, makes_nothing, untold_map}
 use Rattle.cy_make.specs.declared.error.MakeError.{MakeError}
 use Rattle.cy_make.specs.declared.error.MakeError.TheVariants as make_error
 use Rattle.cy_make.specs.declared.config.Config.{Config}
@@ -24,17 +24,6 @@ use Rattle.cy_make.specs.Steps.{given_after}
 use Rattle.cy_make.specs.Texts.{suffix_of, text_of}
 use Rattle.cy_make.specs.Inputs.{record_name, config_writes, made_record_writes, FailsIn, Stops, IsAtFile, MakesFiles}
 use Rattle.cy_make.proofs.RecordText.{messages_shown}
-
--- all writes of a file name it
-puts_named : (name : List ℕ) (puts : List (ℕ × List ℕ)) (before later : List Write) (w : Write) → before ++ w ∷ later ≡ puts_into name puts → name_of w ≡ name
-puts_named name [] [] later w e = cc
-puts_named name [] (x ∷ before) later w e = cc
-puts_named name (put ∷ rest) [] later w e = let same : w ≡ put_of name put = cc in ap name_of same
-puts_named name (put ∷ rest) (x ∷ before) later w e = puts_named name rest before later w (ap (drop 1) e)
-
-file_named : (name : List ℕ) (puts : List (ℕ × List ℕ)) (before later : List Write) (w : Write) → before ++ w ∷ later ≡ file_writes name puts → name_of w ≡ name
-file_named name puts [] later w e = let same : w ≡ Create name = cc in ap name_of same
-file_named name puts (x ∷ before) later w e = puts_named name puts before later w (ap (drop 1) e)
 
 -- the file that an answer names
 abbrev pub IsOf : MakeError → List ℕ → List ℕ → Type 0

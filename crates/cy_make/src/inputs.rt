@@ -5,11 +5,10 @@ ghost use Rattle.cy_make.specs.Inputs.{MakesFiles, config_writes, input_writes};
 ghost use Rattle.cy_make.specs.Inputs.{made_record_writes};
 
 use crate::dag::name_with;
-use crate::file::write_file;
 use crate::record::write_made_record;
 use crate::{Config, MakeError};
 use cy_store::Store;
-use cy_writer::WriteError;
+use cy_writer::{WriteError, write_file};
 use std::alloc::Global;
 
 // A file that was not written, or the want of memory.

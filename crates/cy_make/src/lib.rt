@@ -8,7 +8,6 @@
 mod config;
 mod dag;
 mod error;
-mod file;
 mod inputs;
 mod laws;
 mod messages;
