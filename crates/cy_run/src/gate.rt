@@ -49,7 +49,8 @@ impl MeetGate {
         }
     }
 
-    /// Whether the first call of `second` was entered while that of `first` was held.
+    /// Whether the first call of `first`, while it was held, found that of `second` entered. That
+    /// one may have been entered before it, and have returned by then.
     pub fn met(&self) -> bool {
         self.met.load(Ordering::SeqCst)
     }
