@@ -5,6 +5,7 @@ use std::marker::Model;
 use std::sync::Wait;
 use std::sync::atomic::AtomicU64;
 use std::sync::atomic::Ordering::SeqCst;
+use std::thread;
 use std::thread::Parker;
 
 // The parts of `state`: how many processors rest, how many are at work or rest, and a number that
@@ -15,11 +16,21 @@ const ONE_CAME: u64 = 1 << 8;
 
 const NEWS: u64 = 1 << 16;
 
+// How often the player looks for processors that are to come or to rest, before it plays on; and
+// a processor for news, before it sleeps. Each look lets another thread run.
+const LOOKS_OF_PLAYER: u32 = 2000;
+
+const LOOKS_FOR_NEWS: u32 = 200;
+
 /// The parkers of the processors of a run. Contracts see it as their number.
 ///
 /// A processor that finds nothing to do rests until there is news: a message that may have woken a
 /// croutine, or the end of the play. When the play has ended, processors go as soon as all that came
 /// rest and there was no news since, so none goes while another one may still send to it.
+///
+/// The player begins when all have come, and is ahead of them by few messages, so that they skip
+/// little. It looks for either a bounded number of times, and then plays on: there may be no thread
+/// to be had, and a component may take long.
 #[derive(Drop)]
 pub struct Idle {
     parkers: Vec<Parker>,
@@ -73,6 +84,56 @@ impl Idle {
         }
     }
 
+    // The player waits until all processors came, for so many looks at most.
+    pub(crate) fn await_all(&self) {
+        for _ in 0..LOOKS_OF_PLAYER {
+            if came_in(self.state.load(SeqCst)) >= self.parkers.len() as u64 {
+                return;
+            }
+            thread::yield_now();
+        }
+    }
+
+    // How far the player is ahead after one message more: by none, where all that came rest. Where
+    // it is ahead by the lead it waits for that, for so many looks at most, and begins anew.
+    pub(crate) fn keep_pace(&self, ahead: u32, lead: u32) -> u32 {
+        if self.all_rest() {
+            return 0;
+        }
+        let now = ahead.saturating_add(1);
+        if now < lead {
+            return now;
+        }
+        self.await_rest();
+        0
+    }
+
+    fn await_rest(&self) {
+        for _ in 0..LOOKS_OF_PLAYER {
+            if self.all_rest() {
+                return;
+            }
+            thread::yield_now();
+        }
+    }
+
+    // Whether all processors that came rest.
+    fn all_rest(&self) -> bool {
+        let state = self.state.load(SeqCst);
+        resting_in(state) == came_in(state)
+    }
+
+    // Whether there is news that was not seen, within so many looks.
+    fn hears(&self, seen: u64) -> bool {
+        for _ in 0..LOOKS_FOR_NEWS {
+            if self.news() != seen {
+                return true;
+            }
+            thread::yield_now();
+        }
+        false
+    }
+
     // A processor that scanned in vain rests until there is news that it has not seen, and then
     // stays. It goes, which is true, where all that came rest and it found the play closing.
     pub(crate) fn rest<R: Wait>(&self, rt: &R, me: u32, seen: u64, closing: bool) -> bool
@@ -89,7 +150,9 @@ impl Idle {
                 self.unpark_all();
                 return true;
             }
-            self.parkers[me as usize].park(rt);
+            if !self.hears(seen) {
+                self.parkers[me as usize].park(rt);
+            }
         }
         unreachable!()
     }

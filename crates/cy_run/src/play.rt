@@ -13,8 +13,8 @@ use cy_table::{FlagTable, Pass};
 use std::sync::Wait;
 use wake_core::laws;
 
-// Plays the messages of a list, one after another. Then it sets the clock to its greatest value and
-// says that all was played.
+// Plays the messages of a list, one after another, when the processors came and at their pace. Then
+// it sets the clock to its greatest value and says that all was played.
 pub(crate) fn play_all<R: Wait>(
     rt: &R,
     table: &FlagTable,
@@ -29,12 +29,26 @@ pub(crate) fn play_all<R: Wait>(
     ensures played { IsPlayed table.now list.now.tokens player.old player.new }
 {
     laws::put();
+    idle.await_all();
+    let lead = least_queue(wiring);
+    let mut ahead = 0;
     for token in list.tokens.as_slice() {
         play(rt, table, player, token, idle, wiring);
+        ahead = idle.keep_pace(rt, ahead, lead);
     }
     table.tick(player, u64::MAX);
     table.set_closing(player);
     idle.wake();
+}
+
+// How many tuples the buffer of each component keeps at least: a player that is ahead by more may
+// make one of them skip.
+fn least_queue(wiring: &Wiring) -> u32 {
+    let mut least = u32::MAX;
+    for plan in wiring.plans.as_slice() {
+        least = least.min(plan.queue);
+    }
+    least
 }
 
 // Plays the next message: the clock is set to its time, and it is taped and delivered.
