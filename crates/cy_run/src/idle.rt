@@ -16,11 +16,11 @@ const ONE_CAME: u64 = 1 << 8;
 
 const NEWS: u64 = 1 << 16;
 
-// How often the player looks for processors that are to come or to rest, before it plays on; and
-// a processor for news, before it sleeps. Each look lets another thread run.
-const LOOKS_OF_PLAYER: u32 = 2000;
+// How often a thread looks for what it waits for before it sleeps, which is some microseconds; and
+// how often the player does so, and lets another thread run, before it begins without all processors.
+const LOOKS: u32 = 5000;
 
-const LOOKS_FOR_NEWS: u32 = 200;
+const ROUNDS: u32 = 200;
 
 /// The parkers of the processors of a run. Contracts see it as their number.
 ///
@@ -28,12 +28,13 @@ const LOOKS_FOR_NEWS: u32 = 200;
 /// croutine, or the end of the play. When the play has ended, processors go as soon as all that came
 /// rest and there was no news since, so none goes while another one may still send to it.
 ///
-/// The player begins when all have come, and is ahead of them by few messages, so that they skip
-/// little. It looks for either a bounded number of times, and then plays on: there may be no thread
-/// to be had, and a component may take long.
+/// The player begins when all have come, for which it waits a bounded time, since there may be no
+/// thread to be had; and it rests until all that came rest where it is ahead of them by some messages,
+/// so that they skip little.
 #[derive(Drop)]
 pub struct Idle {
     parkers: Vec<Parker>,
+    player: Parker,
     state: AtomicU64,
 }
 
@@ -58,6 +59,7 @@ impl Idle {
         }
         Ok(Idle {
             parkers,
+            player: Parker::new(),
             state: AtomicU64::new(0),
         })
     }
@@ -84,52 +86,66 @@ impl Idle {
         }
     }
 
-    // The player waits until all processors came, for so many looks at most.
+    // The player waits until all processors came, for so many rounds at most.
     pub(crate) fn await_all(&self) {
-        for _ in 0..LOOKS_OF_PLAYER {
-            if came_in(self.state.load(SeqCst)) >= self.parkers.len() as u64 {
+        for _ in 0..ROUNDS {
+            if self.have_come() {
                 return;
             }
             thread::yield_now();
         }
     }
 
+    // Whether all processors come while it looks.
+    fn have_come(&self) -> bool {
+        for _ in 0..LOOKS {
+            if came_in(self.state.load(SeqCst)) >= self.parkers.len() as u64 {
+                return true;
+            }
+        }
+        false
+    }
+
     // How far the player is ahead after one message more: by none, where all that came rest. Where
-    // it is ahead by the lead it waits for that, for so many looks at most, and begins anew.
-    pub(crate) fn keep_pace(&self, ahead: u32, lead: u32) -> u32 {
-        if self.all_rest() {
+    // it is ahead by the lead it rests until they do.
+    pub(crate) fn keep_pace<R: Wait>(&self, rt: &R, ahead: u32, lead: u32) -> u32 {
+        if all_rest_in(self.state.load(SeqCst)) {
             return 0;
         }
         let now = ahead.saturating_add(1);
         if now < lead {
             return now;
         }
-        self.await_rest();
+        self.await_rest(rt);
         0
     }
 
-    fn await_rest(&self) {
-        for _ in 0..LOOKS_OF_PLAYER {
-            if self.all_rest() {
+    // The player rests until all that came rest: the last of these wakes it.
+    fn await_rest<R: Wait>(&self, rt: &R) {
+        for _ in rt.forever() {
+            if self.come_to_rest() {
                 return;
             }
-            thread::yield_now();
+            self.player.park(rt);
         }
     }
 
-    // Whether all processors that came rest.
-    fn all_rest(&self) -> bool {
-        let state = self.state.load(SeqCst);
-        resting_in(state) == came_in(state)
+    // Whether all that came rest while it looks.
+    fn come_to_rest(&self) -> bool {
+        for _ in 0..LOOKS {
+            if all_rest_in(self.state.load(SeqCst)) {
+                return true;
+            }
+        }
+        false
     }
 
-    // Whether there is news that was not seen, within so many looks.
+    // Whether there is news that was not seen, while it looks.
     fn hears(&self, seen: u64) -> bool {
-        for _ in 0..LOOKS_FOR_NEWS {
+        for _ in 0..LOOKS {
             if self.news() != seen {
                 return true;
             }
-            thread::yield_now();
         }
         false
     }
@@ -157,7 +173,8 @@ impl Idle {
         unreachable!()
     }
 
-    // One processor more rests, where there is no news that it has not seen.
+    // One processor more rests, where there is no news that it has not seen. The last one wakes the
+    // player.
     fn comes_to_rest(&self, seen: u64) -> bool {
         let rested = |state: u64| {
             if state / NEWS == seen {
@@ -166,13 +183,21 @@ impl Idle {
                 None
             }
         };
-        self.state.fetch_update(SeqCst, SeqCst, rested).is_ok()
+        match self.state.fetch_update(SeqCst, SeqCst, rested) {
+            Ok(before) => {
+                if all_rest_in(before.wrapping_add(ONE_RESTS)) {
+                    self.player.unpark();
+                }
+                true
+            }
+            Err(_) => false,
+        }
     }
 
     // One that rests goes, where all rest and there is no news that it has not seen.
     fn goes(&self, seen: u64) -> bool {
         let left = |state: u64| {
-            if state / NEWS == seen && resting_in(state) == came_in(state) {
+            if state / NEWS == seen && all_rest_in(state) {
                 Some(state.wrapping_sub(ONE_RESTS + ONE_CAME))
             } else {
                 None
@@ -195,6 +220,11 @@ fn resting_in(state: u64) -> u64 {
 
 fn came_in(state: u64) -> u64 {
     state / ONE_CAME % (NEWS / ONE_CAME)
+}
+
+// Whether all processors that came rest.
+fn all_rest_in(state: u64) -> bool {
+    resting_in(state) == came_in(state)
 }
 
 // The state with news, in which nobody rests.
