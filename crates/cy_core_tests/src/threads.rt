@@ -130,6 +130,34 @@ fn makes_all_calls_of_one_context_on_its_processor(rt: HostRuntime) -> Result<()
     Ok(())
 }
 
+// The player waits for the processors, so that these make most of the calls, and skip little of a
+// list that would else be over before they run. A processor that comes late misses its beginning.
+#[test]
+fn plays_at_the_pace_of_the_processors(rt: HostRuntime) -> Result<(), Fail> {
+    let wiring = wiring(
+        &rt,
+        &["/a", "/o", "/z"],
+        &[(Kind::Pass, &[0]), (Kind::Pass, &[1])],
+    )?;
+    let mut messages = Vec::new(rt.alloc());
+    for time in 0..1000u64 {
+        messages.push((0, time, Some(1)))?;
+    }
+    let list = list(&rt, wiring.names.count() - 2, &messages)?;
+    let gate = CountGate::before(OpenGate);
+    let world = played(&rt, &rt, &wiring, &list, &pinned(&rt)?, &gate)?;
+    let calls = calls_of_two(&world);
+    let passed = gate.passed();
+    assert!(rt;
+        passed[0] >= 500 && passed[1] >= 500,
+        "{} {}",
+        passed[0],
+        passed[1]
+    );
+    assert!(rt; passed[0] <= calls[0] && passed[1] <= calls[1]);
+    Ok(())
+}
+
 // What playing one message comes to where a component passes it on to another: how many calls the
 // components have, how many of them processors made, and whether these overlapped. They never do,
 // since the second component is called on what the call of the first put out.
