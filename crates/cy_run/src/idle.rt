@@ -17,7 +17,7 @@ const ONE_CAME: u64 = 1 << 8;
 const NEWS: u64 = 1 << 16;
 
 // How often a thread looks for what it waits for before it sleeps, which is some microseconds; and
-// how often the player does so, and lets another thread run, before it begins without all processors.
+// how often the player does so, and lets another thread run, before it begins all the same.
 const LOOKS: u32 = 5000;
 
 const ROUNDS: u32 = 200;
@@ -29,7 +29,7 @@ const ROUNDS: u32 = 200;
 /// rest and there was no news since, so none goes while another one may still send to it.
 ///
 /// The player begins when all have come, for which it waits a bounded time, since there may be no
-/// thread to be had; and it rests until all that came rest where it is ahead of them by some messages,
+/// thread to be had. Where it is ahead of them by some messages it rests until all that came rest,
 /// so that they skip little.
 #[derive(Drop)]
 pub struct Idle {
