@@ -7,6 +7,7 @@ use std::sync::atomic::AtomicU64;
 use std::sync::atomic::Ordering::SeqCst;
 use std::thread;
 use std::thread::Parker;
+use std::time::Duration;
 
 // The parts of `state`: how many processors rest, how many are at work or rest, and a number that
 // changes with all news.
@@ -22,6 +23,12 @@ const LOOKS: u32 = 5000;
 
 const ROUNDS: u32 = 200;
 
+// How many milliseconds the player rests before it looks again, and how often it does so before it
+// plays on.
+const PAUSE: u64 = 10;
+
+const PAUSES: u32 = 100;
+
 /// The parkers of the processors of a run. Contracts see it as their number.
 ///
 /// A processor that finds nothing to do rests until there is news: a message that may have woken a
@@ -30,7 +37,7 @@ const ROUNDS: u32 = 200;
 ///
 /// The player begins when all have come, for which it waits a bounded time, since there may be no
 /// thread to be had. Where it is ahead of them by some messages it rests until all that came rest,
-/// so that they skip little.
+/// a second at most, so that they skip little.
 #[derive(Drop)]
 pub struct Idle {
     parkers: Vec<Parker>,
@@ -120,13 +127,14 @@ impl Idle {
         0
     }
 
-    // The player rests until all that came rest: the last of these wakes it.
+    // The player rests until all that came rest, of which the last one wakes it, or until some time
+    // has passed: a gate may hold a component until another one is called.
     fn await_rest<R: Wait>(&self, rt: &R) {
-        for _ in rt.forever() {
+        for _ in 0..PAUSES {
             if self.come_to_rest() {
                 return;
             }
-            self.player.park(rt);
+            self.player.park_timeout(rt, Duration::from_millis(PAUSE));
         }
     }
 
