@@ -1,7 +1,7 @@
 // Each call of the store fails in turn, and what stands then.
-use crate::ran::{Ran, chain_store, play};
+use crate::ran::{Ran, chain_store, play, play_with_threads};
 use crate::samples::{TRACE, open_record, out_record};
-use cy_store::MemSink;
+use cy_store::{MemSink, MemStore};
 use cyber_cli::Status;
 use std::alloc::Global;
 use std::process::Abort;
@@ -20,11 +20,11 @@ const FIRST_PUT: usize = 10;
 /// Where the pieces before each piece of the record end; the last one is put over the first.
 const ENDS: [usize; 8] = [0, 2064, 2088, 2112, 2136, 2160, 2212, 2318];
 
-// The run where this call of the program fails after it kept so many bytes.
-fn failing_at(alloc: Global, call: usize, keep: usize) -> Result<Ran, Fail> {
+// The chain's store, in which this call of the program fails after it kept so many bytes.
+fn failing_at(alloc: Global, call: usize, keep: usize) -> Result<MemStore, Fail> {
     let mut store = chain_store(alloc)?;
     store.fail_at(CALLS_BEFORE.saturating_add(call as u64), keep)?;
-    play(alloc, store, MemSink::new(alloc))
+    Ok(store)
 }
 
 // The line that tells of the failure of this call.
@@ -56,8 +56,7 @@ fn record_at(alloc: Global, piece: usize, keep: usize) -> Result<Vec<u8>, Fail> 
 }
 
 // What stands after a call that failed and kept so many bytes.
-fn stands(rt: &impl Abort, alloc: Global, call: usize, keep: usize) -> Result<(), Fail> {
-    let ran = failing_at(alloc, call, keep)?;
+fn stands(rt: &impl Abort, alloc: Global, ran: &Ran, call: usize, keep: usize) -> Result<(), Fail> {
     assert_eq!(rt; ran.status, Status::StoreFault, "{call}");
     assert_eq!(rt; ran.err.bytes(), line_of(call), "{call}");
     assert_eq!(rt; ran.out.bytes(), b"".as_slice(), "{call}");
@@ -81,10 +80,32 @@ fn stands(rt: &impl Abort, alloc: Global, call: usize, keep: usize) -> Result<()
 fn fails_each_call_in_turn(rt: HostRuntime) -> Result<(), Fail> {
     let alloc = rt.alloc();
     for call in 1..=CALLS {
-        stands(&rt, alloc, call, 0)?;
-        stands(&rt, alloc, call, 9)?;
+        for keep in [0, 9] {
+            let store = failing_at(alloc, call, keep)?;
+            let ran = play(alloc, store, MemSink::new(alloc))?;
+            stands(&rt, alloc, &ran, call, keep)?;
+        }
     }
-    let done = failing_at(alloc, CALLS + 1, 0)?;
+    let store = failing_at(alloc, CALLS + 1, 0)?;
+    let done = play(alloc, store, MemSink::new(alloc))?;
+    assert_eq!(rt; done.status, Status::Done);
+    Ok(())
+}
+
+// All reading is done before threads start, and all writing after they ended, so that the same
+// stands as after a serial play.
+#[test]
+fn fails_each_call_in_turn_with_threads(rt: HostRuntime) -> Result<(), Fail> {
+    let alloc = rt.alloc();
+    for call in 1..=CALLS {
+        for keep in [0, 9] {
+            let store = failing_at(alloc, call, keep)?;
+            let ran = play_with_threads(&rt, alloc, store, false)?;
+            stands(&rt, alloc, &ran, call, keep)?;
+        }
+    }
+    let store = failing_at(alloc, CALLS + 1, 0)?;
+    let done = play_with_threads(&rt, alloc, store, false)?;
     assert_eq!(rt; done.status, Status::Done);
     Ok(())
 }

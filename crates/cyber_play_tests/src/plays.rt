@@ -27,14 +27,21 @@ fn plays_a_chain_of_two(rt: HostRuntime) -> Result<(), Fail> {
     is_whole(&rt, alloc, &ran)
 }
 
-// The chain leaves threads no choice, so that they write what one writes.
+// The chain leaves threads no choice, so that they write what one writes. Its two processors share
+// both components, and neither ends while the other has one in hand: so they make both calls, and
+// none is left for the end.
 #[test]
 fn plays_a_chain_with_threads(rt: HostRuntime) -> Result<(), Fail> {
     let alloc = rt.alloc();
     for _ in 0..20usize {
-        is_whole(&rt, alloc, &play_with_threads(&rt, alloc, false)?)?;
+        let ran = play_with_threads(&rt, alloc, chain_store(alloc)?, false)?;
+        is_whole(&rt, alloc, &ran)?;
+        assert_eq!(rt; ran.by_processors, 2);
     }
-    is_whole(&rt, alloc, &play_with_threads(&rt, alloc, true)?)
+    let ran = play_with_threads(&rt, alloc, chain_store(alloc)?, true)?;
+    is_whole(&rt, alloc, &ran)?;
+    assert_eq!(rt; ran.by_processors, 0);
+    Ok(())
 }
 
 #[test]

@@ -1,11 +1,13 @@
 // Plays of the chain in memory.
 use crate::samples::{DAG, FIRST_CONFIG, SECOND_CONFIG, in_record};
 use cy_msg::Text;
-use cy_run::OpenGate;
+use cy_run::Gate;
 use cy_store::{MemSink, MemStore, Store};
+use cy_table::Hold;
 use cyber_cli::{Status, cyber, cyber_still};
 use std::alloc::Global;
 use std::sync::Wait;
+use std::sync::atomic::{AtomicU64, Ordering};
 use std::test::Fail;
 use std::thread::Threads;
 
@@ -14,13 +16,27 @@ const PLAY: &str = "play --dag d.dag --record a.rec --out out.rec --trace t.txt"
 
 const SERIAL_PLAY: &str = "play --serial --dag d.dag --record a.rec --out out.rec --trace t.txt";
 
-/// What the program answered, and what it left.
+// A gate that counts the calls which pass it: those that processors make, and not those that are
+// left for the end of a run.
+#[derive(Drop)]
+struct CountGate {
+    passed: AtomicU64,
+}
+
+impl Gate for CountGate {
+    fn before_call<R: Wait>(&self, _rt: &R, _component: u32, _call: u32, _hold: &Hold) {
+        self.passed.fetch_add(1, Ordering::SeqCst);
+    }
+}
+
+/// What the program answered, what it left, and how many calls processors made.
 #[derive(Drop)]
 pub struct Ran {
     pub status: Status,
     pub store: MemStore,
     pub out: MemSink,
     pub err: MemSink,
+    pub by_processors: u64,
 }
 
 /// A store in memory that holds the files of the chain, after eight calls.
@@ -55,6 +71,7 @@ fn before(alloc: Global, store: MemStore, out: MemSink) -> Ran {
         store,
         out,
         err: MemSink::new(alloc),
+        by_processors: 0,
     }
 }
 
@@ -74,14 +91,18 @@ pub fn play_still(alloc: Global) -> Result<Ran, Fail> {
     Ok(ran)
 }
 
-/// Plays the chain with threads, or serially where there are threads.
+/// Plays the chain over this store with threads, or serially where there are threads.
 pub fn play_with_threads<R: Threads + Wait + Sync>(
     rt: &R,
     alloc: Global,
+    store: MemStore,
     serial: bool,
 ) -> Result<Ran, Fail> {
     let words = words_of(alloc, if serial { SERIAL_PLAY } else { PLAY })?;
-    let mut ran = before(alloc, chain_store(alloc)?, MemSink::new(alloc));
+    let mut ran = before(alloc, store, MemSink::new(alloc));
+    let gate = CountGate {
+        passed: AtomicU64::new(0),
+    };
     ran.status = cyber(
         rt,
         alloc,
@@ -89,7 +110,8 @@ pub fn play_with_threads<R: Threads + Wait + Sync>(
         &mut ran.store,
         &mut ran.out,
         &mut ran.err,
-        &OpenGate,
+        &gate,
     );
+    ran.by_processors = gate.passed.load(Ordering::SeqCst);
     Ok(ran)
 }

@@ -1,0 +1,92 @@
+#!/usr/bin/env bash
+# Plays the files of `make 3000` and the drive again and again, on one, two and four processors that share a context and that are
+# pinned, and looks at each play: it ends with Done within 60 seconds, `info` finds its record complete and nothing in it that
+# differs, its trace has the form of a trace, and both have the counts of its line. The gate doesn't run it.
+# Usage: tests/stress.sh [COUNT [PROGRAM]]: so many plays of each of the twelve kinds, 1000 where nothing is said.
+set -euo pipefail
+top=$(cd "$(dirname "$0")/.." && pwd)
+count=${1:-1000}
+program=$(readlink -f "${2:-$top/crates/cyber/out/cyber}")
+[ -x "$program" ] || { echo "tests/stress.sh: no program at $program" >&2; exit 1; }
+work=$(mktemp -d)
+cd "$work"
+
+# The form of a trace, and that it has the numbers of the line `done`: P played, S shadowed, C calls and T messages.
+cat >trace.awk <<'P'
+function fail(why) { print "trace line " NR ": " why; failed = 1; exit 1 }
+NR == 1 { if ($0 != "cyber-trace 1") fail("no head"); next }
+NR == 2 { if ($0 != "played " P " shadowed " S) fail("not " P " and " S); next }
+/^component "[^"]*"$/ { if (place == 1 || tapes) fail("a component"); place = 1; next }
+/^roles (-|[0-3]+)$/ { if (place != 1) fail("roles"); place = 2; next }
+/^call [0-9]+\/[0-9]+( [0-9]+)+ (-|[0-9]+@[0-9]+(=-?[0-9]+)?)$/ {
+  if (place != 2) fail("a call")
+  calls++
+  next
+}
+/^end (DATA_WAIT|FINISHED) next [0-9]+$/ { if (place != 2) fail("an end"); place = 3; next }
+/^tape "[^"]*" [0-9]+$/ { if (place != 3) fail("a message"); tapes++; next }
+{ fail("no line of a trace") }
+END {
+  if (failed) exit 1
+  if (calls != C || tapes != T) { print calls " calls and " tapes " messages"; exit 1 }
+}
+P
+
+# A scheduler file: one context with so many processors, or the components pinned to so many in turn.
+classic() { # how many
+  echo "scheduler_conf { classic_conf { groups { name: \"g\" processor_num: $1 } } }"
+}
+pinned() { # how many, and the components
+  local processors=$1 number=0 name
+  shift
+  echo "scheduler_conf { policy: \"choreography\" choreography_conf { choreography_processor_num: $processors"
+  for name in "$@"; do
+    echo "tasks { name: \"$name\" processor: $((number % processors)) }"
+    number=$((number + 1))
+  done
+  echo '} }'
+}
+
+# One play, and all that is to be seen of it.
+looks_well() { # how many messages are played, and the words
+  local played=$1 line counts info
+  shift
+  rm -f out.record out.trace
+  (cd "$top" && exec timeout 60 "$program" play "$@" --out "$work/out.record" --trace "$work/out.trace") >out 2>err ||
+    { echo "status $?"; return 1; }
+  line=$(cat out)
+  [[ $line =~ ^done:\ played\ $played,\ shadowed\ 0,\ calls\ ([0-9]+),\ written\ ([0-9]+)$ ]] || { echo "$line"; return 1; }
+  counts=("${BASH_REMATCH[@]}")
+  info=$("$program" info out.record) || { echo "info: status $?"; return 1; }
+  case $info in *differs*) echo "info: $info"; return 1 ;; esac
+  case $info in *" complete yes "*"messages ${counts[2]}"$'\n'*) ;; *) echo "info: $info"; return 1 ;; esac
+  awk -v P="$played" -v S=0 -v C="${counts[1]}" -v T="${counts[2]}" -f trace.awk out.trace || return 1
+  calls=${counts[1]}
+}
+
+# So many plays of one kind.
+plays() { # its name, how many messages are played, and the words
+  local name=$1 time least= most=0 why
+  shift
+  for ((time = 1; time <= count; time++)); do
+    calls=0
+    looks_well "$@" >why || { echo "$name, play $time: $(head -c 300 why err); its files stay in $work"; exit 1; }
+    if [ -z "$least" ] || [ "$calls" -lt "$least" ]; then least=$calls; fi
+    if [ "$calls" -gt "$most" ]; then most=$calls; fi
+  done
+  echo "$name: $count plays, $least to $most calls"
+}
+
+"$program" make 3000 made >/dev/null
+drive=(--dag examples/drive/drive.dag --record examples/drive/drive.rec)
+for processors in 1 2 4; do
+  classic "$processors" >sched
+  plays "made, $processors sharing" 3000 --dag "$work/made.dag" --record "$work/made.record" --sched "$work/sched"
+  plays "drive, $processors sharing" 3205 "${drive[@]}" --sched "$work/sched"
+  pinned "$processors" adder band last8 late >sched
+  plays "made, $processors pinned" 3000 --dag "$work/made.dag" --record "$work/made.record" --sched "$work/sched"
+  pinned "$processors" smooth margin limit late frames >sched
+  plays "drive, $processors pinned" 3205 "${drive[@]}" --sched "$work/sched"
+done
+cd /
+rm -rf "$work"
