@@ -77,7 +77,7 @@ plays() { # its name, how many messages are played, and the words
   echo "$name: $count plays, $least to $most calls"
 }
 
-"$program" make 3000 made >/dev/null
+"$program" make 3000 "$work/made" >/dev/null
 drive=(--dag examples/drive/drive.dag --record examples/drive/drive.rec)
 for processors in 1 2 4; do
   classic "$processors" >sched
