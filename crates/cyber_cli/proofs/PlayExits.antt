@@ -88,6 +88,7 @@ accepted w x world files read s h = record {
   world = world;
   played = record { run = h.run; lawful = h.lawful };
   record_text = record_text w.output (source_by x) world.tape s.once h.writable;
+  read_back = h.read_back;
   writes = refl;
   leaves = leaves w x world;
   text = refl;

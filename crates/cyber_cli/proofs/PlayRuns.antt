@@ -4,6 +4,7 @@ use Rattle.std.proofs.lemmas.List.{drop_all}
 use Rattle.cy_msg.specs.Placement.{scan_of}
 use Rattle.cy_reader.specs.declared.filter.Filter.{Filter}
 use Rattle.cy_comp.specs.declared.plan.Plan.{Plan}
+use Rattle.wake_core.specs.Bounds.{PlaceLaws}
 use Rattle.wake_core.specs.LawfulRun.{LawfulRun}
 use Rattle.wake_core.specs.Plain.{Plain, opening_world}
 use Rattle.wake_core.specs.Planned.{planned}
@@ -12,13 +13,15 @@ use Rattle.wake_core.specs.Run.{Run, routes_of}
 use Rattle.wake_core.specs.Serial.{SerialRun}
 use Rattle.wake_core.specs.WorldCalls.{IsTooMany}
 use Rattle.wake_core.specs.declared.entries.TheConstants.{MOST_PLANNED}
+use Rattle.wake_core.specs.declared.route.Route.{Route}
 use Rattle.cy_replay.specs.Listing.{choice_of}
 use Rattle.cy_replay.specs.Setup.{IsSetUp}
 use Rattle.cy_replay.specs.Wiring.{wired_by}
 use Rattle.cy_replay.specs.RecordLaws.{PlacesAreThere}
 use Rattle.cy_replay.specs.declared.setup.Replay.{Replay}
-use Rattle.cyber_cli.specs.PlayEnds.{HasRun}
-use Rattle.cyber_cli.specs.PlayWork.{IsRunOf}
+use Rattle.cy_trace.specs.TraceForm.{IsTraceText}
+use Rattle.cyber_cli.specs.PlayEnds.{HasRun, source_by}
+use Rattle.cyber_cli.specs.PlayWork.{IsRunOf, run_trace}
 use Rattle.cyber_cli.specs.Summary.{calls_from}
 use Rattle.cyber_cli.proofs.Taped.{lawful_origins}
 
@@ -42,20 +45,31 @@ pub any_run : (serial : Bool) (x : Replay) (new : Plain) → serial ≡ false �
 any_run true x new e = cc
 any_run false x new e = tt
 
--- a lawful run from the opening world can be written
-pub has_run : (serial : Bool) (f : Filter) (x : Replay) (first new : Plain) → PlacesAreThere → IsSetUp f x → first ≡ opening_world (routes_of x.wiring.plans) x.counts
-    → IsRunOf serial (routes_of x.wiring.plans) (scan_of x.placement.contexts) x.list.tokens new → LawfulRun x.list.tokens (routes_of x.wiring.plans) new → new.counts ≡ first.counts → HasRun serial x new
-has_run serial f x first new places s opens run lawful stays =
-    let many : length new.counts ≡ length x.wiring.names = ap length (stays ∙ ap (λ (w : Plain). w.counts) opens) ∙ s.many in
+-- the trace of a world in which no more is planned than a world keeps
+abbrev pub ReadsBack : Replay → Plain → Type 0
+ReadsBack x w = planned w.routes w.counts ≤ MOST_PLANNED → IsTraceText (run_trace (source_by x) x.list.shadowed (run_shown w))
+
+planned_as : (x : Replay) (w : Plain) → w.routes ≡ routes_of x.wiring.plans → w.counts ≡ x.counts → planned (routes_of x.wiring.plans) x.counts ≤ MOST_PLANNED → planned w.routes w.counts ≤ MOST_PLANNED
+planned_as x w routes counts few =
+    let same : planned w.routes w.counts ≡ planned (routes_of x.wiring.plans) x.counts = ap (λ (r : List Route). planned r w.counts) routes ∙ ap (planned (routes_of x.wiring.plans)) counts in
+    omega (arith, same, few)
+
+-- a lawful run from the opening world can be written, and its trace is read back
+pub has_run : (serial : Bool) (f : Filter) (x : Replay) (first new : Plain) → PlacesAreThere → PlaceLaws → IsSetUp f x → first ≡ opening_world (routes_of x.wiring.plans) x.counts
+    → IsRunOf serial (routes_of x.wiring.plans) (scan_of x.placement.contexts) x.list.tokens new → LawfulRun x.list.tokens (routes_of x.wiring.plans) new → new.counts ≡ first.counts → ReadsBack x new → HasRun serial x new
+has_run serial f x first new places stand s opens run lawful stays reads =
+    let counts : new.counts ≡ x.counts = stays ∙ ap (λ (w : Plain). w.counts) opens in
+    let many : length new.counts ≡ length x.wiring.names = ap length counts ∙ s.many in
     record {
       run = run;
       lawful = lawful;
       counts = many;
       writable = record {
         channels = λ n t at. let below = lawful.sound.consistent.room.channels n t at in omega (arith, below, many);
-        origins = lawful_origins x.recorded (choice_of f (wired_by x.wiring)) x.list (routes_of x.wiring.plans) new s.listed lawful;
+        origins = lawful_origins stand x.recorded (choice_of f (wired_by x.wiring)) x.list (routes_of x.wiring.plans) new s.listed lawful;
         places = places x.recorded (choice_of f (wired_by x.wiring)) x.list s.listed;
       };
+      read_back = reads (planned_as x new lawful.wired counts s.limited);
     }
 
 -- the calls so far, and those of the components that follow

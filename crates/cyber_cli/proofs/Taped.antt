@@ -12,28 +12,20 @@ use Rattle.cy_comp.specs.declared.call.Call.{Call}
 use Rattle.cy_comp.specs.Calls.{tuples_of, outs, output}
 use Rattle.cy_reader.specs.Record.{Contents}
 use Rattle.cy_reader.specs.Play.{Choice, IsPlayList}
+use Rattle.wake_core.specs.Bounds.{PlaceLaws}
 use Rattle.wake_core.specs.LawfulRun.{LawfulRun}
 use Rattle.wake_core.specs.Plain.{Plain}
 use Rattle.wake_core.specs.Run.{played_of, writes_from}
 use Rattle.wake_core.specs.declared.route.Route.{Route}
 use Rattle.wake_core.specs.Sound.{Sound, IsOutput, StandsOn}
-use Rattle.wake_core.proofs.Standing.{tape_stands}
-use Rattle.wake_core.proofs.Writers.{writes_some}
 use Rattle.cy_replay.proofs.Origins.{GoodOut, GoodTuple, outcome-good, IsAmong, list_origins}
 use Rattle.cy_trace.proofs.OutSuits.{on_each, taken_at, Made, outs_count, outs_made, passing}
-
--- the component that writes a channel
-writer_at : (routes : List Route) (channel c : ℕ) → writes_from 0 routes channel ≡ Some c → (x : Route) × (slice_get routes c ≡ Some x) × (x.out ≡ channel)
-writer_at routes channel c e =
-    let writer = writes_some routes 0 channel c e in
-    let same : c - 0 ≡ c = omega arith in
-    (writer.route, ap (slice_get routes) (sym same) ∙ writer.at, writer.writes)
 
 -- a message that no component wrote is among those that were played
 played_at : (w : Plain) (i : ℕ) (t : Token) → slice_get w.tape i ≡ Some t → writes_from 0 w.routes t.channel ≡ None → (k : ℕ) × (slice_get (played_of w.routes w.tape) k ≡ Some t)
 played_at w i t on e = passing (λ (u : Token). not (is_some (writes_from 0 w.routes u.channel))) w.tape i t on (ap (λ (o : Option ℕ). not (is_some o)) e)
 
-module _ (Q : Option ℕ → Type 0) (none : Q None) (w : Plain) (s : Sound w) (played : (n : ℕ) (t : Token) → slice_get (played_of w.routes w.tape) n ≡ Some t → Q t.origin) where
+module _ (stand : PlaceLaws) (Q : Option ℕ → Type 0) (none : Q None) (w : Plain) (s : Sound w) (played : (n : ℕ) (t : Token) → slice_get (played_of w.routes w.tape) n ≡ Some t → Q t.origin) where
   abbrev Good : Token → Type 0
   Good t = Q t.origin
 
@@ -67,8 +59,8 @@ module _ (Q : Option ℕ → Type 0) (none : Q None) (w : Plain) (s : Sound w) (
       by : (o : Option ℕ) → writes_from 0 w.routes t.channel ≡ o → Good t
       by None e = let h = played_at w i t on e in played h.0 t h.1
       by (Some c) e =
-          let x = writer_at w.routes t.channel c e in
-          let stands = tape_stands w.tape s.consistent.delivered.numbered i t on in
+          let x = stand.writer w.routes t.channel c e in
+          let stands = stand.taped w.tape s.consistent.delivered.numbered i t on in
           let there : slice_get (on_channel x.0.out w.tape) (t.seq - 1) ≡ Some t = ap (λ n. slice_get (on_channel n w.tape) (t.seq - 1)) x.2 ∙ stands in
           let made = taken_at (length (on_channel x.0.out w.tape)) (outs x.0.out (w.calls c)) (t.seq - 1) t (ap (λ l. slice_get l (t.seq - 1)) (sym (s.consistent.delivered.history c x.0 x.1)) ∙ there) in
           sent c x.0 x.1 (outs_made x.0.out (w.calls c) (t.seq - 1) t made.1)
@@ -77,10 +69,10 @@ module _ (Q : Option ℕ → Type 0) (none : Q None) (w : Plain) (s : Sound w) (
   tape_good zero i t less on = absurd (omega (arith, less))
   tape_good (suc k) i t less on = token_good i t on (λ j m sooner at. tape_good k j m (omega (arith, sooner, less)) at)
 
-pub lawful_origins : (whole : Contents) (choice : Choice) (list : PlayList) (routes : List Route) (w : Plain) → IsPlayList whole choice list → LawfulRun list.tokens routes w
+pub lawful_origins : PlaceLaws → (whole : Contents) (choice : Choice) (list : PlayList) (routes : List Route) (w : Plain) → IsPlayList whole choice list → LawfulRun list.tokens routes w
     → (n o : ℕ) (t : Token) → slice_get w.tape n ≡ Some t → t.origin ≡ Some o → o < length list.places
-lawful_origins whole choice list routes w is lawful n o t at e =
+lawful_origins stand whole choice list routes w is lawful n o t at e =
     let Q : Option ℕ → Type 0 = IsAmong (length list.places) in
     let played : (k : ℕ) (u : Token) → slice_get (played_of w.routes w.tape) k ≡ Some u → Q u.origin =
     λ k u on. list_origins whole choice list is k u (ap (λ (ts : List Token). slice_get ts k) (sym lawful.exact) ∙ on) in
-    tape_good Q (λ o e. absurd cc) w lawful.sound played (suc n) n t (omega arith) at o e
+    tape_good stand Q (λ o e. absurd cc) w lawful.sound played (suc n) n t (omega arith) at o e

@@ -2,6 +2,7 @@
 use Rattle.std.specs.Prelude.{ℕ, ◌≡◌, Bool, List, length}
 use Rattle.cy_store.specs.Write.{Write}
 use Rattle.cy_msg.specs.Placement.{scan_of}
+use Rattle.cy_trace.specs.TraceForm.{IsTraceText}
 use Rattle.wake_core.specs.LawfulRun.{LawfulRun}
 use Rattle.wake_core.specs.Plain.{Plain}
 use Rattle.wake_core.specs.Rest.{run_shown}
@@ -24,12 +25,14 @@ use Rattle.cyber_cli.specs.PlayWork.{IsRunOf, source_in, run_trace, play_writes,
 abbrev pub source_by : Replay → Source
 source_by x = source_in (replayed x) x.list
 
--- A world in which a replay was played, serially or on threads: its tape can be written.
+-- A world in which a replay was played, serially or on threads: its tape can be written, and the
+-- text of its trace is read back.
 pub record HasRun (serial : Bool) (x : Replay) (w : Plain) : Type 0 where
   pub run : IsRunOf serial (routes_of x.wiring.plans) (scan_of x.placement.contexts) x.list.tokens w
   pub lawful : LawfulRun x.list.tokens (routes_of x.wiring.plans) w
   pub counts : length w.counts ≡ length x.wiring.names
   pub writable : IsWritable (source_by x) w.tape
+  pub read_back : IsTraceText (run_trace (source_by x) x.list.shadowed (run_shown w))
 
 -- All writes of a replay's run.
 abbrev pub writes_by : PlayWords → Replay → Plain → List Write

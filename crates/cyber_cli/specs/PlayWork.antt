@@ -12,6 +12,7 @@ use Rattle.cy_msg.specs.declared.token.Token.{Token}
 use Rattle.cy_section.specs.RecordText.{IsRecordText, record_bytes}
 use Rattle.cy_reader.specs.Play.{IsPlayList}
 use Rattle.cy_sched.specs.Placing.{IsPlaced}
+use Rattle.cy_trace.specs.TraceForm.{IsTraceText}
 use Rattle.cy_trace.specs.TraceText.{trace_text}
 use Rattle.wake_core.specs.LawfulRun.{LawfulRun}
 use Rattle.wake_core.specs.Plain.{Plain}
@@ -73,8 +74,8 @@ pub record IsPlayed (serial : Bool) (read : Replayed) (list : PlayList)
   pub lawful : LawfulRun list.tokens (routes_of read.wired.plans) w
 
 -- The files are accepted, and this is what `play` makes of them: the record and the trace of one
--- lawful run, written in their order, after which both files hold them and every other name is as
--- before; and the line with the run's numbers.
+-- lawful run, each of the form that is read back, written in their order, after which both files
+-- hold them and every other name is as before; and the line with the run's numbers.
 pub record IsPlayWork (w : PlayWords) (files : Option Files) (work : Work) : Type 0 where
   pub read : Replayed
   pub accepted : IfSome files (λ m. replayed_in w m ≡ Accepts read)
@@ -88,6 +89,7 @@ pub record IsPlayWork (w : PlayWords) (files : Option Files) (work : Work) : Typ
   pub record_text : IsRecordText (channels_of_tape (source_in read list) world.tape)
       (messages_of_tape (source_in read list) world.tape)
       (tape_record w (source_in read list) world.tape)
+  pub read_back : IsTraceText (run_trace (source_in read list) list.shadowed (run_shown world))
   pub writes : work.writes ≡ play_writes w (source_in read list) list.shadowed (run_shown world)
   pub leaves : (m : Files) → after_writes work.writes m
       ≡ insert (insert m w.output (tape_record w (source_in read list) world.tape)) w.trace

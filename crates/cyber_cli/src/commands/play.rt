@@ -39,10 +39,10 @@ use cy_replay::{
     Played, Replay, Request, SetupError, played_places_are_there, set_up, write_record,
 };
 use cy_store::Store;
-use cy_trace::{TraceError, trace_text};
+use cy_trace::{TraceError, trace_is_read_back, trace_text};
 use cy_writer::WriteError;
 use std::alloc::{AllocError, Global};
-use wake_core::{CoreError, World, serial};
+use wake_core::{CoreError, World, laws, serial};
 
 // The trace of a run, and the line that tells of it.
 #[derive(Drop)]
@@ -147,6 +147,8 @@ pub(super) fn played_world(alloc: Global, play: &Play, replay: &Replay) -> Resul
     let mut world = opening(alloc, play, replay)?;
     serial(&mut world, &replay.list, &replay.placement);
     played_places_are_there();
+    laws::places();
+    trace_is_read_back(&world, &replay.wiring, replay.list.shadowed);
     Ok(world)
 }
 

@@ -18,10 +18,11 @@ use crate::status::Status;
 use cy_replay::{Replay, played_places_are_there};
 use cy_run::{Gate, run_threads};
 use cy_store::Store;
+use cy_trace::trace_is_read_back;
 use std::alloc::Global;
 use std::sync::Wait;
 use std::thread::Threads;
-use wake_core::World;
+use wake_core::{World, laws};
 
 // The world after a replay was played on threads.
 fn world_of_threads<G: Gate, R: Threads + Wait + Sync>(
@@ -43,6 +44,8 @@ fn world_of_threads<G: Gate, R: Threads + Wait + Sync>(
         return Err(Failure::Memory);
     };
     played_places_are_there();
+    laws::places();
+    trace_is_read_back(&world, wiring, replay.list.shadowed);
     Ok(world)
 }
 
