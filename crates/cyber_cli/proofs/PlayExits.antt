@@ -29,13 +29,10 @@ use Rattle.cyber_cli.specs.Command.{Play, Work}
 use Rattle.cyber_cli.specs.ConfigText.{is_limit}
 use Rattle.cyber_cli.specs.Due.{IsDueFor}
 use Rattle.cyber_cli.specs.Lines.{store_line}
-use Rattle.cyber_cli.specs.PlayEnds.{HasRun, IsDueAfterPlay, IsLine, name_of_play, source_by, writes_by}
+use Rattle.cyber_cli.specs.PlayEnds.{SetsUp, HasRun, IsDueAfterPlay, IsLine, name_of_play, source_by, writes_by}
 use Rattle.cyber_cli.specs.PlayWords.{PlayWords}
 use Rattle.cyber_cli.specs.PlayWork.{IsPlayWork, replayed_in, play_line, tape_record, run_trace}
 use Rattle.cyber_cli.proofs.CheckExits.{view_same, refuses}
-
-abbrev pub SetsUp : PlayWords → StoreView → StoreView → Result Replay SetupError → Type 0
-SetsUp w old new q = ComesTo replayed (replayed_in w) (IsAsked w.request old.files) old new q
 
 starved : (w : PlayWords) (old new : StoreView) (due : Status) (line : List ℕ) → new.files ≡ old.files → IsStarved due line → IsDueFor (Play w) old new due line
 starved w old new due line same s = subst (λ (x : Status). IsDueFor (Play w) old new x line) (sym s.status) (inl same, s.told)

@@ -1,5 +1,6 @@
 -- How `play` ends.
-use Rattle.std.specs.Prelude.{ℕ, ◌≡◌, Bool, List, length}
+use Rattle.std.specs.Prelude.{ℕ, ◌≡◌, Bool, List, length, Result}
+use Rattle.cy_store.specs.Store.{StoreView}
 use Rattle.cy_store.specs.Write.{Write}
 use Rattle.cy_msg.specs.Placement.{scan_of}
 use Rattle.cy_trace.specs.TraceForm.{IsTraceText}
@@ -7,8 +8,10 @@ use Rattle.wake_core.specs.LawfulRun.{LawfulRun}
 use Rattle.wake_core.specs.Plain.{Plain}
 use Rattle.wake_core.specs.Rest.{run_shown}
 use Rattle.wake_core.specs.Run.{routes_of}
+use Rattle.cy_replay.specs.Comes.{ComesTo}
 use Rattle.cy_replay.specs.Recording.{Source, IsWritable}
-use Rattle.cy_replay.specs.Setup.{replayed}
+use Rattle.cy_replay.specs.Setup.{replayed, IsAsked}
+use Rattle.cy_replay.specs.declared.error.SetupError.{SetupError}
 use Rattle.cy_replay.specs.declared.setup.Replay.{Replay}
 use Rattle.cyber_cli.specs.declared.failure.Failure.{Failure}
 use Rattle.cyber_cli.specs.declared.failure.Failure.TheVariants as failure
@@ -19,7 +22,13 @@ use Rattle.cyber_cli.specs.declared.status.Status.{Status}
 use Rattle.cyber_cli.specs.declared.status.Status.TheVariants.{StoreFault, Memory}
 use Rattle.cyber_cli.specs.Lines.{store_line, memory_line}
 use Rattle.cyber_cli.specs.PlayWords.{PlayWords}
-use Rattle.cyber_cli.specs.PlayWork.{IsRunOf, source_in, run_trace, play_writes, play_line}
+use Rattle.cyber_cli.specs.PlayWork.{IsRunOf, replayed_in, source_in, run_trace, play_writes}
+use Rattle.cyber_cli.specs.PlayWork.{play_line}
+
+-- What the files of a play come to: a replay, or an error.
+abbrev pub SetsUp : PlayWords → StoreView → StoreView → Result Replay SetupError → Type 0
+SetsUp w old new result =
+    ComesTo replayed (replayed_in w) (IsAsked w.request old.files) old new result
 
 -- What the record of a replay is written from.
 abbrev pub source_by : Replay → Source

@@ -22,7 +22,6 @@ mod status;
 mod still;
 mod summary;
 mod words;
-mod write;
 
 pub use status::Status;
 pub use still::{cyber, cyber_still};

@@ -1,8 +1,8 @@
 // The commands `play` and `pass` on one thread.
-ghost use Rattle.std.specs.Prelude.{◌≡◌, ◌≤◌, ◌<◌, ℕ, length, map, IfOk, OnOk, IsErrOf};
+ghost use Rattle.std.specs.Prelude.{◌≡◌, ◌≤◌, ◌<◌, ℕ, length, map, Ok, IfOk, OnOk, IsErrOf};
 ghost use Rattle.std.specs.Prelude.{IsOkUnless};
 ghost use Rattle.std.specs.Option.{option_map};
-ghost use Rattle.cy_store.specs.Store.{WriteRose};
+ghost use Rattle.cy_store.specs.Store.{StoreView, WriteRose};
 ghost use Rattle.cy_store.specs.Write.{Write, name_of, after_writes};
 ghost use Rattle.cy_writer.specs.Writes.{StopsAt, StopsBefore};
 ghost use Rattle.wake_core.specs.LawfulRun.{Quiet};
@@ -17,7 +17,7 @@ ghost use Rattle.cyber_cli.specs.declared.failure.File.{File};
 ghost use Rattle.cyber_cli.specs.Command as command;
 ghost use Rattle.cyber_cli.specs.Due.{IsDueFor};
 ghost use Rattle.cyber_cli.specs.Line.{bytes_of_line};
-ghost use Rattle.cyber_cli.specs.PlayEnds.{HasRun, IsDueAfterPlay, IsTold, IsLine};
+ghost use Rattle.cyber_cli.specs.PlayEnds.{SetsUp, HasRun, IsDueAfterPlay, IsTold, IsLine};
 ghost use Rattle.cyber_cli.specs.PlayEnds.{name_of_play, writes_by};
 ghost use Rattle.cyber_cli.specs.PlayViews.{play_words_of};
 ghost use Rattle.cyber_cli.specs.PlayWords.{names_in};
@@ -31,7 +31,6 @@ use crate::line::Line;
 use crate::play_words::Play;
 use crate::status::Status;
 use crate::summary::done_line;
-use crate::write::write_file;
 use cy_comp::{Call, Plan};
 use cy_msg::{Bytes, Items, Text};
 use cy_reader::Filter;
@@ -40,7 +39,7 @@ use cy_replay::{
 };
 use cy_store::Store;
 use cy_trace::{TraceError, trace_is_read_back, trace_text};
-use cy_writer::WriteError;
+use cy_writer::{WriteError, write_file};
 use std::alloc::{AllocError, Global};
 use wake_core::{CoreError, World, laws, serial};
 
@@ -259,6 +258,29 @@ pub(super) fn due_after<'a>(play: &Play<'a>, failure: Failure) -> Due<'a>
     }
 }
 
+// What is due once a replay that was set up was played: its record and its trace are written.
+pub(super) fn due_played<'a, S: Store>(
+    alloc: Global,
+    store: &mut S,
+    play: &Play<'a>,
+    replay: &Replay,
+    world: &World,
+) -> Due<'a>
+    requires set_up { IsSetUp (play_words_of play.now).request.filter replay.now }
+    requires run { HasRun (play_words_of play.now).serial replay.now (plain_of world.now) }
+    ensures { (before : StoreView) → SetsUp (play_words_of play.now) before (S.shows store.old)
+        (Ok replay.now) → IsDueFor (command.Play (play_words_of play.now)) before
+        (S.shows store.new) result.status (bytes_of_line result.line) }
+{
+    match write_both(alloc, store, play, replay, world) {
+        Ok(line) => Due {
+            status: Status::Done,
+            line: Line::Made(line),
+        },
+        Err(failure) => due_after(play, failure),
+    }
+}
+
 /// What is due for a `play` with these words, or for `pass`, where one thread plays all: it sets up
 /// a replay, plays it, and writes the record of all messages and then the trace of all calls. All
 /// reading is done before the first file is made, and the record is written before anything else
@@ -275,11 +297,5 @@ pub fn run_play<'a, S: Store>(alloc: Global, play: &Play<'a>, store: &mut S) -> 
     let Ok(world) = played_world(alloc, play, &replay) else {
         return out_of_memory();
     };
-    match write_both(alloc, store, play, &replay, &world) {
-        Ok(line) => Due {
-            status: Status::Done,
-            line: Line::Made(line),
-        },
-        Err(failure) => due_after(play, failure),
-    }
+    due_played(alloc, store, play, &replay, &world)
 }

@@ -9,12 +9,10 @@ ghost use Rattle.cyber_cli.specs.PlayEnds.{HasRun};
 ghost use Rattle.cyber_cli.specs.PlayViews.{play_words_of};
 
 use super::check::due_unset;
-use super::play::{due_after, opening, played_world, read_files, write_both};
+use super::play::{due_played, opening, played_world, read_files};
 use crate::due::{Due, out_of_memory};
 use crate::failure::Failure;
-use crate::line::Line;
 use crate::play_words::Play;
-use crate::status::Status;
 use cy_replay::{Replay, played_places_are_there};
 use cy_run::{Gate, run_threads};
 use cy_store::Store;
@@ -89,11 +87,5 @@ pub fn run_play_with_threads<'a, S: Store, G: Gate, R: Threads + Wait + Sync>(
     let Ok(world) = world_as_asked(rt, alloc, play, &replay, gate) else {
         return out_of_memory();
     };
-    match write_both(alloc, store, play, &replay, &world) {
-        Ok(line) => Due {
-            status: Status::Done,
-            line: Line::Made(line),
-        },
-        Err(failure) => due_after(play, failure),
-    }
+    due_played(alloc, store, play, &replay, &world)
 }
