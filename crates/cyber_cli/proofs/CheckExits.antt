@@ -17,8 +17,8 @@ use Rattle.cy_replay.specs.Wiring.{wiring_in, IsWiredBy}
 use Rattle.cy_replay.proofs.Coming.{comes_err, comes_ok, comes_then}
 use Rattle.cyber_cli.specs.declared.status.Status.{Status}
 use Rattle.cyber_cli.specs.declared.status.Status.TheVariants.{Done, Refused, Limit}
-use Rattle.cyber_cli.specs.CheckWords.{CheckWords}
-use Rattle.cyber_cli.specs.Command.{Command, Check}
+use Rattle.cy_words.specs.CheckWords.{CheckWords}
+use Rattle.cy_words.specs.Command.{Command, Check}
 use Rattle.cyber_cli.specs.Check.{checked_in}
 use Rattle.cyber_cli.specs.CheckEnds.{IsStarved, IsDueUnset, IsTextOf}
 use Rattle.cyber_cli.specs.ConfigText.{is_limit}

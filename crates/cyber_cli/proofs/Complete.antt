@@ -10,15 +10,16 @@ use Rattle.cy_store.specs.Reads.{Reads, Accepts, Refuses, Absent}
 use Rattle.cy_replay.specs.declared.error.Refusal.{Refusal}
 use Rattle.cy_reader.specs.declared.error.LoadError.{LoadError}
 use Rattle.cy_reader.specs.Record.{Contents}
-use Rattle.cyber_cli.specs.MakeWords.{MakeWords}
-use Rattle.cyber_cli.specs.PlayWords.{PlayWords}
+use Rattle.cy_words.specs.MakeWords.{MakeWords}
+use Rattle.cy_words.specs.PlayWords.{PlayWords}
 use Rattle.cyber_cli.specs.PlayWork.{replayed_in}
-use Rattle.cyber_cli.specs.CheckWords.{CheckWords}
-use Rattle.cyber_cli.specs.Words.{InfoWords}
+use Rattle.cy_words.specs.CheckWords.{CheckWords}
+use Rattle.cy_words.specs.Words.{InfoWords}
 use Rattle.cyber_cli.specs.Info.{told_of, load_status}
 use Rattle.cyber_cli.specs.Check.{checked_in}
 use Rattle.cyber_cli.specs.ConfigText.{fault_status}
-use Rattle.cyber_cli.specs.Command.{Command, Check, Info, Play, Make, Work}
+use Rattle.cy_words.specs.Command.{Command, Check, Info, Play, Make}
+use Rattle.cyber_cli.specs.Work.{Work}
 use Rattle.cyber_cli.specs.Outcome.{IsAccepted, IsTaken, IsRefused, IsAbsent}
 use Rattle.cyber_cli.specs.Due.{Sinks, Answers, IsDue, IsDueFor, IsMisused, IsTold, IsUntold, CallsFor, IsComplete}
 

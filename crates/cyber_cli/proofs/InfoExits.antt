@@ -12,8 +12,8 @@ use Rattle.cy_reader.specs.Load.{LoadAnswer}
 use Rattle.cy_reader.specs.Info.{info_text}
 use Rattle.cyber_cli.specs.declared.status.Status.{Status}
 use Rattle.cyber_cli.specs.declared.status.Status.TheVariants.{Done}
-use Rattle.cyber_cli.specs.Words.{InfoWords}
-use Rattle.cyber_cli.specs.Command.{Info}
+use Rattle.cy_words.specs.Words.{InfoWords}
+use Rattle.cy_words.specs.Command.{Info}
 use Rattle.cyber_cli.specs.Info.{told_of}
 use Rattle.cyber_cli.specs.LoadText.{is_load_limit}
 use Rattle.cyber_cli.specs.CheckEnds.{IsStarved}

@@ -1,13 +1,9 @@
-pub mod Asked
 pub mod CheckExits
-pub mod NoCommand
 pub mod Complete
 pub mod DoneLine
 pub mod Fronts
 pub mod InfoExits
 pub mod MakeExits
-pub mod Named
-pub mod OptionsRead
 pub mod PlayExits
 pub mod PlayRuns
 pub mod PlayWriting

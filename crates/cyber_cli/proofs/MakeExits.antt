@@ -23,14 +23,15 @@ use Rattle.cyber_cli.specs.declared.failure.Failure.{Failure}
 use Rattle.cyber_cli.specs.declared.failure.Failure.TheVariants as failure
 use Rattle.cyber_cli.specs.declared.status.Status.{Status}
 use Rattle.cyber_cli.specs.declared.status.Status.TheVariants.{Done, StoreFault, Memory}
-use Rattle.cyber_cli.specs.Command.{Make, Work}
+use Rattle.cy_words.specs.Command.{Make}
+use Rattle.cyber_cli.specs.Work.{Work}
 use Rattle.cyber_cli.specs.Due.{IsDueFor}
 use Rattle.cyber_cli.specs.Lines.{store_line, memory_line}
 use Rattle.cyber_cli.specs.MakeEnds.{IsMade, IsDueUnmade, IsDueUnplayed, result_suffix}
-use Rattle.cyber_cli.specs.MakeWords.{MakeWords}
+use Rattle.cy_words.specs.MakeWords.{MakeWords}
 use Rattle.cyber_cli.specs.MakeWork.{IsMakeWork, made_files, play_made}
 use Rattle.cyber_cli.specs.PlayEnds.{HasRun, IsLine, name_of_play, source_by, writes_by}
-use Rattle.cyber_cli.specs.PlayWords.{PlayWords}
+use Rattle.cy_words.specs.PlayWords.{PlayWords}
 use Rattle.cyber_cli.specs.PlayWork.{play_line, replayed_in}
 use Rattle.cyber_cli.proofs.PlayExits as play
 

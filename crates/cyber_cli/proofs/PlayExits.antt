@@ -25,12 +25,13 @@ use Rattle.cyber_cli.specs.declared.failure.Failure.TheVariants as failure
 use Rattle.cyber_cli.specs.declared.status.Status.{Status}
 use Rattle.cyber_cli.specs.declared.status.Status.TheVariants.{Done}
 use Rattle.cyber_cli.specs.CheckEnds.{IsStarved, IsDueUnset}
-use Rattle.cyber_cli.specs.Command.{Play, Work}
+use Rattle.cy_words.specs.Command.{Play}
+use Rattle.cyber_cli.specs.Work.{Work}
 use Rattle.cyber_cli.specs.ConfigText.{is_limit}
 use Rattle.cyber_cli.specs.Due.{IsDueFor}
 use Rattle.cyber_cli.specs.Lines.{store_line}
 use Rattle.cyber_cli.specs.PlayEnds.{SetsUp, HasRun, IsDueAfterPlay, IsLine, name_of_play, source_by, writes_by}
-use Rattle.cyber_cli.specs.PlayWords.{PlayWords}
+use Rattle.cy_words.specs.PlayWords.{PlayWords}
 use Rattle.cyber_cli.specs.PlayWork.{IsPlayWork, replayed_in, play_line, tape_record, run_trace}
 use Rattle.cyber_cli.proofs.CheckExits.{view_same, refuses}
 
@@ -52,10 +53,6 @@ unset w old new (setup.Store file) due line came (inr told) =
     let was = came.failed file refl in
     subst (λ (x : Status). IsDueFor (Play w) old new x line) (sym told.0) (inl record { name = file; read = was.0; rose = was.1.rose; same = came.same; told = told.1 })
 unset w old new setup.Memory due line came s = starved w old new due line came.same s
-
--- there is no memory for the world
-pub no_world : (w : PlayWords) (x : Replay) (old new : StoreView) (due : Status) (line : List ℕ) → SetsUp w old new (Ok x) → IsStarved due line → IsDueFor (Play w) old new due line
-no_world w x old new due line came s = starved w old new due line came.same s
 
 -- what `play` makes of a replay
 abbrev pub work_of : PlayWords → Replay → Plain → Work

@@ -16,7 +16,7 @@ use Rattle.cyber_cli.specs.declared.failure.File.TheVariants as file
 use Rattle.cyber_cli.specs.declared.failure.Failure.{Failure}
 use Rattle.cyber_cli.specs.declared.failure.Failure.TheVariants as failure
 use Rattle.cyber_cli.specs.PlayEnds.{name_of_play}
-use Rattle.cyber_cli.specs.PlayWords.{PlayWords}
+use Rattle.cy_words.specs.PlayWords.{PlayWords}
 
 -- the puts of a record's tape
 abbrev pub puts_of : PlayWords → Source → List Token → List (ℕ × List ℕ)

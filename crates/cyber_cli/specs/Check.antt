@@ -11,8 +11,8 @@ use Rattle.cy_replay.specs.declared.error.Refusal.{Refusal}
 use Rattle.cy_replay.specs.Configuration.{Configured, configuration_in}
 use Rattle.cy_replay.specs.Wiring.{wiring_in}
 use Rattle.cyber_cli.specs.declared.status.Status.{Status}
-use Rattle.cyber_cli.specs.CheckWords.{CheckWords}
-use Rattle.cyber_cli.specs.Command.{Work}
+use Rattle.cy_words.specs.CheckWords.{CheckWords}
+use Rattle.cyber_cli.specs.Work.{Work}
 use Rattle.cyber_cli.specs.Lines.{file_line}
 use Rattle.cyber_cli.specs.ConfigText.{fault_text, fault_status}
 

@@ -7,7 +7,7 @@ use Rattle.cy_replay.specs.declared.error.SetupError.TheVariants as setup
 use Rattle.cy_replay.specs.Configuration.{Configured}
 use Rattle.cyber_cli.specs.declared.status.Status.{Status}
 use Rattle.cyber_cli.specs.declared.status.Status.TheVariants.{StoreFault, Memory}
-use Rattle.cyber_cli.specs.CheckWords.{CheckWords}
+use Rattle.cy_words.specs.CheckWords.{CheckWords}
 use Rattle.cyber_cli.specs.Lines.{file_line, store_line, memory_line}
 use Rattle.cyber_cli.specs.ConfigText.{fault_text, fault_status}
 use Rattle.cyber_cli.specs.Check.{check_text_of}

@@ -9,7 +9,8 @@ use Rattle.cy_writer.specs.Writes.{StopsAt, StopsBefore}
 use Rattle.cyber_cli.specs.declared.status.Status.{Status}
 use Rattle.cyber_cli.specs.declared.status.Status.TheVariants.{Done, Refused, Usage, StoreFault}
 use Rattle.cyber_cli.specs.declared.status.Status.TheVariants.{SinkFault, Limit, Memory}
-use Rattle.cyber_cli.specs.Command.{Command, Work}
+use Rattle.cy_words.specs.Command.{Command}
+use Rattle.cyber_cli.specs.Work.{Work}
 use Rattle.cyber_cli.specs.Outcome.{IsReadBy, IsAccepted, IsTaken, IsRefused, IsAbsent}
 use Rattle.cyber_cli.specs.Lines.{usage_line, memory_line, output_line, store_line}
 

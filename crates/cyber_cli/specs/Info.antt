@@ -7,8 +7,8 @@ use Rattle.cy_reader.specs.Record.{Contents, record_of}
 use Rattle.cy_reader.specs.Info.{info_text}
 use Rattle.cyber_cli.specs.declared.status.Status.{Status}
 use Rattle.cyber_cli.specs.declared.status.Status.TheVariants.{Refused, Limit}
-use Rattle.cyber_cli.specs.Words.{InfoWords}
-use Rattle.cyber_cli.specs.Command.{Work}
+use Rattle.cy_words.specs.Words.{InfoWords}
+use Rattle.cyber_cli.specs.Work.{Work}
 use Rattle.cyber_cli.specs.Lines.{file_line}
 use Rattle.cyber_cli.specs.LoadText.{load_text, is_load_limit}
 

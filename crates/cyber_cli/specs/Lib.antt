@@ -1,7 +1,5 @@
 pub mod Check
 pub mod CheckEnds
-pub mod CheckWords
-pub mod Command
 pub mod ConfigText
 pub mod Due
 pub mod Info
@@ -10,17 +8,10 @@ pub mod Line
 pub mod Lines
 pub mod LoadText
 pub mod MakeEnds
-pub mod MakeWords
 pub mod MakeWork
-pub mod Options
 pub mod Outcome
-pub mod PassWords
 pub mod PlayEnds
-pub mod PlayViews
 pub mod PlayWork
-pub mod PlayWords
-pub mod Scan
 pub mod Status
 pub mod Summary
-pub mod Views
-pub mod Words
+pub mod Work

@@ -16,10 +16,10 @@ use Rattle.cyber_cli.specs.declared.failure.File.TheVariants as file
 use Rattle.cyber_cli.specs.declared.status.Status.{Status}
 use Rattle.cyber_cli.specs.declared.status.Status.TheVariants.{StoreFault, Memory}
 use Rattle.cyber_cli.specs.Lines.{store_line, memory_line}
-use Rattle.cyber_cli.specs.MakeWords.{MakeWords}
+use Rattle.cy_words.specs.MakeWords.{MakeWords}
 use Rattle.cyber_cli.specs.MakeWork.{play_made, made_files}
-use Rattle.cyber_cli.specs.PassWords.{all_messages}
-use Rattle.cyber_cli.specs.PlayWords.{PlayWords}
+use Rattle.cy_words.specs.PassWords.{all_messages}
+use Rattle.cy_words.specs.PlayWords.{PlayWords}
 use Rattle.cyber_cli.specs.PlayWork.{replayed_in}
 
 -- A replay is that of the files that are made.

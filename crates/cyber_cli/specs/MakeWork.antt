@@ -9,10 +9,10 @@ use Rattle.cy_make.specs.Messages.{channels_of, messages_to}
 use Rattle.cy_make.specs.Texts.{suffix_of}
 use Rattle.cy_make.specs.Inputs.{record_name, made_record, input_writes, with_inputs}
 use Rattle.cy_replay.specs.Setup.{OfFiles}
-use Rattle.cyber_cli.specs.Command.{Work}
-use Rattle.cyber_cli.specs.MakeWords.{MakeWords}
-use Rattle.cyber_cli.specs.PassWords.{all_messages}
-use Rattle.cyber_cli.specs.PlayWords.{PlayWords}
+use Rattle.cyber_cli.specs.Work.{Work}
+use Rattle.cy_words.specs.MakeWords.{MakeWords}
+use Rattle.cy_words.specs.PassWords.{all_messages}
+use Rattle.cy_words.specs.PlayWords.{PlayWords}
 use Rattle.cyber_cli.specs.PlayWork.{IsPlayWork}
 
 -- A serial play of all messages of the record that is made, through the components that are made, with the

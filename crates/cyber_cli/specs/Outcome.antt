@@ -7,7 +7,8 @@ use Rattle.cy_replay.specs.Configuration.{Configured, IsAsked}
 use Rattle.cy_reader.specs.Record.{Contents}
 use Rattle.cy_replay.specs.Setup as setup
 use Rattle.cy_replay.specs.Setup.{Replayed}
-use Rattle.cyber_cli.specs.Command.{Command, Check, Info, Play, Make, Work}
+use Rattle.cy_words.specs.Command.{Command, Check, Info, Play, Make}
+use Rattle.cyber_cli.specs.Work.{Work}
 use Rattle.cyber_cli.specs.Check.{IsCheckWork, IsCheckRefusal, checked_in}
 use Rattle.cyber_cli.specs.Info.{IsInfoWork, IsInfoRefusal, told_of}
 use Rattle.cyber_cli.specs.MakeWork.{IsMakeWork}

@@ -21,7 +21,7 @@ use Rattle.cyber_cli.specs.declared.commands.play.Told.{Told}
 use Rattle.cyber_cli.specs.declared.status.Status.{Status}
 use Rattle.cyber_cli.specs.declared.status.Status.TheVariants.{StoreFault, Memory}
 use Rattle.cyber_cli.specs.Lines.{store_line, memory_line}
-use Rattle.cyber_cli.specs.PlayWords.{PlayWords}
+use Rattle.cy_words.specs.PlayWords.{PlayWords}
 use Rattle.cyber_cli.specs.PlayWork.{IsRunOf, replayed_in, source_in, run_trace, play_writes}
 use Rattle.cyber_cli.specs.PlayWork.{play_line}
 

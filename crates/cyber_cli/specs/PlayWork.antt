@@ -26,10 +26,10 @@ use Rattle.cy_writer.specs.RecordWrites.{file_writes, record_puts}
 use Rattle.cy_replay.specs.Recording.{Source, channels_of_tape, messages_of_tape, chunks_of_tape}
 use Rattle.cy_replay.specs.Setup.{Replayed, replay_in}
 use Rattle.cyber_cli.specs.declared.status.Status.{Status}
-use Rattle.cyber_cli.specs.Command.{Work}
+use Rattle.cyber_cli.specs.Work.{Work}
 use Rattle.cyber_cli.specs.ConfigText.{fault_text, fault_status}
 use Rattle.cyber_cli.specs.Lines.{file_line}
-use Rattle.cyber_cli.specs.PlayWords.{PlayWords}
+use Rattle.cy_words.specs.PlayWords.{PlayWords}
 use Rattle.cyber_cli.specs.Summary.{calls_from, done_line}
 
 -- The files are read and judged in the order of refusals.

@@ -6,7 +6,6 @@
 //! `specs/MakeWork`, `specs/Check` and `specs/Info`.
 #![tactic(auto)]
 
-mod check_words;
 mod commands;
 mod config_text;
 mod due;
@@ -14,14 +13,9 @@ mod failure;
 mod fault_text;
 mod line;
 mod load_text;
-mod make_words;
-mod options;
-mod pass_words;
-mod play_words;
 mod status;
 mod still;
 mod summary;
-mod words;
 
 pub use status::Status;
 pub use still::{cyber, cyber_still};

@@ -1,12 +1,12 @@
 // The top calls.
 ghost use Rattle.std.specs.Prelude.{◌≡◌, ◌≢◌, Option};
 ghost use Rattle.cyber_cli.specs.Line.{bytes_of_line};
-ghost use Rattle.cyber_cli.specs.Command as asked;
-ghost use Rattle.cyber_cli.specs.Command.{Asks, AsksStill, IsAsked};
-ghost use Rattle.cyber_cli.specs.Scan.{command_of, still_command_of};
+ghost use Rattle.cy_words.specs.Command as asked;
+ghost use Rattle.cy_words.specs.Command.{Asks, AsksStill, IsAsked};
+ghost use Rattle.cy_words.specs.Scan.{command_of, still_command_of};
 ghost use Rattle.cyber_cli.specs.Due.{IsDue, IsDueFor, IsTold, GetsFront, Answers, IsComplete};
 ghost use Rattle.cyber_cli.specs.Lines.{usage_line};
-ghost use Rattle.cyber_cli.specs.Views.{command_asked, IsInForm};
+ghost use Rattle.cy_words.specs.Views.{command_asked, IsInForm};
 ghost use Rattle.cy_store.specs.Store.{SinkView};
 
 use crate::commands::{run_check, run_info, run_make, run_play, run_play_with_threads};
@@ -14,7 +14,7 @@ use crate::due::Due;
 use crate::fault_text::{OUTPUT_LINE, USAGE_LINE};
 use crate::line::{Line, write_line};
 use crate::status::Status;
-use crate::words::{Command, command_of, still_command_of};
+use cy_words::{Command, command_of, still_command_of};
 use cy_msg::Text;
 use cy_run::Gate;
 use cy_store::{Sink, SinkError, Store};

@@ -5,13 +5,13 @@ ghost use Rattle.cy_replay.specs.Comes.{ComesTo};
 ghost use Rattle.cy_replay.specs.Configuration.{IsAsked};
 ghost use Rattle.cy_replay.specs.Steps.{configured};
 ghost use Rattle.cyber_cli.specs.Check.{checked_in, unknown_in};
-ghost use Rattle.cyber_cli.specs.Command as command;
+ghost use Rattle.cy_words.specs.Command as command;
 ghost use Rattle.cyber_cli.specs.Due.{IsDueFor};
 ghost use Rattle.cyber_cli.specs.Line.{bytes_of_line};
 ghost use Rattle.cyber_cli.specs.CheckEnds.{IsDueUnset, IsTextOf};
-ghost use Rattle.cyber_cli.specs.Views.{check_words_of};
+ghost use Rattle.cy_words.specs.Views.{check_words_of};
 
-use crate::check_words::Check;
+use cy_words::Check;
 use crate::config_text::{fault_status, refusal_line, store_line};
 use crate::due::{Due, out_of_memory};
 use crate::line::Line;

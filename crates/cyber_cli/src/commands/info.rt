@@ -1,19 +1,19 @@
 // The command `info`.
 ghost use Rattle.std.specs.Prelude.{◌≡◌, ◌++◌, IfOk, OnOk};
-ghost use Rattle.cyber_cli.specs.Command as command;
+ghost use Rattle.cy_words.specs.Command as command;
 ghost use Rattle.cyber_cli.specs.Due.{IsDueFor};
 ghost use Rattle.cyber_cli.specs.Line.{bytes_of_line};
 ghost use Rattle.cyber_cli.specs.Lines.{file_line};
 ghost use Rattle.cyber_cli.specs.LoadText.{load_text};
 ghost use Rattle.cyber_cli.specs.Info.{load_status};
 ghost use Rattle.cyber_cli.specs.InfoEnds.{IsDueUnread};
-ghost use Rattle.cyber_cli.specs.Views.{info_words_of};
+ghost use Rattle.cy_words.specs.Views.{info_words_of};
 
 use crate::due::{Due, out_of_memory, store_failed};
 use crate::line::Line;
 use crate::load_text::{is_load_limit, push_load};
 use crate::status::Status;
-use crate::words::Info;
+use cy_words::Info;
 use cy_msg::Bytes;
 use cy_reader::{LoadError, load};
 use cy_store::Store;

@@ -1,22 +1,22 @@
 // The command `make`.
 ghost use Rattle.std.specs.Prelude.{◌≡◌, ◌≤◌, ◌<◌, ◌++◌, ℕ, List, codes, IfOk, IsOkUnless};
 ghost use Rattle.cy_make.specs.Texts.{suffix_of};
-ghost use Rattle.cyber_cli.specs.Command as command;
+ghost use Rattle.cy_words.specs.Command as command;
 ghost use Rattle.cyber_cli.specs.Due.{IsDueFor};
 ghost use Rattle.cyber_cli.specs.Line.{bytes_of_line};
 ghost use Rattle.cyber_cli.specs.Lines.{store_line};
 ghost use Rattle.cyber_cli.specs.MakeEnds.{IsMade, IsDueUnmade, names_of};
 ghost use Rattle.cyber_cli.specs.MakeEnds.{IsDueUnplayed, play_named, result_suffix};
 ghost use Rattle.cyber_cli.specs.MakeWork.{play_made};
-ghost use Rattle.cyber_cli.specs.PlayViews.{play_words_of};
-ghost use Rattle.cyber_cli.specs.Views.{make_words_of};
+ghost use Rattle.cy_words.specs.PlayViews.{play_words_of};
+ghost use Rattle.cy_words.specs.Views.{make_words_of};
 
 use super::play::{played_world, read_files, write_both};
 use crate::due::{Due, out_of_memory};
 use crate::failure::{Failure, File};
 use crate::line::Line;
-use crate::make_words::Make;
-use crate::play_words::Play;
+use cy_words::Make;
+use cy_words::Play;
 use crate::status::Status;
 use cy_make::{Config, MakeError, name_with, write_inputs};
 use cy_msg::Text;

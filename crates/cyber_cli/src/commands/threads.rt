@@ -2,21 +2,21 @@
 ghost use Rattle.std.specs.Prelude.{◌≡◌, false, IfOk, IsOkUnless};
 ghost use Rattle.wake_core.specs.WorldOf.{plain_of};
 ghost use Rattle.cy_replay.specs.Setup.{HasReader, IsSetUp};
-ghost use Rattle.cyber_cli.specs.Command as command;
+ghost use Rattle.cy_words.specs.Command as command;
 ghost use Rattle.cyber_cli.specs.Due.{IsDueFor};
 ghost use Rattle.cyber_cli.specs.Line.{bytes_of_line};
 ghost use Rattle.cyber_cli.specs.PlayEnds.{HasRun};
-ghost use Rattle.cyber_cli.specs.PlayViews.{play_words_of};
+ghost use Rattle.cy_words.specs.PlayViews.{play_words_of};
 
 use super::check::due_unset;
 use super::play::{due_played, opening, played_world, read_files};
 use crate::due::{Due, out_of_memory};
 use crate::failure::Failure;
-use crate::play_words::Play;
 use cy_replay::{Replay, played_places_are_there};
 use cy_run::{Gate, run_threads};
 use cy_store::Store;
 use cy_trace::trace_is_read_back;
+use cy_words::Play;
 use std::alloc::Global;
 use std::sync::Wait;
 use std::thread::Threads;

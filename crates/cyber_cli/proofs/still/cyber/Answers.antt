@@ -1,9 +1,9 @@
 use Rattle.std.proofs.Common.{Option, subst}
-use Rattle.cyber_cli.specs.Command.{Command}
+use Rattle.cy_words.specs.Command.{Command}
 use Rattle.cyber_cli.specs.Due.{IsDue}
 use Rattle.cyber_cli.specs.Line.{bytes_of_line}
-use Rattle.cyber_cli.specs.Scan.{command_of}
-use Rattle.cyber_cli.proofs.Asked.{asked_is}
+use Rattle.cy_words.specs.Scan.{command_of}
+use Rattle.cy_words.proofs.Asked.{asked_is}
 use Rattle.cyber_cli.proofs.Complete.{complete, not_sink}
 use Rattle.cyber_cli.proofs.still.cyber.Goals as goal
 

@@ -1,5 +1,5 @@
 use Rattle.std.proofs.lemmas.Result.{err_from_is_err_and}
-use Rattle.cyber_cli.specs.Views.{check_words_of}
+use Rattle.cy_words.specs.Views.{check_words_of}
 use Rattle.cyber_cli.proofs.CheckExits.{files_stop, not_wired, all_read}
 use Rattle.cyber_cli.proofs.commands.check.read_files.Goals as goal
 

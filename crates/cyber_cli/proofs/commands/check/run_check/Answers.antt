@@ -1,4 +1,4 @@
-use Rattle.cyber_cli.specs.Views.{check_words_of}
+use Rattle.cy_words.specs.Views.{check_words_of}
 use Rattle.cyber_cli.proofs.CheckExits.{unset, done, no_text}
 use Rattle.cyber_cli.proofs.commands.check.run_check.Goals as goal
 

@@ -1,4 +1,4 @@
-use Rattle.cyber_cli.specs.Views.{info_words_of}
+use Rattle.cy_words.specs.Views.{info_words_of}
 use Rattle.cyber_cli.proofs.InfoExits.{unread, done, no_text}
 use Rattle.cyber_cli.proofs.commands.info.run_info.Goals as goal
 

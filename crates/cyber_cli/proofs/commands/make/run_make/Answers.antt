@@ -1,8 +1,8 @@
 use Rattle.std.proofs.Common.{◌∙◌, ap}
 use Rattle.wake_core.specs.WorldOf.{plain_of}
 use Rattle.cyber_cli.specs.MakeEnds.{play_named}
-use Rattle.cyber_cli.specs.PlayViews.{play_words_of}
-use Rattle.cyber_cli.specs.Views.{make_words_of}
+use Rattle.cy_words.specs.PlayViews.{play_words_of}
+use Rattle.cy_words.specs.Views.{make_words_of}
 use Rattle.cyber_cli.proofs.MakeExits.{unmade, done, unplayed, set_up_by, in_turn}
 use Rattle.cyber_cli.proofs.commands.make.run_make.Goals as goal
 

@@ -1,7 +1,7 @@
 use Rattle.std.proofs.Common.{ap}
 use Rattle.cy_store.specs.Memory.{Memory, shows_of}
-use Rattle.cyber_cli.specs.PlayViews.{play_words_of}
-use Rattle.cyber_cli.specs.Views.{make_words_of}
+use Rattle.cy_words.specs.PlayViews.{play_words_of}
+use Rattle.cy_words.specs.Views.{make_words_of}
 use Rattle.cyber_cli.proofs.MakeExits.{made, has_reader}
 use Rattle.cyber_cli.proofs.commands.make.set_up_made.Goals as goal
 

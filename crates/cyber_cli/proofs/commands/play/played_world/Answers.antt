@@ -1,4 +1,4 @@
-use Rattle.cyber_cli.specs.PlayViews.{play_words_of}
+use Rattle.cy_words.specs.PlayViews.{play_words_of}
 use Rattle.cyber_cli.proofs.PlayRuns.{has_run, serial_run, lawful_run}
 use Rattle.cyber_cli.proofs.commands.play.played_world.Goals as goal
 

@@ -3,7 +3,7 @@ use Rattle.wake_core.specs.WorldOf.{plain_of}
 use Rattle.wake_core.specs.Rest.{run_shown}
 use Rattle.cy_writer.specs.RecordWrites.{file_writes}
 use Rattle.cyber_cli.specs.PlayEnds.{source_by}
-use Rattle.cyber_cli.specs.PlayViews.{play_words_of}
+use Rattle.cy_words.specs.PlayViews.{play_words_of}
 use Rattle.cyber_cli.specs.PlayWork.{run_trace}
 use Rattle.cyber_cli.proofs.PlayWriting.{puts_of, first_fails, first_starves, first_done, second_fails, second_starves, both_done}
 use Rattle.cyber_cli.proofs.commands.play.write_both.Goals as goal

@@ -1,4 +1,4 @@
-use Rattle.cyber_cli.specs.PlayViews.{play_words_of}
+use Rattle.cy_words.specs.PlayViews.{play_words_of}
 use Rattle.cyber_cli.proofs.PlayExits.{unset}
 use Rattle.cyber_cli.proofs.commands.threads.run_play_with_threads.Goals as goal
 

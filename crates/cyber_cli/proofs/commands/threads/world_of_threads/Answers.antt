@@ -1,4 +1,4 @@
-use Rattle.cyber_cli.specs.PlayViews.{play_words_of}
+use Rattle.cy_words.specs.PlayViews.{play_words_of}
 use Rattle.cyber_cli.proofs.PlayRuns.{has_run, any_run}
 use Rattle.cyber_cli.proofs.commands.threads.world_of_threads.Goals as goal
 

@@ -1,0 +1,90 @@
+-- The code finds the command that words ask for, and none where they ask for none.
+use Rattle.std.proofs.Common.{◌≡◌, ◌⊎◌, ℕ, List, [], ◌∷◌, Bool, true, false, Option, Some, None, if◌then◌else◌, refl, ap, ◌∙◌, subst, inl, inr}
+use Rattle.std.proofs.Common.{codes, option_map, option_and_then, bytes_eq}
+use Rattle.std.proofs.lemmas.Slice.Eq.{bytes_eq-Decides}
+use Rattle.cy_words.specs.Command.{Command, Check, Info, Play, Make, Asks, AsksStill, IsAsked, IsStill}
+use Rattle.cy_words.specs.MakeWords.{make_of}
+use Rattle.cy_words.specs.PassWords.{pass_of}
+use Rattle.cy_words.specs.Scan.{check_of, command_of, play_of, still_command_of, still_one}
+use Rattle.cy_words.specs.Words.{info_of}
+use Rattle.cy_words.proofs.OptionsRead.{check_found, check_asked, play_found, play_asked}
+
+found : (words : List (List ℕ)) (c : Command) → Asks words c → command_of words ≡ Some c
+found [] c h = absurd h
+found (name ∷ words) (Check w) h = ap (λ (n : List ℕ). command_of (n ∷ words)) h.0 ∙ ap (option_map Check) (check_found words w h.1)
+found (name ∷ words) (Info w) h = ap (λ (n : List ℕ). command_of (n ∷ words)) h.0 ∙ ap (option_map Info) h.1
+found (name ∷ words) (Play w) (inl h) = ap (λ (n : List ℕ). command_of (n ∷ words)) h.0 ∙ ap (option_map Play) (play_found words w h.1)
+found (name ∷ words) (Play w) (inr h) = ap (λ (n : List ℕ). command_of (n ∷ words)) h.0 ∙ ap (option_map Play) h.1
+found (name ∷ words) (Make w) h = ap (λ (n : List ℕ). command_of (n ∷ words)) h.0 ∙ ap (option_map Make) h.1
+
+nothing : {A : Type 0} (a : A) → None ≡ Some a → ⊥
+nothing a e = cc
+
+some_same : {A : Type 0} (a b : A) → Some a ≡ Some b → a ≡ b
+some_same a b e = cc
+
+mapped : {A B : Type 0} (x : Option A) (f : A → B) (b : B) → option_map f x ≡ Some b → (a : A) × (x ≡ Some a) × (f a ≡ b)
+mapped None f b e = absurd (nothing b e)
+mapped (Some a) f b e = (a, refl, some_same (f a) b e)
+
+chosen : (b : Bool) (x y : Option Command) (c : Command) → (if b then x else y) ≡ Some c → ((b ≡ true) × (x ≡ Some c)) ⊎ (y ≡ Some c)
+chosen true x y c e = inl (refl, e)
+chosen false x y c e = inr e
+
+same_name : (a b : List ℕ) → bytes_eq a b ≡ true → a ≡ b
+same_name a b e = (bytes_eq-Decides a b).0 e
+
+asks : (words : List (List ℕ)) (c : Command) → command_of words ≡ Some c → Asks words c
+asks [] c e = absurd (nothing c e)
+asks (name ∷ words) c e =
+    elim (chosen (bytes_eq name (codes "pass")) _ _ c e) [
+      | inl h ↦ (let m = mapped (pass_of words) Play c h.1 in subst (Asks (name ∷ words)) m.2 (inr (same_name name (codes "pass") h.0, m.1)))
+      | inr e ↦ elim (chosen (bytes_eq name (codes "check")) _ _ c e) [
+        | inl h ↦ (let m = mapped (check_of words) Check c h.1 in subst (Asks (name ∷ words)) m.2 (same_name name (codes "check") h.0, check_asked words m.0 m.1))
+        | inr e ↦ elim (chosen (bytes_eq name (codes "info")) _ _ c e) [
+          | inl h ↦ (let m = mapped (info_of words) Info c h.1 in subst (Asks (name ∷ words)) m.2 (same_name name (codes "info") h.0, m.1))
+          | inr e ↦ elim (chosen (bytes_eq name (codes "play")) _ _ c e) [
+            | inl h ↦ (let m = mapped (play_of words) Play c h.1 in subst (Asks (name ∷ words)) m.2 (inl (same_name name (codes "play") h.0, play_asked words m.0 m.1)))
+            | inr e ↦ elim (chosen (bytes_eq name (codes "make")) _ _ c e) [
+              | inl h ↦ (let m = mapped (make_of words) Make c h.1 in subst (Asks (name ∷ words)) m.2 (same_name name (codes "make") h.0, m.1))
+              | inr e ↦ absurd (nothing c e)
+            ]
+          ]
+        ]
+      ]
+    ]
+
+by_what : (asks : Command → Type 0) (x asked : Option Command) → ((c : Command) → asks c → x ≡ Some c) → ((c : Command) → x ≡ Some c → asks c) → IsAsked asks asked → x ≡ asked
+by_what asks None None one back h = refl
+by_what asks (Some c) None one back h = absurd (h c (back c refl))
+by_what asks x (Some c) one back h = one c h
+
+pub asked_is : (words : List (List ℕ)) (asked : Option Command) → IsAsked (Asks words) asked → command_of words ≡ asked
+asked_is words asked = by_what (Asks words) (command_of words) asked (found words) (asks words)
+
+still_found : (c : Command) → IsStill c → still_one c ≡ Some c
+still_found (Check w) h = refl
+still_found (Info w) h = refl
+still_found (Play w) h = ap (λ (b : Bool). if b then Some (Play w) else None) h
+still_found (Make w) h = refl
+
+still_is : (c other : Command) → still_one c ≡ Some other → (c ≡ other) × IsStill c
+still_is (Check w) other e = (some_same (Check w) other e, tt)
+still_is (Info w) other e = (some_same (Info w) other e, tt)
+still_is (Play w) other e = by w.serial e
+  where
+    by : (b : Bool) → (if b then Some (Play w) else None) ≡ Some other → (Play w ≡ other) × (b ≡ true)
+    by true e = (some_same (Play w) other e, refl)
+    by false e = absurd (nothing other e)
+still_is (Make w) other e = (some_same (Make w) other e, tt)
+
+bound : (x : Option Command) (f : Command → Option Command) (c : Command) → option_and_then f x ≡ Some c → (a : Command) × (x ≡ Some a) × (f a ≡ Some c)
+bound None f c e = absurd (nothing c e)
+bound (Some a) f c e = (a, refl, e)
+
+pub still_asked_is : (words : List (List ℕ)) (asked : Option Command) → IsAsked (AsksStill words) asked → still_command_of words ≡ asked
+still_asked_is words asked = by_what (AsksStill words) (still_command_of words) asked
+    (λ c h. ap (option_and_then still_one) (found words c h.0) ∙ still_found c h.1)
+    (λ c e. let b = bound (command_of words) still_one c e in
+    let s = still_is b.0 c b.2 in
+    (subst (Asks words) s.0 (asks words b.0 b.1), subst IsStill s.0 s.1))

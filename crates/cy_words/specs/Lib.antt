@@ -1,0 +1,10 @@
+pub mod CheckWords
+pub mod Command
+pub mod MakeWords
+pub mod Options
+pub mod PassWords
+pub mod PlayViews
+pub mod PlayWords
+pub mod Scan
+pub mod Views
+pub mod Words

@@ -1,0 +1,29 @@
+-- The words of `make`.
+use Rattle.std.specs.Prelude.{ℕ, ◌||◌, nat_lt, if◌then◌else◌, List, [], ◌∷◌, Option, Some, None}
+use Rattle.std.specs.Option.{option_map}
+use Rattle.cy_words.specs.Words.{is_word}
+use Rattle.cy_words.specs.PlayWords.{number_of, ◌>>=◌}
+
+-- The words of `make`: how many messages the record has, and with what the names of all files
+-- begin.
+pub record MakeWords : Type 0 where
+  pub count : ℕ
+  pub prefix : List ℕ
+
+-- The most messages of a record that is made.
+abbrev pub most_made : ℕ
+most_made = 1048576
+
+-- A number of messages: at least one.
+abbrev pub where_made : ℕ → Option ℕ
+where_made n = if nat_lt n 1 || nat_lt most_made n then None else Some n
+
+abbrev pub count_of : List ℕ → Option ℕ
+count_of text = number_of text >>= where_made
+
+-- What the words behind `make` ask for, where they are of its form.
+abbrev pub make_of : List (List ℕ) → Option MakeWords
+make_of (count ∷ prefix ∷ []) =
+    if is_word prefix
+    then option_map (λ n. record { count = n; prefix = prefix }) (count_of count) else None
+make_of words = None

@@ -1,0 +1,110 @@
+-- The words of `play`.
+use Rattle.std.specs.Prelude.{ℕ, ◌≡◌, ◌+◌, ◌*◌, ◌-◌, ◌^◌, ◌==◌, ◌&&◌, nat_le, nat_lt, not, Bool}
+use Rattle.std.specs.Prelude.{true, false, if◌then◌else◌, List, [], ◌∷◌, length, Option, Some, None}
+use Rattle.std.specs.Prelude.{unwrap_or}
+use Rattle.std.specs.List.{list_all, slice_split}
+use Rattle.std.specs.Option.{option_map}
+use Rattle.std.specs.Str.{bytes_eq}
+use Rattle.cy_replay.specs.Setup.{Components, OfFiles, OfPass, Request}
+use Rattle.cy_words.specs.Options.{Options, AreOptions}
+
+-- What is asked of a play: what is replayed, the names of the record and of the trace that are
+-- written, and whether one thread plays it.
+pub record PlayWords : Type 0 where
+  pub request : Request
+  pub output : List ℕ
+  pub trace : List ℕ
+  pub serial : Bool
+
+-- One step after another: the first that fails stands.
+infixl 10 ◌>>=◌
+abbrev pub ◌>>=◌ : {A B : Type 0} → Option A → (A → Option B) → Option B
+(Some x) >>= f = f x
+None >>= f = None
+
+-- A number: 1 to 20 decimal digits of a value below 2 ^ 64. The value of digits behind ones of some
+-- value.
+abbrev pub is_digit : ℕ → Bool
+is_digit b = nat_le 48 b && nat_le b 57
+
+abbrev pub with_digit : ℕ → ℕ → Option ℕ
+with_digit value d =
+    if is_digit d && nat_lt (value * 10 + (d - 48)) (2 ^ 64) then Some (value * 10 + (d - 48))
+    else None
+
+abbrev pub digits_from : ℕ → List ℕ → Option ℕ
+digits_from value [] = Some value
+digits_from value (d ∷ digits) = with_digit value d >>= λ v. digits_from v digits
+
+unfoldable pub number_of : List ℕ → Option ℕ
+number_of text = if nat_lt 20 (length text) then None else digits_from 0 text
+
+abbrev pub number_or : ℕ → Option (List ℕ) → Option ℕ
+number_or absent None = Some absent
+number_or absent (Some text) = number_of text
+
+-- A list of names: these stand with single commas between, and none is empty.
+abbrev pub names_in : List ℕ → List (List ℕ)
+names_in text = slice_split (λ b. b == 44) text
+
+unfoldable pub is_list : List ℕ → Bool
+is_list text = list_all (λ name. not (length name == 0)) (names_in text)
+
+abbrev pub is_list_or_none : Option (List ℕ) → Bool
+is_list_or_none None = true
+is_list_or_none (Some text) = is_list text
+
+-- The options that every `play` has, each with its value.
+abbrev pub play_words : Options → Option PlayWords
+play_words o = do
+  dag ← o.dag
+  input ← o.input
+  output ← o.output
+  trace ← o.trace
+  begin ← number_or 0 o.begin
+  end ← number_or (2 ^ 64 - 1) o.end
+  Some record {
+    request = record {
+      components = OfFiles dag o.sched;
+      input = input;
+      filter = record {
+        only = option_map names_in o.only;
+        drop = unwrap_or (option_map names_in o.drop) [];
+        begin = begin;
+        end = end;
+      };
+    };
+    output = output;
+    trace = trace;
+    serial = o.serial;
+  }
+
+-- Whether the names of what is written differ from each other and from the names of what is read.
+abbrev pub is_some_of : List ℕ → Option (List ℕ) → Bool
+is_some_of name None = false
+is_some_of name (Some other) = bytes_eq name other
+
+abbrev pub is_no_config : List ℕ → Components → Bool
+is_no_config name (OfFiles dag sched) = not (bytes_eq name dag) && not (is_some_of name sched)
+is_no_config name (OfPass from to) = true
+
+abbrev pub is_other : List ℕ → PlayWords → Bool
+is_other name w =
+    not (bytes_eq name w.request.input) && is_no_config name w.request.components
+
+unfoldable pub is_play : PlayWords → Bool
+is_play w = not (bytes_eq w.output w.trace) && is_other w.output w && is_other w.trace w
+
+abbrev pub where_play : PlayWords → Option PlayWords
+where_play w = if is_play w then Some w else None
+
+-- What the options ask for: a play, with lists that are lists.
+unfoldable pub asked_by : Options → Option PlayWords
+asked_by o =
+    if is_list_or_none o.only && is_list_or_none o.drop then play_words o >>= where_play else None
+
+-- The words behind `play` ask for a play: they are options, and these ask for it.
+pub record IsPlayWords (words : List (List ℕ)) (w : PlayWords) : Type 0 where
+  pub options : Options
+  pub are_options : AreOptions words options
+  pub asked : asked_by options ≡ Some w

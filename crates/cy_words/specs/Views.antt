@@ -1,0 +1,37 @@
+-- What the program's own types stand for.
+use Rattle.std.specs.Prelude.{◌≤◌, ◌<◌, ⊤, option_map}
+use Rattle.cy_replay.specs.Setup.{HasReader}
+use Rattle.cy_words.specs.declared.make_words.Make.{Make}
+use Rattle.cy_words.specs.declared.check_words.Check.{Check}
+use Rattle.cy_words.specs.declared.words.Info.{Info}
+use Rattle.cy_words.specs.declared.words.Command as code
+use Rattle.cy_words.specs.declared.words.Command.TheVariants as asked
+use Rattle.cy_words.specs.CheckWords.{CheckWords}
+use Rattle.cy_words.specs.MakeWords.{MakeWords, most_made}
+use Rattle.cy_words.specs.PlayViews.{play_words_of}
+use Rattle.cy_words.specs.Words.{InfoWords}
+use Rattle.cy_words.specs.Command as command
+
+-- The words of each command.
+abbrev pub check_words_of : Check → CheckWords
+check_words_of w = record { dag = w.dag.now; sched = option_map (λ name. name.now) w.sched }
+
+abbrev pub info_words_of : Info → InfoWords
+info_words_of w = record { file = w.file.now }
+
+abbrev pub make_words_of : Make → MakeWords
+make_words_of w = record { count = w.count; prefix = w.prefix.now }
+
+-- The command that is asked for, and that a channel which it reads has a name, or that so many
+-- messages are made.
+abbrev pub command_asked : code.Command → command.Command
+command_asked (asked.Check w) = command.Check (check_words_of w)
+command_asked (asked.Info w) = command.Info (info_words_of w)
+command_asked (asked.Play w) = command.Play (play_words_of w)
+command_asked (asked.Make w) = command.Make (make_words_of w)
+
+abbrev pub IsInForm : code.Command → Type 0
+IsInForm (asked.Check w) = ⊤
+IsInForm (asked.Info w) = ⊤
+IsInForm (asked.Play w) = HasReader (play_words_of w).request.components
+IsInForm (asked.Make w) = (0 < w.count) × (w.count ≤ most_made)

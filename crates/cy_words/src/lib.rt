@@ -1,0 +1,17 @@
+//! The words of the program `cyber`: which commands there are, and which words ask for each.
+//!
+//! `specs/Command` says what is asked for: by `specs/Options`, `specs/PlayWords`,
+//! `specs/CheckWords`, `specs/PassWords`, `specs/MakeWords` and `specs/Words`.
+#![tactic(auto)]
+
+mod check_words;
+mod make_words;
+mod options;
+mod pass_words;
+mod play_words;
+mod words;
+
+pub use check_words::Check;
+pub use make_words::Make;
+pub use play_words::Play;
+pub use words::{Command, Info, command_of, still_command_of};

@@ -1,0 +1,178 @@
+// The words of `play`.
+ghost use Rattle.std.specs.Prelude.{◌≡◌, IfSome, option_map};
+ghost use Rattle.cy_replay.specs.Setup.{HasReader, components_of};
+ghost use Rattle.cy_words.specs.PlayWords.{with_digit, number_of, number_or, is_list};
+ghost use Rattle.cy_words.specs.PlayWords.{is_list_or_none, is_no_config, is_other, is_play};
+ghost use Rattle.cy_words.specs.PlayWords.{where_play, play_words, asked_by};
+ghost use Rattle.cy_words.specs.PlayViews.{play_words_of, options_of};
+ghost use Rattle.cy_words.specs.Scan.{play_of};
+
+use crate::options::{Options, options_met};
+use cy_msg::Text;
+use cy_replay::Components;
+
+/// What is asked of a play: its components, names of files, and which messages are let through.
+#[derive(Clone, Copy)]
+pub struct Play<'a> {
+    /// The components, or the files that name them.
+    pub components: Components<'a>,
+    /// The record that is played.
+    pub input: &'a str,
+    /// The record that is written.
+    pub output: &'a str,
+    /// The trace that is written.
+    pub trace: &'a str,
+    /// The only channels, with commas between; none where all are wanted.
+    pub only: Option<&'a str>,
+    /// The channels that are dropped, with commas between.
+    pub drop: Option<&'a str>,
+    /// The least time, in nanoseconds.
+    pub begin: u64,
+    /// The greatest time, in nanoseconds.
+    pub end: u64,
+    /// Whether one thread plays all.
+    pub serial: bool,
+}
+
+// A value with one more digit, where it has 64 bits.
+fn with_digit(value: u64, byte: u8) -> Option<u64>
+    ensures { result ≡ with_digit value byte }
+{
+    if !byte.is_ascii_digit() {
+        return None;
+    }
+    let next = u128::from(value) * 10 + u128::from(byte - b'0');
+    if next <= u128::from(u64::MAX) {
+        Some(next as u64)
+    } else {
+        None
+    }
+}
+
+// A number of at most 20 digits, where it has 64 bits.
+#[tactic(auto, unfolding(crate::specs::PlayWords::number_of))]
+pub(crate) fn number_of(text: &str) -> Option<u64>
+    ensures { result ≡ number_of text.now }
+{
+    if text.len() > 20 {
+        return None;
+    }
+    let mut value = 0u64;
+    for byte in text.as_bytes() {
+        value = with_digit(value, *byte)?;
+    }
+    Some(value)
+}
+
+// The same, or what stands for it where no number is given.
+fn number_or(absent: u64, text: Option<&str>) -> Option<u64>
+    ensures { result ≡ number_or absent (option_map (λ v. v.now) text.entry) }
+{
+    match text {
+        Some(text) => number_of(text),
+        None => Some(absent),
+    }
+}
+
+// Whether a list has no empty name.
+#[tactic(auto, unfolding(crate::specs::PlayWords::is_list))]
+fn is_list(text: &str) -> bool
+    ensures { result ≡ is_list text.now }
+{
+    text.split(',').all(|name| !name.is_empty())
+}
+
+// The same where there is one.
+fn is_list_or_none(text: Option<&str>) -> bool
+    ensures { result ≡ is_list_or_none (option_map (λ v. v.now) text.entry) }
+{
+    match text {
+        Some(text) => is_list(text),
+        None => true,
+    }
+}
+
+// Whether a name is none of the files that say which components there are.
+fn is_no_config(name: &str, components: &Components) -> bool
+    ensures { result ≡ is_no_config name.now (components_of components.now) }
+{
+    match *components {
+        Components::Files { dag, sched } => {
+            let is_sched = match sched {
+                Some(sched) => name == sched,
+                None => false,
+            };
+            name != dag && !is_sched
+        }
+        Components::Pass { .. } => true,
+    }
+}
+
+#[tactic(auto, unfolding(crate::specs::PlayWords::is_play))]
+impl<'a> Play<'a> {
+    // Whether a name is none of those that are read.
+    fn is_other(&self, name: &str) -> bool
+        ensures { result ≡ is_other name.now (play_words_of self.now) }
+    {
+        name != self.input && is_no_config(name, &self.components)
+    }
+
+    // Whether the names that are written differ from each other and from those that are read.
+    fn is_in_form(&self) -> bool
+        ensures { result ≡ is_play (play_words_of self.now) }
+    {
+        self.output != self.trace && self.is_other(self.output) && self.is_other(self.trace)
+    }
+
+    /// The play, where its names are in form.
+    pub(crate) fn where_in_form(self) -> Option<Self>
+        ensures play { option_map play_words_of result ≡ where_play (play_words_of self.entry) }
+        ensures same { IfSome result (λ play. play.components ≡ self.entry.components) }
+    {
+        if self.is_in_form() { Some(self) } else { None }
+    }
+}
+
+impl<'a> Options<'a> {
+    // The words that every play has.
+    fn words(self) -> Option<Play<'a>>
+        ensures words { option_map play_words_of result ≡ play_words (options_of self.entry) }
+        ensures reader { IfSome result (λ play. HasReader (components_of play.components)) }
+    {
+        let dag = self.dag?;
+        Some(Play {
+            input: self.input?,
+            output: self.output?,
+            trace: self.trace?,
+            begin: number_or(0, self.begin)?,
+            end: number_or(u64::MAX, self.end)?,
+            components: Components::Files {
+                dag,
+                sched: self.sched,
+            },
+            only: self.only,
+            drop: self.drop,
+            serial: self.serial,
+        })
+    }
+
+    // What the options ask for.
+    #[tactic(auto, unfolding(crate::specs::PlayWords::asked_by))]
+    fn asked(self) -> Option<Play<'a>>
+        ensures asked { option_map play_words_of result ≡ asked_by (options_of self.entry) }
+        ensures reader { IfSome result (λ play. HasReader (components_of play.components)) }
+    {
+        if !(is_list_or_none(self.only) && is_list_or_none(self.drop)) {
+            return None;
+        }
+        self.words()?.where_in_form()
+    }
+}
+
+/// What the words behind `play` ask for; None where they are not of its form.
+pub fn play_words<'a>(words: &'a [Text]) -> Option<Play<'a>>
+    ensures asked { option_map play_words_of result ≡ play_of words.now }
+    ensures reader { IfSome result (λ play. HasReader (components_of play.components)) }
+{
+    options_met(words)?.asked()
+}

@@ -1,6 +1,0 @@
-use Rattle.std.proofs.Common.{◌≡◌, drop}
-use Rattle.cyber_cli.specs.PlayWords.{digits_from}
-use Rattle.cyber_cli.proofs.play_words.number_of.Given as goal
-
-abbrev pub invariant-loop-byte : goal.invariant-loop-byte
-invariant-loop-byte l = digits_from 0 l.text ≡ digits_from l.value (drop l.byte-index l.text)
