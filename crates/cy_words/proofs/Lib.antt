@@ -1,4 +1,9 @@
 pub mod Asked
+pub mod ClapBuild
+pub mod ClapLevel
+pub mod ClapOptions
+pub mod ClapProgram
+pub mod ClapWalk
 pub mod Named
 pub mod NoCommand
 pub mod OptionsRead

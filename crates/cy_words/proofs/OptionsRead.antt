@@ -14,7 +14,7 @@ use Rattle.cy_words.specs.Words.{is_word}
 
 -- ---- the options one by one
 
-abbrev put : Key → Option (List ℕ) → Options → Options
+abbrev pub put : Key → Option (List ℕ) → Options → Options
 put Dag v o = record o { dag = v }
 put Sched v o = record o { sched = v }
 put Input v o = record o { input = v }
@@ -25,7 +25,7 @@ put Drop v o = record o { drop = v }
 put Begin v o = record o { begin = v }
 put End v o = record o { end = v }
 
-abbrev put_once : Key → List ℕ → Options → Option Options
+abbrev pub put_once : Key → List ℕ → Options → Option Options
 put_once k v o = option_map (λ x. put k x o) (given_once (value_at k o) v)
 
 with_key : (k : Key) (v : List ℕ) (o : Options) → with_value (called k) v o ≡ put_once k v o
@@ -40,7 +40,7 @@ with_key Drop v o = refl
 with_key Begin v o = refl
 with_key End v o = refl
 
-got : (k other : Key) (v : Option (List ℕ)) (o : Options) → value_at k (put other v o) ≡ (if bytes_eq (called other) (called k) then v else value_at k o)
+pub got : (k other : Key) (v : Option (List ℕ)) (o : Options) → value_at k (put other v o) ≡ (if bytes_eq (called other) (called k) then v else value_at k o)
 got Dag Dag v o = refl
 got Sched Sched v o = refl
 got Input Input v o = refl
@@ -64,7 +64,7 @@ same_at Begin Begin o e = refl
 same_at End End o e = refl
 same_at k other o e = absurd (let no : false ≡ true = e in cc)
 
-itself : (k : Key) → bytes_eq (called k) (called k) ≡ true
+pub itself : (k : Key) → bytes_eq (called k) (called k) ≡ true
 itself Dag = refl
 itself Sched = refl
 itself Input = refl
@@ -75,7 +75,7 @@ itself Drop = refl
 itself Begin = refl
 itself End = refl
 
-none_at : (k : Key) → value_at k no_options ≡ None
+pub none_at : (k : Key) → value_at k no_options ≡ None
 none_at Dag = refl
 none_at Sched = refl
 none_at Input = refl
@@ -86,7 +86,7 @@ none_at Drop = refl
 none_at Begin = refl
 none_at End = refl
 
-put_serial : (k : Key) (v : Option (List ℕ)) (o : Options) → (put k v o).serial ≡ o.serial
+pub put_serial : (k : Key) (v : Option (List ℕ)) (o : Options) → (put k v o).serial ≡ o.serial
 put_serial Dag v o = refl
 put_serial Sched v o = refl
 put_serial Input v o = refl
@@ -97,7 +97,7 @@ put_serial Drop v o = refl
 put_serial Begin v o = refl
 put_serial End v o = refl
 
-beside_serial : (k : Key) (b : Bool) (o : Options) → value_at k (record o { serial = b }) ≡ value_at k o
+pub beside_serial : (k : Key) (b : Bool) (o : Options) → value_at k (record o { serial = b }) ≡ value_at k o
 beside_serial Dag b o = refl
 beside_serial Sched b o = refl
 beside_serial Input b o = refl
@@ -108,7 +108,7 @@ beside_serial Drop b o = refl
 beside_serial Begin b o = refl
 beside_serial End b o = refl
 
-same_options : (o other : Options) → ((k : Key) → value_at k o ≡ value_at k other) → o.serial ≡ other.serial → o ≡ other
+pub same_options : (o other : Options) → ((k : Key) → value_at k o ≡ value_at k other) → o.serial ≡ other.serial → o ≡ other
 same_options o other h s = λ i. record {
   dag = h Dag i;
   sched = h Sched i;
@@ -124,17 +124,17 @@ same_options o other h s = λ i. record {
 
 -- ---- steps that succeed
 
-nothing : {A : Type 0} (a : A) → None ≡ Some a → ⊥
+pub nothing : {A : Type 0} (a : A) → None ≡ Some a → ⊥
 nothing a e = cc
 
-bound : {A B : Type 0} (x : Option A) (f : A → Option B) (b : B) → (x >>= f) ≡ Some b → (a : A) × (x ≡ Some a) × (f a ≡ Some b)
+pub bound : {A B : Type 0} (x : Option A) (f : A → Option B) (b : B) → (x >>= f) ≡ Some b → (a : A) × (x ≡ Some a) × (f a ≡ Some b)
 bound None f b e = absurd (nothing b e)
 bound (Some a) f b e = (a, refl, e)
 
-some_same : {A : Type 0} (a b : A) → Some a ≡ Some b → a ≡ b
+pub some_same : {A : Type 0} (a b : A) → Some a ≡ Some b → a ≡ b
 some_same a b e = cc
 
-mapped : {A B : Type 0} (x : Option A) (f : A → B) (b : B) → option_map f x ≡ Some b → (a : A) × (x ≡ Some a) × (f a ≡ b)
+pub mapped : {A B : Type 0} (x : Option A) (f : A → B) (b : B) → option_map f x ≡ Some b → (a : A) × (x ≡ Some a) × (f a ≡ b)
 mapped None f b e = absurd (nothing b e)
 mapped (Some a) f b e = (a, refl, some_same (f a) b e)
 
@@ -146,7 +146,7 @@ chosen : (b : Bool) (x y : Option Reading) (r : Reading) → (if b then x else y
 chosen true x y r e = inl (refl, e)
 chosen false x y r e = inr e
 
-same_name : (a b : List ℕ) → bytes_eq a b ≡ true → a ≡ b
+pub same_name : (a b : List ℕ) → bytes_eq a b ≡ true → a ≡ b
 same_name a b e = (bytes_eq-Decides a b).0 e
 
 key_found : (name v : List ℕ) (o found : Options) → with_value name v o ≡ Some found → (k : Key) × (name ≡ called k)
@@ -183,15 +183,15 @@ key_found name v o found e =
 
 -- ---- words and the options that they spell
 
-abbrev start : Options → Reading
+abbrev pub start : Options → Reading
 start o = record { options = o; pending = None }
 
-abbrev one : Given → Options → Option Options
+abbrev pub one : Given → Options → Option Options
 one Serial o = with_serial o
 one (Apart k v) o = put_once k v o
 one (Joined k v) o = put_once k v o
 
-abbrev after : List Given → Options → Option Options
+abbrev pub after : List Given → Options → Option Options
 after [] o = Some o
 after (g ∷ gs) o = one g o >>= after gs
 
@@ -270,7 +270,7 @@ read_given (Joined k v ∷ gs) o =
     ap (λ (x : Option Reading). x >>= words_met (flat_map spelled gs)) (joined_met k v o)
     ∙ (ap (λ (x : Option Options). settled x >>= words_met (flat_map spelled gs)) (with_key k v o) ∙ settle_then (put_once k v o) gs (flat_map spelled gs) (read_given gs))
 
-abbrev Spelled : List (List ℕ) → Options → Options → Type 0
+abbrev pub Spelled : List (List ℕ) → Options → Options → Type 0
 Spelled words o found = (gs : List Given) × (words ≡ flat_map spelled gs) × (after gs o ≡ Some found)
 
 more : (g : Given) (words rest : List (List ℕ)) (o next found : Options) → words ≡ spelled g ++ rest → one g o ≡ Some next → Spelled rest next found → Spelled words o found
@@ -317,7 +317,7 @@ pending_ends o found name e =
     let same = some_same _ (start found) e in
     nothing name (sym (ap (λ (r : Reading). r.pending) same))
 
-given_read : (words : List (List ℕ)) (o found : Options) (pending : Option (List ℕ)) → words_met words (record { options = o; pending = pending }) ≡ Some (start found)
+pub given_read : (words : List (List ℕ)) (o found : Options) (pending : Option (List ℕ)) → words_met words (record { options = o; pending = pending }) ≡ Some (start found)
     → Spelled (option_to_list pending ++ words) o found
 given_read [] o found None e = ([], refl, ap (λ (x : Option Reading). option_map (λ r. r.options) x) e)
 given_read [] o found (Some name) e = absurd (pending_ends o found name e)
@@ -336,15 +336,15 @@ given_read (value ∷ rest) o found (Some name) e =
 
 -- ---- options one after another, and all that are given
 
-abbrev serials : Bool → List Given
+abbrev pub serials : Bool → List Given
 serials b = if b then Serial ∷ [] else []
 
 abbrev Words : Options → Type 0
 Words o = (key : Key) → IfSome (value_at key o) (λ v. is_word v ≡ true)
 
-record Continues (gs : List Given) (o found : Options) : Type 0 where
-  values : (key : Key) → option_to_list (value_at key o) ++ values_of key gs ≡ option_to_list (value_at key found)
-  serial : serials o.serial ++ flat_map serials_in gs ≡ serials found.serial
+pub record Continues (gs : List Given) (o found : Options) : Type 0 where
+  pub values : (key : Key) → option_to_list (value_at key o) ++ values_of key gs ≡ option_to_list (value_at key found)
+  pub serial : serials o.serial ++ flat_map serials_in gs ≡ serials found.serial
 
 once : (x : Option (List ℕ)) (v : List ℕ) (y : Option (List ℕ)) → given_once x v ≡ Some y → (x ≡ None) × (is_word v ≡ true) × (y ≡ Some v)
 once (Some b) v y e = absurd (nothing y e)
@@ -357,7 +357,7 @@ once None v y e = let f = by (is_word v) e in (refl, f.0, f.1)
 once_is : (x : Option (List ℕ)) (v : List ℕ) → x ≡ None → is_word v ≡ true → given_once x v ≡ Some (Some v)
 once_is x v none word = rw (none, word) refl
 
-put_found : (k : Key) (v : List ℕ) (o next : Options) → put_once k v o ≡ Some next → (value_at k o ≡ None) × (is_word v ≡ true) × (next ≡ put k (Some v) o)
+pub put_found : (k : Key) (v : List ℕ) (o next : Options) → put_once k v o ≡ Some next → (value_at k o ≡ None) × (is_word v ≡ true) × (next ≡ put k (Some v) o)
 put_found k v o next e =
     let m = mapped (given_once (value_at k o) v) (λ x. put k x o) next e in
     let f = once (value_at k o) v m.0 m.1 in
@@ -385,7 +385,7 @@ put_words : (k : Key) (v : List ℕ) (o : Options) → is_word v ≡ true → Wo
 put_words k v o word old key =
     subst (λ (x : Option (List ℕ)). IfSome x (λ v. is_word v ≡ true)) (sym (got key k (Some v) o)) (word_if (bytes_eq (called k) (called key)) (value_at key o) v (old key) word)
 
-abbrev Run : List Given → Options → Options → Type 0
+abbrev pub Run : List Given → Options → Options → Type 0
 Run gs o found = Continues gs o found × (Words o → Words found)
 
 put_run : (k : Key) (v : List ℕ) (gs : List Given) (o next found : Options) → put_once k v o ≡ Some next → Run gs next found
@@ -399,7 +399,7 @@ put_run k v gs o next found e r =
       λ words. go.1 (put_words k v o f.1 words),
     )
 
-serial_found : (o next : Options) → with_serial o ≡ Some next → (o.serial ≡ false) × (next ≡ record o { serial = true })
+pub serial_found : (o next : Options) → with_serial o ≡ Some next → (o.serial ≡ false) × (next ≡ record o { serial = true })
 serial_found o next e = by o.serial e
   where
     by : (b : Bool) → (if b then None else Some (record o { serial = true })) ≡ Some next → (b ≡ false) × (next ≡ record o { serial = true })
@@ -409,7 +409,7 @@ serial_found o next e = by o.serial e
 serial_words : (o : Options) → Words o → Words (record o { serial = true })
 serial_words o old key = subst (λ (x : Option (List ℕ)). IfSome x (λ v. is_word v ≡ true)) (sym (beside_serial key true o)) (old key)
 
-run : (gs : List Given) (o found : Options) → after gs o ≡ Some found → Run gs o found
+pub run : (gs : List Given) (o found : Options) → after gs o ≡ Some found → Run gs o found
 run [] o found e =
     let same : o ≡ found = some_same o found e in (
       record {
@@ -439,7 +439,7 @@ run (Joined k v ∷ gs) o found e =
 
 -- ---- and back
 
-one_value : (x y : Option (List ℕ)) (v : List ℕ) (rest : List (List ℕ)) → option_to_list x ++ v ∷ rest ≡ option_to_list y → (x ≡ None) × (y ≡ Some v)
+pub one_value : (x y : Option (List ℕ)) (v : List ℕ) (rest : List (List ℕ)) → option_to_list x ++ v ∷ rest ≡ option_to_list y → (x ≡ None) × (y ≡ Some v)
 one_value None (Some w) v rest e = (refl, ap Some (sym (let h : v ∷ rest ≡ w ∷ [] = e in cc)))
 one_value None None v rest e = absurd (let h : v ∷ rest ≡ [] = e in cc)
 one_value (Some u) (Some w) v rest e = absurd (let h : u ∷ v ∷ rest ≡ w ∷ [] = e in cc)
@@ -508,20 +508,24 @@ options_found words o p =
     ap (λ (l : List (List ℕ)). words_met l (start no_options)) p.are_spelled ∙ (read_given p.given no_options ∙ ap (option_map start) (reached p.given no_options o given p.are_words)) in
     ap (λ (x : Option Reading). x >>= (λ r. options_at_end r.options r.pending)) read
 
-at_end : (o : Options) (pending : Option (List ℕ)) (found : Options) → options_at_end o pending ≡ Some found → (pending ≡ None) × (o ≡ found)
+pub at_end : (o : Options) (pending : Option (List ℕ)) (found : Options) → options_at_end o pending ≡ Some found → (pending ≡ None) × (o ≡ found)
 at_end o None found e = (refl, some_same o found e)
 at_end o (Some name) found e = absurd (nothing found e)
 
 no_words : Words no_options
 no_words key = subst (λ (x : Option (List ℕ)). IfSome x (λ v. is_word v ≡ true)) (sym (none_at key)) tt
 
-options_are : (words : List (List ℕ)) (o : Options) → options_met words ≡ Some o → AreOptions words o
-options_are words o e =
+pub options_spelled : (words : List (List ℕ)) (o : Options) → options_met words ≡ Some o → Spelled words no_options o
+options_spelled words o e =
     let b = bound (words_met words (start no_options)) (λ r. options_at_end r.options r.pending) o e in
     let end = at_end b.0.options b.0.pending o b.2 in
     let read : words_met words (start no_options) ≡ Some (start o) =
     b.1 ∙ (ap (λ (p : Option (List ℕ)). Some (record { options = b.0.options; pending = p })) end.0 ∙ ap (λ (x : Options). Some (start x)) end.1) in
-    let s = given_read words no_options o None read in
+    given_read words no_options o None read
+
+options_are : (words : List (List ℕ)) (o : Options) → options_met words ≡ Some o → AreOptions words o
+options_are words o e =
+    let s = options_spelled words o e in
     let r = run s.0 no_options o s.2 in
     record {
       given = s.0;

@@ -5,6 +5,7 @@ pub mod Options
 pub mod PassWords
 pub mod PlayViews
 pub mod PlayWords
+pub mod Program
 pub mod Scan
 pub mod Views
 pub mod Words

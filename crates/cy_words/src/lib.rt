@@ -5,13 +5,16 @@
 #![tactic(auto)]
 
 mod check_words;
+mod error;
 mod make_words;
 mod options;
 mod pass_words;
 mod play_words;
+mod program;
 mod words;
 
 pub use check_words::Check;
+pub use error::WordsError;
 pub use make_words::Make;
 pub use play_words::Play;
 pub use words::{Command, Info, command_of, still_command_of};

@@ -1,0 +1,124 @@
+// How the program's commands are told to `clap`.
+ghost use Rattle.std.specs.Prelude.{◌≡◌, true, IfOk, fold, map, option_map};
+ghost use Rattle.clap.specs.Words.{app_of, found_of, new_rule, rows_of};
+ghost use Rattle.clap.specs.declared.builder.command.Command.TheViews.{out-Command};
+ghost use Rattle.clap.specs.Words.{subcommand_of, takes, with_rule};
+ghost use Rattle.clap.specs.Walk.{texts};
+ghost use Rattle.cy_words.specs.Program.{IsCommand, check_app, info_app, make_app};
+ghost use Rattle.cy_words.specs.Program.{option_rule, pass_app, play_app, program};
+
+use crate::WordsError;
+use clap::{Arg, ArgAction, ArgMatches, Command};
+use std::alloc::{AllocError, Global};
+
+// The options with a value: those of `check`, and the others that `play` has too.
+const FILES: [&str; 2] = ["dag", "sched"];
+const OTHERS: [&str; 7] = [
+    "record", "out", "trace", "channels", "drop", "begin", "end",
+];
+
+// The words of `pass` and of `make`, in their order.
+const PASSED: [&str; 5] = ["record", "out", "trace", "from", "to"];
+const MADE: [&str; 2] = ["count", "prefix"];
+
+// A command with further options that have a value.
+fn with_options<'a>(
+    alloc: Global,
+    mut command: Command<'a>,
+    names: &[&'a str],
+) -> Result<Command<'a>, AllocError>
+    ensures app { IfOk result (λ c. app_of c
+        ≡ fold with_rule (app_of command.entry) (map option_rule (texts names.now))) }
+    ensures local { IfOk result (λ c. (out-Command c).has_globals
+        ≡ (out-Command command.entry).has_globals) }
+{
+    for name in names {
+        command = command.arg(Arg::new(alloc, *name).long(*name))?;
+    }
+    Ok(command)
+}
+
+// A command with further words that are known by their places.
+fn with_places<'a>(
+    alloc: Global,
+    mut command: Command<'a>,
+    names: &[&'a str],
+) -> Result<Command<'a>, AllocError>
+    ensures app { IfOk result (λ c. app_of c
+        ≡ fold with_rule (app_of command.entry) (map new_rule (texts names.now))) }
+    ensures local { IfOk result (λ c. (out-Command c).has_globals
+        ≡ (out-Command command.entry).has_globals) }
+{
+    for name in names {
+        command = command.arg(Arg::new(alloc, *name))?;
+    }
+    Ok(command)
+}
+
+fn check<'a>(alloc: Global) -> Result<Command<'a>, AllocError>
+    ensures { IfOk result (IsCommand check_app) }
+{
+    with_options(alloc, Command::new(alloc, "check"), &FILES)
+}
+
+fn play<'a>(alloc: Global) -> Result<Command<'a>, AllocError>
+    ensures { IfOk result (IsCommand play_app) }
+{
+    let command = with_options(alloc, Command::new(alloc, "play"), &FILES)?;
+    let command = with_options(alloc, command, &OTHERS)?;
+    let serial = Arg::new(alloc, "serial")
+        .long("serial")
+        .action(ArgAction::SetTrue);
+    command.arg(serial)
+}
+
+fn info<'a>(alloc: Global) -> Result<Command<'a>, AllocError>
+    ensures { IfOk result (IsCommand info_app) }
+{
+    with_places(alloc, Command::new(alloc, "info"), &["file"])
+}
+
+fn pass<'a>(alloc: Global) -> Result<Command<'a>, AllocError>
+    ensures { IfOk result (IsCommand pass_app) }
+{
+    with_places(alloc, Command::new(alloc, "pass"), &PASSED)
+}
+
+fn make<'a>(alloc: Global) -> Result<Command<'a>, AllocError>
+    ensures { IfOk result (IsCommand make_app) }
+{
+    with_places(alloc, Command::new(alloc, "make"), &MADE)
+}
+
+// The program: its words are those behind its name, a command stands first, and it has no help.
+fn program<'a>(alloc: Global) -> Result<Command<'a>, AllocError>
+    ensures { IfOk result (λ c. app_of c ≡ program) }
+{
+    Command::new(alloc, "cyber")
+        .no_binary_name(true)
+        .disable_help_flag(true)
+        .disable_help_subcommand(true)
+        .subcommand(play(alloc)?)?
+        .subcommand(check(alloc)?)?
+        .subcommand(info(alloc)?)?
+        .subcommand(pass(alloc)?)?
+        .subcommand(make(alloc)?)
+}
+
+/// The matches of the command that the words name, which `clap` takes.
+pub(crate) fn matches_of<'a>(
+    alloc: Global,
+    words: &'a [&'a str],
+) -> Result<Option<ArgMatches<'a>>, WordsError>
+    requires { takes program (texts words.now) ≡ true }
+    ensures { IfOk result (λ found. option_map (λ m. rows_of (found_of m)) found
+        ≡ option_map (λ p. p.1) (subcommand_of program (texts words.now))) }
+{
+    match program(alloc)?.try_get_matches_from(words) {
+        Ok(mut matches) => match matches.remove_subcommand() {
+            Some((_, found)) => Ok(Some(found)),
+            None => Ok(None),
+        },
+        Err(error) => Err(WordsError::of_taken(error)),
+    }
+}
