@@ -9,7 +9,7 @@ use Rattle.cy_words.specs.Scan.{check_of, command_of, play_of, still_command_of,
 use Rattle.cy_words.specs.Words.{info_of}
 use Rattle.cy_words.proofs.OptionsRead.{check_found, check_asked, play_found, play_asked}
 
-found : (words : List (List ℕ)) (c : Command) → Asks words c → command_of words ≡ Some c
+pub found : (words : List (List ℕ)) (c : Command) → Asks words c → command_of words ≡ Some c
 found [] c h = absurd h
 found (name ∷ words) (Check w) h = ap (λ (n : List ℕ). command_of (n ∷ words)) h.0 ∙ ap (option_map Check) (check_found words w h.1)
 found (name ∷ words) (Info w) h = ap (λ (n : List ℕ). command_of (n ∷ words)) h.0 ∙ ap (option_map Info) h.1
@@ -34,7 +34,7 @@ chosen false x y c e = inr e
 same_name : (a b : List ℕ) → bytes_eq a b ≡ true → a ≡ b
 same_name a b e = (bytes_eq-Decides a b).0 e
 
-asks : (words : List (List ℕ)) (c : Command) → command_of words ≡ Some c → Asks words c
+pub asks : (words : List (List ℕ)) (c : Command) → command_of words ≡ Some c → Asks words c
 asks [] c e = absurd (nothing c e)
 asks (name ∷ words) c e =
     elim (chosen (bytes_eq name (codes "pass")) _ _ c e) [

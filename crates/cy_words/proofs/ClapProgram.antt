@@ -1,7 +1,8 @@
 -- `clap` takes the words of each command that have its form, and keeps their values.
 use Rattle.std.proofs.Common.{◌≡◌, ◌+◌, ◌==◌, ◌&&◌, ◌||◌, ℕ, List, [], ◌∷◌, ◌++◌, Bool, true, false, not, Option, Some, None, is_some, if◌then◌else◌, cond, refl, sym, ap, ◌∙◌, subst, true≢false}
 use Rattle.std.proofs.Common.{map, flat_map, codes, option_map, bytes_eq}
-use Rattle.clap.specs.Walk.{Held, Row, Rule, Text, Walk, finished, first_of, nothing_held, rows_after, settled, walk_from, walked, with_default}
+use Rattle.std.specs.Prelude.{option_and_then}
+use Rattle.clap.specs.Walk.{Held, Row, Rule, Text, Walk, finished, first_of, nothing_held, one_of, row_text, rows_after, settled, walk_from, walked, with_default}
 use Rattle.clap.specs.Simple.{App, Shape, built, built_leaf, inherited, is_simple, marked_built, on_top, subcommand_of, with_leaf_noted}
 use Rattle.clap.specs.Takes.{flags_pass, level_passes, takes, walk_passes}
 use Rattle.clap.proofs.OnLiterals.{clap_on_literals}
@@ -113,7 +114,7 @@ check_open : IsOpen (leaf_of check_app)
 check_open = record { defaults = refl; valid = λ rows. refl }
 
 pub check_read : (words : List Text) (dag sched : Option Text) → options_met words ≡ Some (record no_options { dag = dag; sched = sched })
-    → (rows : List Row) × Reads (codes "check") words rows × (first_of (codes "dag") rows ≡ dag) × (first_of (codes "sched") rows ≡ sched)
+    → (rows : List Row) × Reads (codes "check") words rows × (first_of (codes "dag") rows ≡ dag) × (first_of (codes "sched") rows ≡ sched) × (one_of serial_name rows ≡ None)
 check_read words dag sched e =
     let o : Options = record no_options { dag = dag; sched = sched } in
     let s = leaf_of check_app in
@@ -126,6 +127,7 @@ check_read words dag sched e =
       reads (codes "check") s words kept enters_check refl (level_taken s nothing_held words (walk_from steps.0) check_open goes steps.2.settles) rows,
       values_kept o kept steps.2.holds Dag,
       values_kept o kept steps.2.holds Sched,
+      ap (option_and_then row_text) steps.2.holds.serial,
     )
 
 -- ---- words that are known by their places
@@ -133,7 +135,7 @@ check_read words dag sched e =
 info_open : IsOpen (leaf_of info_app)
 info_open = record { defaults = refl; valid = λ rows. refl }
 
-pub info_read : (file : Text) → is_word file ≡ true → (rows : List Row) × Reads (codes "info") (file ∷ []) rows × (first_of (codes "file") rows ≡ Some file)
+pub info_read : (file : Text) → is_word file ≡ true → (rows : List Row) × Reads (codes "info") (file ∷ []) rows × (first_of (codes "file") rows ≡ Some file) × (one_of serial_name rows ≡ None)
 info_read file word =
     let s = leaf_of info_app in
     let to = placed s 1 nothing_held file in
@@ -141,13 +143,14 @@ info_read file word =
       finished s.rules to.held,
       reads (codes "info") s (file ∷ []) (finished s.rules to.held) enters_info refl (level_taken s nothing_held (file ∷ []) to info_open goes refl) (level_rows s (file ∷ []) to goes),
       refl,
+      refl,
     )
 
 make_open : IsOpen (leaf_of make_app)
 make_open = record { defaults = refl; valid = λ rows. refl }
 
 pub make_read : (count prefix : Text) → is_word count ≡ true → is_word prefix ≡ true
-    → (rows : List Row) × Reads (codes "make") (count ∷ prefix ∷ []) rows × (first_of (codes "count") rows ≡ Some count) × (first_of (codes "prefix") rows ≡ Some prefix)
+    → (rows : List Row) × Reads (codes "make") (count ∷ prefix ∷ []) rows × (first_of (codes "count") rows ≡ Some count) × (first_of (codes "prefix") rows ≡ Some prefix) × (one_of serial_name rows ≡ None)
 make_read count prefix p q =
     let s = leaf_of make_app in
     let first = placed s 1 nothing_held count in
@@ -157,6 +160,7 @@ make_read count prefix p q =
       finished s.rules to.held,
       reads (codes "make") s (count ∷ prefix ∷ []) (finished s.rules to.held) enters_make refl (level_taken s nothing_held (count ∷ prefix ∷ []) to make_open goes refl)
       (level_rows s (count ∷ prefix ∷ []) to goes),
+      refl,
       refl,
       refl,
     )
@@ -171,6 +175,7 @@ pub record KeepsPass (input output trace from to : Text) (rows : List Row) : Typ
   pub trace_kept : first_of (codes "trace") rows ≡ Some trace
   pub from_kept : first_of (codes "from") rows ≡ Some from
   pub to_kept : first_of (codes "to") rows ≡ Some to
+  pub no_flag : one_of serial_name rows ≡ None
 
 pub pass_read : (input output trace from to : Text) → is_word input ≡ true → is_word output ≡ true → is_word trace ≡ true → is_word from ≡ true → is_word to ≡ true
     → (rows : List Row) × Reads (codes "pass") (input ∷ output ∷ trace ∷ from ∷ to ∷ []) rows × KeepsPass input output trace from to rows
@@ -189,5 +194,5 @@ pass_read input output trace from to p q r t u =
     let words = input ∷ output ∷ trace ∷ from ∷ to ∷ [] in (
       finished s.rules w5.held,
       reads (codes "pass") s words (finished s.rules w5.held) enters_pass refl (level_taken s nothing_held words w5 pass_open go5 refl) (level_rows s words w5 go5),
-      record { input_kept = refl; output_kept = refl; trace_kept = refl; from_kept = refl; to_kept = refl },
+      record { input_kept = refl; output_kept = refl; trace_kept = refl; from_kept = refl; to_kept = refl; no_flag = refl },
     )

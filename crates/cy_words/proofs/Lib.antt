@@ -5,5 +5,5 @@ pub mod ClapOptions
 pub mod ClapProgram
 pub mod ClapWalk
 pub mod Named
-pub mod NoCommand
 pub mod OptionsRead
+pub mod Read

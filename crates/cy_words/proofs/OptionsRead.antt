@@ -563,32 +563,37 @@ none_of : (x : Option (List ℕ)) → is_some x ≡ false → x ≡ None
 none_of None e = refl
 none_of (Some v) e = absurd (let no : true ≡ false = e in cc)
 
-checked_options : (o : Options) (w : CheckWords) → check_words o ≡ Some w → o ≡ checking w
-checked_options o w e =
-    let u = unless (has_others o) (option_map (λ dag. record { dag = dag; sched = o.sched }) o.dag) w e in
-    let m = mapped o.dag (λ dag. record { dag = dag; sched = o.sched }) w u.1 in
-    let a = neither (is_some o.input) _ u.0 in
+pub files_only : (o : Options) → has_others o ≡ false → o ≡ record no_options { dag = o.dag; sched = o.sched }
+files_only o none =
+    let a = neither (is_some o.input) _ none in
     let b = neither (is_some o.output) _ a.1 in
     let c = neither (is_some o.trace) _ b.1 in
     let d = neither (is_some o.only) _ c.1 in
     let f = neither (is_some o.drop) _ d.1 in
     let g = neither (is_some o.begin) _ f.1 in
     let h = neither (is_some o.end) o.serial g.1 in
+    same_options o (record no_options { dag = o.dag; sched = o.sched })
+    (λ key. by o (none_of o.input a.0) (none_of o.output b.0) (none_of o.trace c.0) (none_of o.only d.0) (none_of o.drop f.0) (none_of o.begin g.0) (none_of o.end h.0) key) h.1
+  where
+    by : (o : Options) → o.input ≡ None → o.output ≡ None → o.trace ≡ None → o.only ≡ None → o.drop ≡ None → o.begin ≡ None → o.end ≡ None
+        → (key : Key) → value_at key o ≡ value_at key (record no_options { dag = o.dag; sched = o.sched })
+    by o r s t u x y z Dag = refl
+    by o r s t u x y z Sched = refl
+    by o r s t u x y z Input = r
+    by o r s t u x y z Output = s
+    by o r s t u x y z Trace = t
+    by o r s t u x y z Only = u
+    by o r s t u x y z Drop = x
+    by o r s t u x y z Begin = y
+    by o r s t u x y z End = z
+
+checked_options : (o : Options) (w : CheckWords) → check_words o ≡ Some w → o ≡ checking w
+checked_options o w e =
+    let u = unless (has_others o) (option_map (λ dag. record { dag = dag; sched = o.sched }) o.dag) w e in
+    let m = mapped o.dag (λ dag. record { dag = dag; sched = o.sched }) w u.1 in
     let dag : o.dag ≡ Some w.dag = m.1 ∙ ap (λ (x : CheckWords). Some x.dag) m.2 in
     let sched : o.sched ≡ w.sched = ap (λ (x : CheckWords). x.sched) m.2 in
-    same_options o (checking w) (λ key. by o w dag sched (none_of o.input a.0) (none_of o.output b.0) (none_of o.trace c.0) (none_of o.only d.0) (none_of o.drop f.0) (none_of o.begin g.0) (none_of o.end h.0) key) h.1
-  where
-    by : (o : Options) (w : CheckWords) → o.dag ≡ Some w.dag → o.sched ≡ w.sched → o.input ≡ None → o.output ≡ None → o.trace ≡ None → o.only ≡ None → o.drop ≡ None → o.begin ≡ None → o.end ≡ None
-        → (key : Key) → value_at key o ≡ value_at key (checking w)
-    by o w p q r s t u x y z Dag = p
-    by o w p q r s t u x y z Sched = q
-    by o w p q r s t u x y z Input = r
-    by o w p q r s t u x y z Output = s
-    by o w p q r s t u x y z Trace = t
-    by o w p q r s t u x y z Only = u
-    by o w p q r s t u x y z Drop = x
-    by o w p q r s t u x y z Begin = y
-    by o w p q r s t u x y z End = z
+    files_only o u.0 ∙ (λ i. record no_options { dag = dag i; sched = sched i })
 
 pub check_asked : (words : List (List ℕ)) (w : CheckWords) → check_of words ≡ Some w → IsCheckWords words w
 check_asked words w e =

@@ -1,5 +1,6 @@
 pub mod CheckWords
 pub mod Command
+pub mod Kept
 pub mod MakeWords
 pub mod Options
 pub mod PassWords

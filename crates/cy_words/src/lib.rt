@@ -7,6 +7,7 @@
 mod check_words;
 mod error;
 mod make_words;
+mod matches;
 mod options;
 mod pass_words;
 mod play_words;

@@ -1,11 +1,16 @@
 // The words of `make`.
-ghost use Rattle.std.specs.Prelude.{◌≡◌, ◌≤◌, ◌<◌, IfSome, option_map};
-ghost use Rattle.cy_words.specs.MakeWords.{make_of, count_of};
+ghost use Rattle.std.specs.Prelude.{◌≡◌, option_map};
+ghost use Rattle.clap.specs.Walk.{texts};
+ghost use Rattle.clap.specs.Words.{found_of, rows_of};
+ghost use Rattle.cy_words.specs.Kept.{make_in};
+ghost use Rattle.cy_words.specs.MakeWords.{count_of};
+ghost use Rattle.cy_words.specs.Scan.{is_make};
 ghost use Rattle.cy_words.specs.Views.{make_words_of};
 
+use crate::matches::value_of;
 use crate::play_words::number_of;
 use crate::words::names_something;
-use cy_msg::Text;
+use clap::ArgMatches;
 
 /// The most messages of a record that is made.
 const MOST_MADE: u64 = 1_048_576;
@@ -21,9 +26,7 @@ pub struct Make<'a> {
 
 // How many messages are asked for.
 fn count_of(text: &str) -> Option<u32>
-    ensures count { result ≡ count_of text.now }
-    ensures some { IfSome result (λ n. 0 < n) }
-    ensures few { IfSome result (λ n. n ≤ 1048576) }
+    ensures { result ≡ count_of text.now }
 {
     let count = number_of(text)?;
     if count < 1 || MOST_MADE < count {
@@ -33,19 +36,26 @@ fn count_of(text: &str) -> Option<u32>
     }
 }
 
-/// What the words behind `make` ask for; None where they are not of its form.
-pub(crate) fn make_words<'a>(words: &'a [Text]) -> Option<Make<'a>>
-    ensures asked { option_map make_words_of result ≡ make_of words.now }
-    ensures some { IfSome result (λ m. 0 < m.count) }
-    ensures few { IfSome result (λ m. m.count ≤ 1048576) }
+// Whether words have the form of those of `make`.
+pub(crate) fn is_make(words: &[&str]) -> bool
+    ensures { result ≡ is_make (texts words.now) }
 {
     let [count, prefix] = words else {
-        return None;
+        return false;
     };
-    let prefix = prefix.as_str();
-    if !names_something(prefix) {
-        return None;
+    names_something(count) && names_something(prefix)
+}
+
+impl<'a> Make<'a> {
+    // What the values that are kept ask for.
+    pub(crate) fn of(matches: &ArgMatches<'a>) -> Option<Self>
+        ensures { option_map make_words_of result ≡ make_in (rows_of (found_of matches.now)) }
+    {
+        let count = value_of(matches, "count")?;
+        let prefix = value_of(matches, "prefix")?;
+        Some(Make {
+            count: count_of(count)?,
+            prefix,
+        })
     }
-    let count = count_of(count.as_str())?;
-    Some(Make { count, prefix })
 }

@@ -1,12 +1,16 @@
 // Words that are options.
 ghost use Rattle.std.specs.Prelude.{◌≡◌, None, option_map};
+ghost use Rattle.clap.specs.Walk.{texts};
+ghost use Rattle.clap.specs.Words.{found_of, rows_of};
+ghost use Rattle.cy_words.specs.Kept.{IsFlag, flag_kept, options_in};
 ghost use Rattle.cy_words.specs.Options.{no_options};
 ghost use Rattle.cy_words.specs.PlayViews.{options_of, reading_of};
 ghost use Rattle.cy_words.specs.Scan.{given_once, with_value, with_serial, option_met};
 ghost use Rattle.cy_words.specs.Scan.{word_met, words_met, options_met};
 
+use crate::matches::{is_given, value_of};
 use crate::words::names_something;
-use cy_msg::Text;
+use clap::ArgMatches;
 
 /// The options that are given: their values, and whether `--serial` is.
 #[derive(Clone, Copy)]
@@ -56,6 +60,25 @@ fn given_once<'a>(before: Option<&'a str>, value: &'a str) -> Option<Option<&'a 
 }
 
 impl<'a> Options<'a> {
+    // Those that `clap` keeps.
+    pub(crate) fn of(matches: &ArgMatches<'a>) -> Self
+        requires { IsFlag (flag_kept (rows_of (found_of matches.now))) }
+        ensures { options_of result ≡ options_in (rows_of (found_of matches.now)) }
+    {
+        Options {
+            dag: value_of(matches, "dag"),
+            sched: value_of(matches, "sched"),
+            input: value_of(matches, "record"),
+            output: value_of(matches, "out"),
+            trace: value_of(matches, "trace"),
+            only: value_of(matches, "channels"),
+            drop: value_of(matches, "drop"),
+            begin: value_of(matches, "begin"),
+            end: value_of(matches, "end"),
+            serial: is_given(matches, "serial"),
+        }
+    }
+
     // These and one more, by its name and its value.
     #[tactic(auto, unfolding(crate::specs::Scan::with_value))]
     fn with_value(self, name: &str, value: &'a str) -> Option<Self>
@@ -156,8 +179,8 @@ fn word_met<'a>(word: &'a str, before: Reading<'a>) -> Option<Reading<'a>>
 }
 
 // The options that words give, and the name whose value would follow.
-fn words_met<'a>(words: &'a [Text]) -> Option<Reading<'a>>
-    ensures { option_map reading_of result ≡ words_met words.now
+fn words_met<'a>(words: &[&'a str]) -> Option<Reading<'a>>
+    ensures { option_map reading_of result ≡ words_met (texts words.now)
         (record { options = no_options; pending = None }) }
 {
     let mut reading = Reading {
@@ -165,14 +188,14 @@ fn words_met<'a>(words: &'a [Text]) -> Option<Reading<'a>>
         pending: None,
     };
     for word in words {
-        reading = word_met(word.as_str(), reading)?;
+        reading = word_met(word, reading)?;
     }
     Some(reading)
 }
 
 /// The options that the words are; None where they are no options.
-pub(crate) fn options_met<'a>(words: &'a [Text]) -> Option<Options<'a>>
-    ensures { option_map options_of result ≡ options_met words.now }
+pub(crate) fn options_met<'a>(words: &[&'a str]) -> Option<Options<'a>>
+    ensures { option_map options_of result ≡ options_met (texts words.now) }
 {
     let reading = words_met(words)?;
     if reading.pending.is_some() {

@@ -1,43 +1,55 @@
 // The words of `pass`.
-ghost use Rattle.std.specs.Prelude.{◌≡◌, IfSome, option_map};
-ghost use Rattle.cy_replay.specs.Setup.{HasReader, components_of};
-ghost use Rattle.cy_words.specs.PassWords.{pass_of};
+ghost use Rattle.std.specs.Prelude.{◌≡◌, option_map};
+ghost use Rattle.clap.specs.Walk.{texts};
+ghost use Rattle.clap.specs.Words.{found_of, rows_of};
+ghost use Rattle.cy_words.specs.Kept.{pass_in};
 ghost use Rattle.cy_words.specs.PlayViews.{play_words_of};
+ghost use Rattle.cy_words.specs.Scan.{is_pass};
 
+use crate::matches::value_of;
 use crate::play_words::Play;
 use crate::words::names_something;
-use cy_msg::Text;
+use clap::ArgMatches;
 use cy_replay::Components;
 
-/// What the words behind `pass` ask for; None where they are not of its form.
-#[tactic(auto, using(crate::proofs::Named::named))]
-pub fn pass_words<'a>(words: &'a [Text]) -> Option<Play<'a>>
-    ensures asked { option_map play_words_of result ≡ pass_of words.now }
-    ensures reader { IfSome result (λ play. HasReader (components_of play.components)) }
+// Whether words have the form of those of `pass`.
+pub(crate) fn is_pass(words: &[&str]) -> bool
+    ensures { result ≡ is_pass (texts words.now) }
 {
     let [input, output, trace, from, to] = words else {
-        return None;
+        return false;
     };
-    let (input, output, trace) = (input.as_str(), output.as_str(), trace.as_str());
-    let (from, to) = (from.as_str(), to.as_str());
-    let are_names = names_something(input)
+    names_something(input)
         && names_something(output)
         && names_something(trace)
         && names_something(from)
-        && names_something(to);
-    if !are_names || from == to {
-        return None;
+        && names_something(to)
+}
+
+impl<'a> Play<'a> {
+    // What the values that are kept ask for behind `pass`.
+    pub(crate) fn of_pass(matches: &ArgMatches<'a>) -> Option<Self>
+        ensures { option_map play_words_of result ≡ pass_in (rows_of (found_of matches.now)) }
+    {
+        let input = value_of(matches, "record")?;
+        let output = value_of(matches, "out")?;
+        let trace = value_of(matches, "trace")?;
+        let from = value_of(matches, "from")?;
+        let to = value_of(matches, "to")?;
+        if from == to {
+            return None;
+        }
+        let play = Play {
+            components: Components::Pass { from, to },
+            input,
+            output,
+            trace,
+            only: None,
+            drop: None,
+            begin: 0,
+            end: u64::MAX,
+            serial: true,
+        };
+        play.where_in_form()
     }
-    let play = Play {
-        components: Components::Pass { from, to },
-        input,
-        output,
-        trace,
-        only: None,
-        drop: None,
-        begin: 0,
-        end: u64::MAX,
-        serial: true,
-    };
-    play.where_in_form()
 }

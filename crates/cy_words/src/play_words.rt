@@ -1,14 +1,15 @@
 // The words of `play`.
-ghost use Rattle.std.specs.Prelude.{◌≡◌, IfSome, option_map};
-ghost use Rattle.cy_replay.specs.Setup.{HasReader, components_of};
+ghost use Rattle.std.specs.Prelude.{◌≡◌, option_map};
+ghost use Rattle.cy_replay.specs.Setup.{components_of};
+ghost use Rattle.clap.specs.Words.{found_of, rows_of};
+ghost use Rattle.cy_words.specs.Kept.{IsFlag, flag_kept, play_in};
 ghost use Rattle.cy_words.specs.PlayWords.{with_digit, number_of, number_or, is_list};
 ghost use Rattle.cy_words.specs.PlayWords.{is_list_or_none, is_no_config, is_other, is_play};
 ghost use Rattle.cy_words.specs.PlayWords.{where_play, play_words, asked_by};
 ghost use Rattle.cy_words.specs.PlayViews.{play_words_of, options_of};
-ghost use Rattle.cy_words.specs.Scan.{play_of};
 
-use crate::options::{Options, options_met};
-use cy_msg::Text;
+use crate::options::Options;
+use clap::ArgMatches;
 use cy_replay::Components;
 
 /// What is asked of a play: its components, names of files, and which messages are let through.
@@ -124,10 +125,9 @@ impl<'a> Play<'a> {
         self.output != self.trace && self.is_other(self.output) && self.is_other(self.trace)
     }
 
-    /// The play, where its names are in form.
+    // The play, where its names are in form.
     pub(crate) fn where_in_form(self) -> Option<Self>
-        ensures play { option_map play_words_of result ≡ where_play (play_words_of self.entry) }
-        ensures same { IfSome result (λ play. play.components ≡ self.entry.components) }
+        ensures { option_map play_words_of result ≡ where_play (play_words_of self.entry) }
     {
         if self.is_in_form() { Some(self) } else { None }
     }
@@ -136,8 +136,7 @@ impl<'a> Play<'a> {
 impl<'a> Options<'a> {
     // The words that every play has.
     fn words(self) -> Option<Play<'a>>
-        ensures words { option_map play_words_of result ≡ play_words (options_of self.entry) }
-        ensures reader { IfSome result (λ play. HasReader (components_of play.components)) }
+        ensures { option_map play_words_of result ≡ play_words (options_of self.entry) }
     {
         let dag = self.dag?;
         Some(Play {
@@ -159,8 +158,7 @@ impl<'a> Options<'a> {
     // What the options ask for.
     #[tactic(auto, unfolding(crate::specs::PlayWords::asked_by))]
     fn asked(self) -> Option<Play<'a>>
-        ensures asked { option_map play_words_of result ≡ asked_by (options_of self.entry) }
-        ensures reader { IfSome result (λ play. HasReader (components_of play.components)) }
+        ensures { option_map play_words_of result ≡ asked_by (options_of self.entry) }
     {
         if !(is_list_or_none(self.only) && is_list_or_none(self.drop)) {
             return None;
@@ -169,10 +167,12 @@ impl<'a> Options<'a> {
     }
 }
 
-/// What the words behind `play` ask for; None where they are not of its form.
-pub fn play_words<'a>(words: &'a [Text]) -> Option<Play<'a>>
-    ensures asked { option_map play_words_of result ≡ play_of words.now }
-    ensures reader { IfSome result (λ play. HasReader (components_of play.components)) }
-{
-    options_met(words)?.asked()
+impl<'a> Play<'a> {
+    // What the values that are kept ask for behind `play`.
+    pub(crate) fn of(matches: &ArgMatches<'a>) -> Option<Self>
+        requires { IsFlag (flag_kept (rows_of (found_of matches.now))) }
+        ensures { option_map play_words_of result ≡ play_in (rows_of (found_of matches.now)) }
+    {
+        Options::of(matches).asked()
+    }
 }
