@@ -1,9 +1,11 @@
 -- Words that have a form are read as the command that they ask for, and others ask for none.
 use Rattle.std.proofs.Common.{◌≡◌, ◌⊎◌, ◌<◌, ◌≤◌, ◌+◌, ◌==◌, ◌&&◌, ◌||◌, ℕ, List, [], ◌∷◌, Bool, true, false, not, Option, Some, None, is_some, if◌then◌else◌, refl, sym, ap, ap₂, ◌∙◌, subst, inl, inr, true≢false, arith}
-use Rattle.std.proofs.Common.{codes, length, option_map, bytes_eq}
+use Rattle.std.proofs.Common.{◌-◌, codes, drop, get_or, length, option_map, bytes_eq, take}
+use Rattle.std.specs.Borrow.{Bor}
 use Rattle.std.specs.Prelude.{nat_le, nat_lt, IfSome}
 use Rattle.std.proofs.lemmas.Slice.Eq.{bytes_eq-Decides}
-use Rattle.clap.specs.Walk.{Row, Text, first_of, one_of}
+use Rattle.clap.specs.Walk.{Row, Text, first_of, one_of, texts}
+use Rattle.clap.specs.Words.{subcommand_of, takes}
 use Rattle.clap.proofs.WalkLemmas.{both}
 use Rattle.cy_replay.specs.Setup.{HasReader}
 use Rattle.cy_words.specs.CheckWords.{CheckWords}
@@ -13,7 +15,7 @@ use Rattle.cy_words.specs.MakeWords.{MakeWords, count_of, make_of, most_made, wh
 use Rattle.cy_words.specs.Options.{Key, Options, no_options, value_at, Dag, Sched, Input, Output, Trace, Only, Drop, Begin, End}
 use Rattle.cy_words.specs.PassWords.{pass_of, pass_words}
 use Rattle.cy_words.specs.PlayWords.{PlayWords, asked_by, digits_from, is_play, number_of, number_or, play_words, where_play, ◌>>=◌}
-use Rattle.cy_words.specs.Program.{serial_name}
+use Rattle.cy_words.specs.Program.{program, serial_name}
 use Rattle.cy_words.specs.Scan.{check_of, check_words, command_of, has_form, has_others, is_check, is_info, is_make, is_pass, options_met, play_of}
 use Rattle.cy_words.specs.Words.{InfoWords, info_of, is_word, longest_word}
 use Rattle.cy_words.proofs.ClapLevel.{Keeps}
@@ -122,6 +124,14 @@ differs : (t : Bool) (w : Option PlayWords) → (if t then None else w) ≡ (if 
 differs true w = refl
 differs false w = refl
 
+pass_asked : (input output trace from to : Text) (rows : List Row) → KeepsPass input output trace from to rows → is_word input ≡ true → is_word output ≡ true → is_word trace ≡ true
+    → is_word from ≡ true → is_word to ≡ true → pass_in rows ≡ pass_of (input ∷ output ∷ trace ∷ from ∷ to ∷ [])
+pass_asked input output trace from to rows k p q r s t =
+    (λ i. (k.input_kept i >>= λ a. k.output_kept i >>= λ b. k.trace_kept i >>= λ c. k.from_kept i >>= λ d. k.to_kept i >>= λ f.
+    if bytes_eq d f then None else where_play (pass_words a b c d f)))
+    ∙ (differs (bytes_eq from to) (where_play (pass_words input output trace from to))
+    ∙ sym (λ i. if p i && q i && r i && s i && t i && not (bytes_eq from to) then where_play (pass_words input output trace from to) else None))
+
 pass_case : (words : List Text) → is_pass words ≡ true → Read (codes "pass") words
 pass_case (input ∷ output ∷ trace ∷ from ∷ to ∷ []) e =
     let p = both _ _ e in
@@ -129,16 +139,11 @@ pass_case (input ∷ output ∷ trace ∷ from ∷ to ∷ []) e =
     let s = both _ _ q.1 in
     let t = both _ _ s.1 in
     let r = pass_read input output trace from to p.0 q.0 s.0 t.0 t.1 in
-    let k = r.2 in
     record {
       rows = r.0;
       reads = r.1;
-      flag = inl k.no_flag;
-      asked = ap (option_map Play)
-          ((λ i. (k.input_kept i >>= λ a. k.output_kept i >>= λ b. k.trace_kept i >>= λ c. k.from_kept i >>= λ d. k.to_kept i >>= λ f.
-          if bytes_eq d f then None else where_play (pass_words a b c d f)))
-          ∙ (differs (bytes_eq from to) (where_play (pass_words input output trace from to))
-          ∙ sym (λ i. if p.0 i && q.0 i && s.0 i && t.0 i && t.1 i && not (bytes_eq from to) then where_play (pass_words input output trace from to) else None)));
+      flag = inl r.2.no_flag;
+      asked = ap (option_map Play) {x = pass_in r.0} (pass_asked input output trace from to r.0 r.2 p.0 q.0 s.0 t.0 t.1);
     }
 pass_case words e = absurd (true≢false (sym e))
 
@@ -284,3 +289,47 @@ not_read name words = each_name (IsUnread words)
     (λ e. ap (option_map Make) (no_make words e))
     (λ name other e. other_chosen name (option_map Play (pass_of words)) (option_map Check (check_of words)) (option_map Info (info_of words)) (option_map Play (play_of words))
     (option_map Make (make_of words)) None other) name
+
+-- ---- the first word and those behind it
+
+take_whole : (words : List (Bor Text)) → take (length words) words ≡ words
+take_whole [] = refl
+take_whole (word ∷ words) = ap (λ (l : List (Bor Text)). word ∷ l) (take_whole words)
+
+abbrev behind : List (Bor Text) → List Text
+behind words = texts (take (length words - 1) (drop 1 words))
+
+behind_first : (word : Bor Text) (words : List (Bor Text)) → behind (word ∷ words) ≡ texts words
+behind_first word words =
+    let less : length (word ∷ words) - 1 ≡ length words = omega arith in
+    ap (λ (n : ℕ). texts (take n words)) less ∙ ap texts (take_whole words)
+
+-- all the words, of which the first one is the name
+pub record ReadAll (words : List Text) (name : Text) : Type 0 where
+  pub rows : List Row
+  pub taken : takes program words ≡ true
+  pub found : option_map (λ p. p.1) (subcommand_of program words) ≡ Some rows
+  pub flag : IsFlag (flag_kept rows)
+  pub asked : asked_in name rows ≡ command_of words
+
+pub all_read : (words : List (Bor Text)) (d : Bor Text) (b : Bool) → 1 ≤ length words → b ≡ has_form (get_or words 0 d).now (behind words) → b ≡ true
+    → ReadAll (texts words) (get_or words 0 d).now
+all_read [] d b lt is e = absurd (omega arith)
+all_read (word ∷ words) d b lt is e =
+    let r = read word.now (texts words) (ap (has_form word.now) (sym (behind_first word words)) ∙ (sym is ∙ e)) in
+    record {
+      rows = r.rows;
+      taken = r.reads.taken;
+      found = ap (option_map (λ (p : Text × List Row). p.1)) r.reads.found;
+      flag = r.flag;
+      asked = r.asked;
+    }
+
+pub none_read : (words : List (Bor Text)) (d : Bor Text) (b : Bool) → 1 ≤ length words → b ≡ has_form (get_or words 0 d).now (behind words) → b ≡ false
+    → None ≡ command_of (texts words)
+none_read [] d b lt is e = absurd (omega arith)
+none_read (word ∷ words) d b lt is e = sym (not_read word.now (texts words) (ap (has_form word.now) (sym (behind_first word words)) ∙ (sym is ∙ e)))
+
+pub then_asked : {words : List Text} {name : Text} (r : ReadAll words name) (rows : List Row) (found : Option Command) → found ≡ asked_in name rows → rows ≡ r.rows
+    → found ≡ command_of words
+then_asked {words} {name} r rows found is same = is ∙ (ap (asked_in name) same ∙ r.asked)
