@@ -1,8 +1,8 @@
 -- The code finds the command that words ask for, and none where they ask for none.
-use Rattle.std.proofs.Common.{◌≡◌, ◌⊎◌, ℕ, List, [], ◌∷◌, Bool, true, false, Option, Some, None, if◌then◌else◌, refl, ap, ◌∙◌, subst, inl, inr}
+use Rattle.std.proofs.Common.{◌≡◌, ◌⊎◌, ℕ, List, [], ◌∷◌, Bool, true, false, Option, Some, None, is_some, if◌then◌else◌, refl, sym, ap, ◌∙◌, subst, inl, inr}
 use Rattle.std.proofs.Common.{codes, option_map, option_and_then, bytes_eq}
 use Rattle.std.proofs.lemmas.Slice.Eq.{bytes_eq-Decides}
-use Rattle.cy_words.specs.Command.{Command, Check, Info, Play, Make, Asks, AsksStill, IsAsked, IsStill}
+use Rattle.cy_words.specs.Command.{Command, Check, Info, Play, Make, AskForOne, Asks, AsksStill, IsAsked, IsOnlyAsked, IsStill}
 use Rattle.cy_words.specs.MakeWords.{make_of}
 use Rattle.cy_words.specs.PassWords.{pass_of}
 use Rattle.cy_words.specs.Scan.{check_of, command_of, play_of, still_command_of, still_one}
@@ -82,9 +82,35 @@ bound : (x : Option Command) (f : Command → Option Command) (c : Command) → 
 bound None f c e = absurd (nothing c e)
 bound (Some a) f c e = (a, refl, e)
 
-pub still_asked_is : (words : List (List ℕ)) (asked : Option Command) → IsAsked (AsksStill words) asked → still_command_of words ≡ asked
-still_asked_is words asked = by_what (AsksStill words) (still_command_of words) asked
-    (λ c h. ap (option_and_then still_one) (found words c h.0) ∙ still_found c h.1)
-    (λ c e. let b = bound (command_of words) still_one c e in
+once : (asks : Command → Type 0) (x : Option Command) → ((c : Command) → asks c → x ≡ Some c) → ((c : Command) → x ≡ Some c → asks c) → IsOnlyAsked asks x
+once asks x one back = (by x refl, λ other h. sym (by_what asks x other one back h))
+  where
+    by : (y : Option Command) → x ≡ y → IsAsked asks y
+    by None e = λ c h. nothing c (sym e ∙ one c h)
+    by (Some c) e = back c e
+
+still_one_found : (words : List (List ℕ)) (c : Command) → AsksStill words c → still_command_of words ≡ Some c
+still_one_found words c h = ap (option_and_then still_one) (found words c h.0) ∙ still_found c h.1
+
+still_asks : (words : List (List ℕ)) (c : Command) → still_command_of words ≡ Some c → AsksStill words c
+still_asks words c e =
+    let b = bound (command_of words) still_one c e in
     let s = still_is b.0 c b.2 in
-    (subst (Asks words) s.0 (asks words b.0 b.1), subst IsStill s.0 s.1))
+    (subst (Asks words) s.0 (asks words b.0 b.1), subst IsStill s.0 s.1)
+
+pub ask_for_one : AskForOne
+ask_for_one words = (
+  (command_of words, once (Asks words) (command_of words) (found words) (asks words)),
+  (still_command_of words, once (AsksStill words) (still_command_of words) (still_one_found words) (still_asks words)),
+)
+
+pub still_asked_is : (words : List (List ℕ)) (asked : Option Command) → IsAsked (AsksStill words) asked → still_command_of words ≡ asked
+still_asked_is words asked = by_what (AsksStill words) (still_command_of words) asked (still_one_found words) (still_asks words)
+
+-- what asks for a command where there are no threads asks for one where there are
+pub still_some : (words : List (List ℕ)) → is_some (still_command_of words) ≡ true → is_some (command_of words) ≡ true
+still_some words e = by (command_of words) e
+  where
+    by : (x : Option Command) → is_some (option_and_then still_one x) ≡ true → is_some x ≡ true
+    by None e = e
+    by (Some c) e = refl

@@ -1,11 +1,11 @@
 -- A command that takes its words, and what it keeps of them.
-use Rattle.std.proofs.Common.{◌≡◌, ◌+◌, ◌==◌, ◌&&◌, ◌||◌, ℕ, List, [], ◌∷◌, ◌++◌, Bool, true, false, not, Option, Some, None, is_some, if◌then◌else◌, cond, refl, sym, ap, ◌∙◌, subst, true≢false}
+use Rattle.std.proofs.Common.{◌≡◌, ◌&&◌, ◌||◌, ℕ, List, [], ◌∷◌, ◌++◌, Bool, true, false, Option, Some, None, is_some, if◌then◌else◌, cond, refl, sym, ap, ◌∙◌, subst}
 use Rattle.std.proofs.Common.{map, codes, option_map, bytes_eq, append-nil}
 use Rattle.std.specs.Prelude.{option_and_then, slice_get}
-use Rattle.std.specs.List.{find, fold, list_all, list_any}
+use Rattle.std.specs.List.{find, fold, list_all}
 use Rattle.std.specs.Option.{option_map_or}
 use Rattle.clap.specs.Lexer.{long_of}
-use Rattle.clap.specs.Walk.{Held, Names, Row, Rule, Text, Walk, after_step, answers_to, arg_by_index, finished, first_of, has_row, idle, more_values, nothing_held, one_of, reading_by, row_text, rows_after, settled, stop_after, with_values, to_positional, value, walk, walk_from, walked, with_default}
+use Rattle.clap.specs.Walk.{Held, Names, Row, Rule, Text, Walk, after_step, answers_to, arg_by_index, finished, first_of, has_row, idle, more_values, nothing_held, one_of, reading_by, row_text, rows_after, stop_after, with_values, to_positional, value, walk, walk_from, walked, with_default}
 use Rattle.clap.specs.Simple.{App, Shape, entered, label_of, names_of}
 use Rattle.clap.specs.Takes.{built_takes, default_passes, entered_passes, flag_word_passes, bundle_passes, is_valid, level_passes, settle_passes, step_passes, turn_passes, walk_passes}
 use Rattle.clap.specs.declared.parser.matches.ValueSource.TheVariants.{DefaultValue}

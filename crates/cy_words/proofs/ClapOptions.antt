@@ -1,19 +1,13 @@
 -- `clap` walks over options, and keeps the value of each.
-use Rattle.std.proofs.Common.{◌≡◌, ◌<◌, ◌+◌, ◌==◌, ◌&&◌, ◌||◌, ◌⊎◌, ℕ, List, [], ◌∷◌, ◌++◌, Bool, true, false, not, Option, Some, None, is_some, if◌then◌else◌, cond, refl, sym, ap, ◌∙◌, subst, inl, inr, true≢false}
-use Rattle.std.proofs.Common.{length, take, drop, flat_map, codes, option_map, option_to_list, bytes_eq, arith, append_assoc, append-nil}
-use Rattle.std.specs.Prelude.{option_and_then}
-use Rattle.std.specs.List.{find, fold, list_any, list_all}
-use Rattle.std.specs.Option.{option_map_or}
-use Rattle.std.proofs.lemmas.Slice.Eq.{bytes_eq-Decides}
-use Rattle.clap.specs.Lexer.{long_of, short_of, long_of_rest, short_of_rest, strip_byte}
-use Rattle.clap.specs.Walk.{Held, Names, Row, Rule, Text, Walk, after_flag, after_step, arg_by_id, arg_by_long, at_row, has_row, idle, long_met, long_or_other, more_values, option, option_word, plain_word, reacted, reading_by, settled, short_or_plain, subcommand_met, subcommand_or_other, next, trailing, used, walk, walk_from, walked, with_values, word_met, Waiting}
-use Rattle.clap.specs.Simple.{Shape, filled}
-use Rattle.clap.specs.Takes.{option_passes, other_passes, react_passes, settle_passes, turn_passes, use_passes, walk_passes, long_passes, flag_word_passes, word_passes}
+use Rattle.std.proofs.Common.{◌≡◌, ◌||◌, List, [], ◌∷◌, ◌++◌, Bool, true, false, Option, Some, None, if◌then◌else◌, cond, refl, sym, ap, ◌∙◌, subst}
+use Rattle.std.proofs.Common.{codes, option_map, bytes_eq, append-nil}
+use Rattle.std.specs.List.{find}
+use Rattle.clap.specs.Walk.{Row, Rule, Text, at_row, has_row, more_values, reading_by, used, with_values}
+use Rattle.clap.specs.Simple.{filled}
 use Rattle.clap.specs.declared.parser.matches.ValueSource.TheVariants.{CommandLine}
-use Rattle.cy_words.specs.Options.{Key, Given, Options, Serial, Apart, Joined, called, no_options, spelled, value_at, Dag, Sched, Input, Output, Trace, Only, Drop, Begin, End}
+use Rattle.cy_words.specs.Options.{Key, Options, called, no_options, value_at, Dag, Sched, Input, Output, Trace, Only, Drop, Begin, End}
 use Rattle.cy_words.specs.Program.{flag_rule, named, option_rule, serial_name}
-use Rattle.cy_words.specs.Words.{is_word}
-use Rattle.cy_words.proofs.OptionsRead.{after, beside_serial, bound, got, none_at, one, put, put_found, put_serial, same_name, serial_found, some_same, nothing}
+use Rattle.cy_words.proofs.OptionsRead.{beside_serial, got, none_at, put, put_serial}
 
 -- ---- what building makes of an option and of `--serial`
 

@@ -1,19 +1,19 @@
 -- `clap` takes the words of each command that have its form, and keeps their values.
-use Rattle.std.proofs.Common.{◌≡◌, ◌+◌, ◌==◌, ◌&&◌, ◌||◌, ℕ, List, [], ◌∷◌, ◌++◌, Bool, true, false, not, Option, Some, None, is_some, if◌then◌else◌, cond, refl, sym, ap, ◌∙◌, subst, true≢false}
-use Rattle.std.proofs.Common.{map, flat_map, codes, option_map, bytes_eq}
+use Rattle.std.proofs.Common.{◌≡◌, ◌&&◌, List, [], ◌∷◌, Bool, true, false, Option, Some, None, is_some, refl, sym, ap, ◌∙◌, subst, true≢false}
+use Rattle.std.proofs.Common.{codes}
 use Rattle.std.specs.Prelude.{option_and_then}
-use Rattle.clap.specs.Walk.{Held, Row, Rule, Text, Walk, finished, first_of, nothing_held, one_of, row_text, rows_after, settled, walk_from, walked, with_default}
+use Rattle.clap.specs.Walk.{Row, Text, finished, first_of, nothing_held, one_of, row_text, rows_after, settled, walk_from, with_default}
 use Rattle.clap.specs.Simple.{App, Shape, built, built_leaf, inherited, is_simple, marked_built, on_top, subcommand_of, with_leaf_noted}
-use Rattle.clap.specs.Takes.{flags_pass, level_passes, takes, walk_passes}
+use Rattle.clap.specs.Takes.{level_passes, takes}
 use Rattle.clap.proofs.OnLiterals.{clap_on_literals}
-use Rattle.cy_words.specs.Options.{Key, Options, no_options, spelled, value_at, Dag, Sched, Input, Output, Trace, Only, Drop, Begin, End}
-use Rattle.cy_words.specs.Program.{check_app, info_app, make_app, named, pass_app, play_app, program, serial_name}
+use Rattle.cy_words.specs.Options.{Key, Options, no_options, value_at, Dag, Sched, Input, Output, Trace, Only, Drop, Begin, End}
+use Rattle.cy_words.specs.Program.{check_app, info_app, make_app, pass_app, play_app, program, serial_name}
 use Rattle.cy_words.specs.Scan.{options_met}
 use Rattle.cy_words.specs.Words.{is_word}
-use Rattle.cy_words.proofs.OptionsRead.{after, options_spelled}
-use Rattle.cy_words.proofs.ClapOptions.{Holds, built_option, built_serial, none_hold}
-use Rattle.cy_words.proofs.ClapWalk.{GoesTo, Has, HasAll, IsPlain, Ready, given_steps, then_goes, word_is_plain}
-use Rattle.cy_words.proofs.ClapLevel.{Enters, IsOpen, Keeps, at_place, defaults_skipped, entered_at, level_rows, level_taken, place_goes, placed, serial_kept, taken_at, values_kept}
+use Rattle.cy_words.proofs.OptionsRead.{options_spelled}
+use Rattle.cy_words.proofs.ClapOptions.{built_serial, none_hold}
+use Rattle.cy_words.proofs.ClapWalk.{GoesTo, Has, HasAll, Ready, given_steps, then_goes, word_is_plain}
+use Rattle.cy_words.proofs.ClapLevel.{Enters, IsOpen, Keeps, defaults_skipped, entered_at, level_rows, level_taken, place_goes, placed, serial_kept, taken_at, values_kept}
 
 -- ---- the program as it is built
 
@@ -95,7 +95,6 @@ play_read words o e =
       serial_kept o kept steps.2.holds,
     )
 
-
 check_has : (dag sched : Option Text) → HasAll (leaf_of check_app).rules (record no_options { dag = dag; sched = sched })
 check_has dag sched = record { options = has; serial = λ e. absurd (true≢false (sym e)) }
   where
@@ -159,7 +158,7 @@ make_read count prefix p q =
     (place_goes s 2 first.held prefix (word_is_plain prefix q) refl) in (
       finished s.rules to.held,
       reads (codes "make") s (count ∷ prefix ∷ []) (finished s.rules to.held) enters_make refl (level_taken s nothing_held (count ∷ prefix ∷ []) to make_open goes refl)
-      (level_rows s (count ∷ prefix ∷ []) to goes),
+          (level_rows s (count ∷ prefix ∷ []) to goes),
       refl,
       refl,
       refl,

@@ -1,19 +1,19 @@
 -- `clap` walks over the options that words spell, and takes them.
-use Rattle.std.proofs.Common.{◌≡◌, ◌<◌, ◌+◌, ◌==◌, ◌&&◌, ◌||◌, ◌⊎◌, ℕ, List, [], ◌∷◌, ◌++◌, Bool, true, false, not, Option, Some, None, is_some, if◌then◌else◌, cond, refl, sym, ap, ◌∙◌, subst, inl, inr, true≢false}
-use Rattle.std.proofs.Common.{length, take, drop, flat_map, codes, option_map, option_to_list, bytes_eq, arith, append_assoc, append-nil}
+use Rattle.std.proofs.Common.{◌≡◌, ◌==◌, ◌&&◌, ◌||◌, ℕ, List, [], ◌∷◌, ◌++◌, Bool, true, false, not, Option, Some, None, is_some, if◌then◌else◌, refl, sym, ap, ◌∙◌, subst, true≢false}
+use Rattle.std.proofs.Common.{length, flat_map, codes, option_map, option_to_list, bytes_eq, append_assoc}
 use Rattle.std.specs.Prelude.{option_and_then}
 use Rattle.std.specs.List.{find, fold, list_any, list_all}
 use Rattle.std.specs.Option.{option_map_or}
 use Rattle.clap.specs.Lexer.{long_of, short_of, long_of_rest, short_of_rest, strip_byte}
-use Rattle.clap.specs.Walk.{Held, Names, Row, Rule, Text, Walk, after_flag, after_step, arg_by_id, arg_by_long, at_row, has_row, idle, long_met, long_or_other, option, option_word, plain_word, reacted, reading_by, settled, short_or_plain, subcommand_met, subcommand_or_other, next, trailing, used, used_by_id, walk, walk_from, walked, with_values, word_met, Waiting, nothing_held}
-use Rattle.clap.specs.Simple.{Shape, filled}
-use Rattle.clap.specs.Takes.{bundle_passes, option_passes, other_passes, react_passes, settle_passes, turn_passes, use_passes, walk_passes, long_passes, flag_word_passes, word_passes, step_passes}
-use Rattle.cy_words.specs.Options.{Key, Given, Options, Serial, Apart, Joined, called, no_options, spelled, value_at, values_of, Dag, Sched, Input, Output, Trace, Only, Drop, Begin, End}
+use Rattle.clap.specs.Walk.{Held, Row, Rule, Text, Walk, after_flag, after_step, arg_by_id, arg_by_long, has_row, idle, long_met, long_or_other, option, option_word, plain_word, reacted, settled, short_or_plain, subcommand_met, subcommand_or_other, next, trailing, used_by_id, walk_from, walked, word_met, Waiting}
+use Rattle.clap.specs.Simple.{Shape}
+use Rattle.clap.specs.Takes.{bundle_passes, settle_passes, turn_passes, use_passes, walk_passes, long_passes, flag_word_passes, step_passes}
+use Rattle.cy_words.specs.Options.{Key, Given, Options, Serial, Apart, Joined, called, spelled, value_at, values_of, Dag, Sched, Input, Output, Trace, Only, Drop, Begin, End}
 use Rattle.cy_words.specs.Scan.{with_serial}
 use Rattle.cy_words.specs.Program.{named, serial_name}
 use Rattle.cy_words.specs.Words.{is_word}
-use Rattle.cy_words.proofs.OptionsRead.{Continues, after, bound, itself, one, one_value, put, put_once, put_found, run, serial_found, serials, some_same}
-use Rattle.cy_words.proofs.ClapOptions.{Holds, serial_found_as, built_option, built_serial, no_row, none_hold, option_used, put_holds, row_with, serial_holds, serial_row, serial_used}
+use Rattle.cy_words.proofs.OptionsRead.{Continues, after, bound, itself, one_value, put, put_once, put_found, run, serial_found, serials, some_same}
+use Rattle.cy_words.proofs.ClapOptions.{Holds, serial_found_as, built_option, built_serial, no_row, option_used, put_holds, row_with, serial_holds, serial_used}
 
 -- ---- one word
 
@@ -231,8 +231,8 @@ apart_steps s o h key v has word none ready =
     ap (λ (a : Option Rule). used_by_id a (v ∷ []) rows) has.by_id ∙ option_used key v rows fresh in (
       has_value key v s.rules h,
       then_goes s (walk_from h) (waits_for key s.rules h) _ (called key ∷ []) (v ∷ [])
-      (one_goes s (walk_from h) _ (called key) (name_met key s.rules h has.by_long) (name_asked key s h has.by_long ready.settles))
-      (one_goes s (waits_for key s.rules h) _ v (value_met key v s.rules h plain has.by_id) (value_asked key v s h plain)),
+          (one_goes s (walk_from h) _ (called key) (name_met key s.rules h has.by_long) (name_asked key s h has.by_long ready.settles))
+          (one_goes s (waits_for key s.rules h) _ v (value_met key v s.rules h plain has.by_id) (value_asked key v s h plain)),
       record {
         holds = subst (Holds (put key (Some v) o)) (sym kept) (put_holds key v o rows none ready.holds);
         settles = ap (λ (a : Option Rule). option_map_or (λ x. use_passes s.args_override_self x (v ∷ []) rows) a true) has.by_id ∙ passes;

@@ -1,13 +1,13 @@
 -- A command that is asked for is in form.
-use Rattle.std.proofs.Common.{◌≡◌, ◌⊎◌, ◌<◌, ◌≤◌, ◌&&◌, ◌||◌, ℕ, List, [], ◌∷◌, Bool, true, false, not, Option, Some, None, if◌then◌else◌, refl, sym, ap, ◌∙◌, subst, inl, inr, true≢false, arith}
-use Rattle.std.proofs.Common.{codes, length, option_map, bytes_eq}
-use Rattle.std.specs.Prelude.{nat_lt, IfSome}
+use Rattle.std.proofs.Common.{◌≡◌, ◌<◌, ◌≤◌, ◌&&◌, ◌||◌, ℕ, List, [], ◌∷◌, Bool, true, false, not, Option, Some, None, is_some, if◌then◌else◌, refl, sym, ap, ◌∙◌, subst, inl, inr, true≢false, arith}
+use Rattle.std.proofs.Common.{option_map, bytes_eq}
+use Rattle.std.specs.Prelude.{nat_lt, IfSome, IsSome}
 use Rattle.clap.specs.Walk.{Text}
 use Rattle.clap.proofs.WalkLemmas.{both}
-use Rattle.cy_replay.specs.Setup.{Components, HasReader}
+use Rattle.cy_replay.specs.Setup.{HasReader}
 use Rattle.cy_words.specs.declared.words.Command as code
 use Rattle.cy_words.specs.declared.words.Command.TheVariants as asked
-use Rattle.cy_words.specs.Command.{Command, Check, Info, Play, Make, Asks}
+use Rattle.cy_words.specs.Command.{Asks}
 use Rattle.cy_words.specs.MakeWords.{MakeWords, count_of, make_of, most_made, where_made}
 use Rattle.cy_words.specs.Options.{Options}
 use Rattle.cy_words.specs.PassWords.{pass_of, pass_words}
@@ -84,3 +84,8 @@ of_asked (name ∷ words) (asked.Make w) e = make_range words (make_words_of w) 
 pub in_form : (words : List Text) (found : Option code.Command) → option_map command_asked found ≡ command_of words → IfSome found IsInForm
 in_form words None e = tt
 in_form words (Some c) e = of_asked words c (asks words (command_asked c) (sym e))
+
+-- a command that is asked for was found
+pub was_found : (found : Option code.Command) (words : List Text) → option_map command_asked found ≡ command_of words → is_some (command_of words) ≡ true → IsSome found
+was_found None words e some = absurd (true≢false (sym some ∙ sym (ap is_some e)))
+was_found (Some c) words e some = refl

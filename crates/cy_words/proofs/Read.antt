@@ -1,26 +1,52 @@
 -- Words that have a form are read as the command that they ask for, and others ask for none.
-use Rattle.std.proofs.Common.{◌≡◌, ◌⊎◌, ◌<◌, ◌≤◌, ◌+◌, ◌==◌, ◌&&◌, ◌||◌, ℕ, List, [], ◌∷◌, Bool, true, false, not, Option, Some, None, is_some, if◌then◌else◌, refl, sym, ap, ap₂, ◌∙◌, subst, inl, inr, true≢false, arith}
-use Rattle.std.proofs.Common.{◌-◌, codes, drop, get_or, length, option_map, bytes_eq, take}
+use Rattle.std.proofs.Common.{◌≡◌, ◌<◌, ◌==◌, ◌&&◌, ℕ, List, [], ◌∷◌, Bool, true, false, not, Option, Some, None, is_some, if◌then◌else◌, refl, sym, ap, ap₂, ◌∙◌, subst, inl, inr, true≢false, arith}
+use Rattle.std.proofs.Common.{codes, get_or, length, option_map, bytes_eq}
 use Rattle.std.specs.Borrow.{Bor}
-use Rattle.std.specs.Prelude.{nat_le, nat_lt, IfSome}
-use Rattle.std.proofs.lemmas.Slice.Eq.{bytes_eq-Decides}
-use Rattle.clap.specs.Walk.{Row, Text, first_of, one_of, texts}
+use Rattle.std.specs.Prelude.{nat_le, nat_lt}
+use Rattle.clap.specs.Walk.{Row, Text, texts}
 use Rattle.clap.specs.Words.{subcommand_of, takes}
 use Rattle.clap.proofs.WalkLemmas.{both}
-use Rattle.cy_replay.specs.Setup.{HasReader}
 use Rattle.cy_words.specs.CheckWords.{CheckWords}
-use Rattle.cy_words.specs.Command.{Command, Check, Info, Play, Make, Asks}
-use Rattle.cy_words.specs.Kept.{IsFlag, asked_in, check_in, flag_kept, info_in, is_set, make_in, options_in, pass_in, play_in}
-use Rattle.cy_words.specs.MakeWords.{MakeWords, count_of, make_of, most_made, where_made}
-use Rattle.cy_words.specs.Options.{Key, Options, no_options, value_at, Dag, Sched, Input, Output, Trace, Only, Drop, Begin, End}
+use Rattle.cy_words.specs.Command.{Command, Check, Info, Play, Make}
+use Rattle.cy_words.specs.Kept.{IsFlag, asked_in, flag_kept, is_set, made_by, options_in, pass_in}
+use Rattle.cy_words.specs.MakeWords.{MakeWords, count_of, make_of, where_made}
+use Rattle.cy_words.specs.Options.{Key, Options, value_at, Dag, Sched, Input, Output, Trace, Only, Drop, Begin, End}
 use Rattle.cy_words.specs.PassWords.{pass_of, pass_words}
-use Rattle.cy_words.specs.PlayWords.{PlayWords, asked_by, digits_from, is_play, number_of, number_or, play_words, where_play, ◌>>=◌}
-use Rattle.cy_words.specs.Program.{program, serial_name}
-use Rattle.cy_words.specs.Scan.{check_of, check_words, command_of, has_form, has_others, is_check, is_info, is_make, is_pass, options_met, play_of}
+use Rattle.cy_words.specs.PlayWords.{PlayWords, asked_by, digits_from, number_of, where_play, ◌>>=◌}
+use Rattle.cy_words.specs.Program.{program}
+use Rattle.cy_words.specs.Scan.{check_of, check_words, command_of, has_others, options_met, play_of}
 use Rattle.cy_words.specs.Words.{InfoWords, info_of, is_word, longest_word}
 use Rattle.cy_words.proofs.ClapLevel.{Keeps}
 use Rattle.cy_words.proofs.ClapProgram.{KeepsPass, Reads, check_read, info_read, make_read, pass_read, play_read}
-use Rattle.cy_words.proofs.OptionsRead.{bound, files_only, mapped, nothing, same_name, same_options, some_same}
+use Rattle.cy_words.proofs.OptionsRead.{files_only, same_name, same_options, some_same}
+
+-- ---- forms
+
+-- Whether the words behind a command's name have its form, whatever their values are.
+abbrev is_check : Option Options → Bool
+is_check None = false
+is_check (Some o) = not (has_others o)
+
+abbrev is_info : List Text → Bool
+is_info (file ∷ []) = is_word file
+is_info words = false
+
+abbrev is_pass : List Text → Bool
+is_pass (input ∷ output ∷ trace ∷ from ∷ to ∷ []) =
+    is_word input && (is_word output && (is_word trace && (is_word from && is_word to)))
+is_pass words = false
+
+abbrev is_make : List Text → Bool
+is_make (count ∷ prefix ∷ []) = is_word count && is_word prefix
+is_make words = false
+
+abbrev has_form : Text → List Text → Bool
+has_form name words =
+    if bytes_eq name (codes "pass") then is_pass words
+    else (if bytes_eq name (codes "check") then is_check (options_met words)
+    else (if bytes_eq name (codes "info") then is_info words
+    else (if bytes_eq name (codes "play") then is_some (options_met words)
+    else (if bytes_eq name (codes "make") then is_make words else false))))
 
 -- ---- by the name of the command
 
@@ -103,10 +129,6 @@ info_case (file ∷ []) e =
     }
 info_case words e = absurd (true≢false (sym e))
 
-made : (x : Option ℕ) (prefix : Text) → (x >>= λ count. Some (made_words count prefix)) ≡ option_map (λ n. made_words n prefix) x
-made None prefix = refl
-made (Some n) prefix = refl
-
 make_case : (words : List Text) → is_make words ≡ true → Read (codes "make") words
 make_case (count ∷ prefix ∷ []) e =
     let p = both _ _ e in
@@ -115,8 +137,8 @@ make_case (count ∷ prefix ∷ []) e =
       rows = r.0;
       reads = r.1;
       flag = inl r.4;
-      asked = ap (option_map Make) (ap₂ (λ (x y : Option Text). x >>= λ text. y >>= λ prefix. count_of text >>= λ count. Some (made_words count prefix)) r.2 r.3
-          ∙ (made (count_of count) prefix ∙ sym (chosen_if (is_word prefix) (option_map (λ n. made_words n prefix) (count_of count)) None p.1)));
+      asked = ap (option_map Make) (ap₂ (λ (x y : Option Text). x >>= λ text. y >>= λ prefix. made_by text prefix) r.2 r.3
+          ∙ sym (chosen_if (is_word prefix) (made_by count prefix) None p.1));
     }
 make_case words e = absurd (true≢false (sym e))
 
@@ -290,46 +312,45 @@ not_read name words = each_name (IsUnread words)
     (λ name other e. other_chosen name (option_map Play (pass_of words)) (option_map Check (check_of words)) (option_map Info (info_of words)) (option_map Play (play_of words))
     (option_map Make (make_of words)) None other) name
 
--- ---- the first word and those behind it
+-- ---- all the words, of which the first one is the name
 
-take_whole : (words : List (Bor Text)) → take (length words) words ≡ words
-take_whole [] = refl
-take_whole (word ∷ words) = ap (λ (l : List (Bor Text)). word ∷ l) (take_whole words)
-
-abbrev behind : List (Bor Text) → List Text
-behind words = texts (take (length words - 1) (drop 1 words))
-
-behind_first : (word : Bor Text) (words : List (Bor Text)) → behind (word ∷ words) ≡ texts words
-behind_first word words =
-    let less : length (word ∷ words) - 1 ≡ length words = omega arith in
-    ap (λ (n : ℕ). texts (take n words)) less ∙ ap texts (take_whole words)
-
--- all the words, of which the first one is the name
-pub record ReadAll (words : List Text) (name : Text) : Type 0 where
+-- words that ask for a command are taken, and what is kept of them asks for it
+pub record ReadAll (words : List (Bor Text)) : Type 0 where
   pub rows : List Row
-  pub taken : takes program words ≡ true
-  pub found : option_map (λ p. p.1) (subcommand_of program words) ≡ Some rows
+  pub taken : takes program (texts words) ≡ true
+  pub named : is_some (subcommand_of program (texts words)) ≡ true
+  pub found : option_map (λ p. p.1) (subcommand_of program (texts words)) ≡ Some rows
   pub flag : IsFlag (flag_kept rows)
-  pub asked : asked_in name rows ≡ command_of words
+  pub asked : (name : Bor Text) → name ≡ get_or words 0 name → asked_in name.now rows ≡ command_of (texts words)
 
-pub all_read : (words : List (Bor Text)) (d : Bor Text) (b : Bool) → 1 ≤ length words → b ≡ has_form (get_or words 0 d).now (behind words) → b ≡ true
-    → ReadAll (texts words) (get_or words 0 d).now
-all_read [] d b lt is e = absurd (omega arith)
-all_read (word ∷ words) d b lt is e =
-    let r = read word.now (texts words) (ap (has_form word.now) (sym (behind_first word words)) ∙ (sym is ∙ e)) in
+formed : (name : Text) (words : List Text) → is_some (command_of (name ∷ words)) ≡ true → has_form name words ≡ true
+formed name words e = by (has_form name words) refl
+  where
+    by : (t : Bool) → has_form name words ≡ t → t ≡ true
+    by true is = refl
+    by false is = absurd (true≢false (sym e ∙ ap is_some (not_read name words is)))
+
+pub all_read : (words : List (Bor Text)) → is_some (command_of (texts words)) ≡ true → ReadAll words
+all_read [] e = absurd (true≢false (sym e))
+all_read (word ∷ words) e =
+    let r = read word.now (texts words) (formed word.now (texts words) e) in
     record {
       rows = r.rows;
       taken = r.reads.taken;
+      named = ap is_some r.reads.found;
       found = ap (option_map (λ (p : Text × List Row). p.1)) r.reads.found;
       flag = r.flag;
-      asked = r.asked;
+      asked = λ name is. ap (λ (n : Bor Text). asked_in n.now r.rows) is ∙ r.asked;
     }
 
-pub none_read : (words : List (Bor Text)) (d : Bor Text) (b : Bool) → 1 ≤ length words → b ≡ has_form (get_or words 0 d).now (behind words) → b ≡ false
-    → None ≡ command_of (texts words)
-none_read [] d b lt is e = absurd (omega arith)
-none_read (word ∷ words) d b lt is e = sym (not_read word.now (texts words) (ap (has_form word.now) (sym (behind_first word words)) ∙ (sym is ∙ e)))
+pub some_words : (words : List (Bor Text)) → is_some (command_of (texts words)) ≡ true → 0 < length words
+some_words [] e = absurd (true≢false (sym e))
+some_words (word ∷ words) e = omega arith
 
-pub then_asked : {words : List Text} {name : Text} (r : ReadAll words name) (rows : List Row) (found : Option Command) → found ≡ asked_in name rows → rows ≡ r.rows
-    → found ≡ command_of words
-then_asked {words} {name} r rows found is same = is ∙ (ap (asked_in name) same ∙ r.asked)
+pub then_asked : (words : List (Bor Text)) (r : ReadAll words) (name : Bor Text) (rows : List Row) (found : Option Command) → name ≡ get_or words 0 name
+    → found ≡ asked_in name.now rows → rows ≡ r.rows → found ≡ command_of (texts words)
+then_asked words r name rows found first is same = is ∙ (ap (asked_in name.now) same ∙ r.asked name first)
+
+pub same_kept : (words slice : List (Bor Text)) (r : ReadAll words) (rows : List Row) → slice ≡ words → Some rows ≡ option_map (λ p. p.1) (subcommand_of program (texts slice)) → rows ≡ r.rows
+same_kept words slice r rows same is =
+    some_same rows r.rows (is ∙ (ap (λ (l : List (Bor Text)). option_map (λ (p : Text × List Row). p.1) (subcommand_of program (texts l))) same ∙ r.found))

@@ -34,3 +34,13 @@ AsksStill words c = Asks words c × IsStill c
 abbrev pub IsAsked : (Command → Type 0) → Option Command → Type 0
 IsAsked asks None = (c : Command) → asks c → ⊥
 IsAsked asks (Some c) = asks c
+
+-- Any words ask for one thing and no other, with threads and without.
+abbrev pub IsOnlyAsked : (Command → Type 0) → Option Command → Type 0
+IsOnlyAsked asks asked =
+    IsAsked asks asked × ((other : Option Command) → IsAsked asks other → other ≡ asked)
+
+abbrev pub AskForOne : Type 0
+AskForOne = (words : List (List ℕ))
+    → ((asked : Option Command) × IsOnlyAsked (Asks words) asked)
+    × ((asked : Option Command) × IsOnlyAsked (AsksStill words) asked)

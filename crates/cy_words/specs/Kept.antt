@@ -11,6 +11,14 @@ use Rattle.cy_words.specs.PassWords.{pass_words}
 use Rattle.cy_words.specs.PlayWords.{PlayWords, asked_by, where_play, ◌>>=◌}
 use Rattle.cy_words.specs.Words.{InfoWords}
 
+-- What five names ask for behind `pass`, and a number and a prefix behind `make`.
+abbrev pub passed_by : (input output trace from to : List ℕ) → Option PlayWords
+passed_by input output trace from to =
+    if bytes_eq from to then None else where_play (pass_words input output trace from to)
+
+abbrev pub made_by : (count prefix : List ℕ) → Option MakeWords
+made_by count prefix = option_map (λ n. record { count = n; prefix = prefix }) (count_of count)
+
 -- A flag is kept as a text.
 abbrev pub IsFlag : Option (List ℕ) → Type 0
 IsFlag kept = (kept ≡ None) ⊎ ((kept ≡ Some (codes "true")) ⊎ (kept ≡ Some (codes "false")))
@@ -56,14 +64,13 @@ pass_in rows = do
   trace ← first_of (codes "trace") rows
   from ← first_of (codes "from") rows
   to ← first_of (codes "to") rows
-  if bytes_eq from to then None else where_play (pass_words input output trace from to)
+  passed_by input output trace from to
 
 abbrev pub make_in : List Row → Option MakeWords
 make_in rows = do
   text ← first_of (codes "count") rows
   prefix ← first_of (codes "prefix") rows
-  count ← count_of text
-  Some record { count = count; prefix = prefix }
+  made_by text prefix
 
 -- What they ask for, by the name of the command.
 abbrev pub asked_in : List ℕ → List Row → Option Command

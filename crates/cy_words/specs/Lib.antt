@@ -1,3 +1,4 @@
+pub mod Asking
 pub mod CheckWords
 pub mod Command
 pub mod Kept

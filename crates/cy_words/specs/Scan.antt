@@ -1,5 +1,5 @@
 -- How the code reads words: options one after another, and then the command that they ask for.
-use Rattle.std.specs.Prelude.{ℕ, ◌+◌, ◌==◌, ◌&&◌, ◌||◌, not, Bool, true, false, if◌then◌else◌, List, [], ◌∷◌}
+use Rattle.std.specs.Prelude.{ℕ, ◌+◌, ◌==◌, ◌||◌, Bool, true, if◌then◌else◌, List, [], ◌∷◌}
 use Rattle.std.specs.Prelude.{take, drop, codes, Option, Some, None, is_some, option_and_then}
 use Rattle.std.specs.List.{position}
 use Rattle.std.specs.Option.{option_map}
@@ -105,32 +105,6 @@ command_of (name ∷ words) =
     else (if bytes_eq name (codes "info") then option_map Info (info_of words)
     else (if bytes_eq name (codes "play") then option_map Play (play_of words)
     else (if bytes_eq name (codes "make") then option_map Make (make_of words) else None))))
-
--- Whether the words behind a command's name have its form, whatever their values are.
-abbrev pub is_check : Option Options → Bool
-is_check None = false
-is_check (Some o) = not (has_others o)
-
-abbrev pub is_info : List (List ℕ) → Bool
-is_info (file ∷ []) = is_word file
-is_info words = false
-
-abbrev pub is_pass : List (List ℕ) → Bool
-is_pass (input ∷ output ∷ trace ∷ from ∷ to ∷ []) =
-    is_word input && (is_word output && (is_word trace && (is_word from && is_word to)))
-is_pass words = false
-
-abbrev pub is_make : List (List ℕ) → Bool
-is_make (count ∷ prefix ∷ []) = is_word count && is_word prefix
-is_make words = false
-
-abbrev pub has_form : List ℕ → List (List ℕ) → Bool
-has_form name words =
-    if bytes_eq name (codes "pass") then is_pass words
-    else (if bytes_eq name (codes "check") then is_check (options_met words)
-    else (if bytes_eq name (codes "info") then is_info words
-    else (if bytes_eq name (codes "play") then is_some (options_met words)
-    else (if bytes_eq name (codes "make") then is_make words else false))))
 
 -- What they ask for where there are no threads: a `play` is then serial.
 abbrev pub still_one : Command → Option Command

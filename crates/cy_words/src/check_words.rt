@@ -1,15 +1,15 @@
 // The words of `check`.
 ghost use Rattle.std.specs.Prelude.{◌≡◌, is_some, option_map};
-ghost use Rattle.cy_words.specs.PlayViews.{options_of};
-ghost use Rattle.clap.specs.Walk.{texts};
 ghost use Rattle.clap.specs.Words.{found_of, rows_of};
 ghost use Rattle.cy_words.specs.Kept.{check_in};
-ghost use Rattle.cy_words.specs.Scan.{has_others, is_check, options_met};
+ghost use Rattle.cy_words.specs.PlayViews.{options_of};
+ghost use Rattle.cy_words.specs.Scan.{has_others, check_words, check_of};
 ghost use Rattle.cy_words.specs.Views.{check_words_of};
 
-use crate::options::{Options, options_met};
 use crate::matches::value_of;
+use crate::options::{Options, options_met};
 use clap::ArgMatches;
+use cy_msg::Text;
 
 /// The words of `check`: names of files.
 #[derive(Clone, Copy)]
@@ -44,20 +44,31 @@ impl<'a> Options<'a> {
             || is_given(self.end)
             || self.serial
     }
-}
 
-// Whether words are options that `check` has.
-pub(crate) fn is_check(words: &[&str]) -> bool
-    ensures { result ≡ is_check (options_met (texts words.now)) }
-{
-    match options_met(words) {
-        Some(options) => !options.has_others(),
-        None => false,
+    // The words of a check.
+    fn check(self) -> Option<Check<'a>>
+        ensures { option_map check_words_of result ≡ check_words (options_of self.entry) }
+    {
+        if self.has_others() {
+            return None;
+        }
+        let dag = self.dag?;
+        Some(Check {
+            dag,
+            sched: self.sched,
+        })
     }
 }
 
+/// What the words behind `check` ask for; None where they are not of its form.
+pub(crate) fn check_words<'a>(words: &'a [Text]) -> Option<Check<'a>>
+    ensures { option_map check_words_of result ≡ check_of words.now }
+{
+    options_met(words)?.check()
+}
+
 impl<'a> Check<'a> {
-    // What the values that are kept ask for.
+    // What the values ask for that `clap` keeps.
     pub(crate) fn of(matches: &ArgMatches<'a>) -> Option<Self>
         ensures { option_map check_words_of result ≡ check_in (rows_of (found_of matches.now)) }
     {

@@ -5,7 +5,9 @@
 #![tactic(auto)]
 
 mod check_words;
+mod command_words;
 mod error;
+mod laws;
 mod make_words;
 mod matches;
 mod options;
@@ -15,7 +17,9 @@ mod program;
 mod words;
 
 pub use check_words::Check;
+pub use command_words::CommandWords;
 pub use error::WordsError;
+pub use laws::words_ask_for_one;
 pub use make_words::Make;
 pub use play_words::Play;
-pub use words::{Command, Info, command_of, still_command_of};
+pub use words::{Command, Info};

@@ -1,16 +1,15 @@
 // The words of `make`.
 ghost use Rattle.std.specs.Prelude.{◌≡◌, option_map};
-ghost use Rattle.clap.specs.Walk.{texts};
 ghost use Rattle.clap.specs.Words.{found_of, rows_of};
-ghost use Rattle.cy_words.specs.Kept.{make_in};
-ghost use Rattle.cy_words.specs.MakeWords.{count_of};
-ghost use Rattle.cy_words.specs.Scan.{is_make};
+ghost use Rattle.cy_words.specs.Kept.{made_by, make_in};
+ghost use Rattle.cy_words.specs.MakeWords.{count_of, make_of};
 ghost use Rattle.cy_words.specs.Views.{make_words_of};
 
 use crate::matches::value_of;
 use crate::play_words::number_of;
 use crate::words::names_something;
 use clap::ArgMatches;
+use cy_msg::Text;
 
 /// The most messages of a record that is made.
 const MOST_MADE: u64 = 1_048_576;
@@ -36,26 +35,38 @@ fn count_of(text: &str) -> Option<u32>
     }
 }
 
-// Whether words have the form of those of `make`.
-pub(crate) fn is_make(words: &[&str]) -> bool
-    ensures { result ≡ is_make (texts words.now) }
-{
-    let [count, prefix] = words else {
-        return false;
-    };
-    names_something(count) && names_something(prefix)
-}
-
 impl<'a> Make<'a> {
-    // What the values that are kept ask for.
+    // What a number and a prefix ask for.
+    fn with(count: &str, prefix: &'a str) -> Option<Self>
+        ensures { option_map make_words_of result ≡ made_by count.now prefix.now }
+    {
+        Some(Make {
+            count: count_of(count)?,
+            prefix,
+        })
+    }
+
+    // What the values ask for that `clap` keeps.
     pub(crate) fn of(matches: &ArgMatches<'a>) -> Option<Self>
         ensures { option_map make_words_of result ≡ make_in (rows_of (found_of matches.now)) }
     {
         let count = value_of(matches, "count")?;
         let prefix = value_of(matches, "prefix")?;
-        Some(Make {
-            count: count_of(count)?,
-            prefix,
-        })
+        Make::with(count, prefix)
+    }
+}
+
+/// What the words behind `make` ask for; None where they are not of its form.
+pub(crate) fn make_words<'a>(words: &'a [Text]) -> Option<Make<'a>>
+    ensures { option_map make_words_of result ≡ make_of words.now }
+{
+    let [count, prefix] = words else {
+        return None;
+    };
+    let prefix = prefix.as_str();
+    if names_something(prefix) {
+        Make::with(count.as_str(), prefix)
+    } else {
+        None
     }
 }

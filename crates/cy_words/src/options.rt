@@ -1,6 +1,5 @@
 // Words that are options.
 ghost use Rattle.std.specs.Prelude.{◌≡◌, None, option_map};
-ghost use Rattle.clap.specs.Walk.{texts};
 ghost use Rattle.clap.specs.Words.{found_of, rows_of};
 ghost use Rattle.cy_words.specs.Kept.{IsFlag, flag_kept, options_in};
 ghost use Rattle.cy_words.specs.Options.{no_options};
@@ -11,6 +10,7 @@ ghost use Rattle.cy_words.specs.Scan.{word_met, words_met, options_met};
 use crate::matches::{is_given, value_of};
 use crate::words::names_something;
 use clap::ArgMatches;
+use cy_msg::Text;
 
 /// The options that are given: their values, and whether `--serial` is.
 #[derive(Clone, Copy)]
@@ -179,8 +179,8 @@ fn word_met<'a>(word: &'a str, before: Reading<'a>) -> Option<Reading<'a>>
 }
 
 // The options that words give, and the name whose value would follow.
-fn words_met<'a>(words: &[&'a str]) -> Option<Reading<'a>>
-    ensures { option_map reading_of result ≡ words_met (texts words.now)
+fn words_met<'a>(words: &'a [Text]) -> Option<Reading<'a>>
+    ensures { option_map reading_of result ≡ words_met words.now
         (record { options = no_options; pending = None }) }
 {
     let mut reading = Reading {
@@ -188,14 +188,14 @@ fn words_met<'a>(words: &[&'a str]) -> Option<Reading<'a>>
         pending: None,
     };
     for word in words {
-        reading = word_met(word, reading)?;
+        reading = word_met(word.as_str(), reading)?;
     }
     Some(reading)
 }
 
 /// The options that the words are; None where they are no options.
-pub(crate) fn options_met<'a>(words: &[&'a str]) -> Option<Options<'a>>
-    ensures { option_map options_of result ≡ options_met (texts words.now) }
+pub(crate) fn options_met<'a>(words: &'a [Text]) -> Option<Options<'a>>
+    ensures { option_map options_of result ≡ options_met words.now }
 {
     let reading = words_met(words)?;
     if reading.pending.is_some() {

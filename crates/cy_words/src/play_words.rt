@@ -7,9 +7,11 @@ ghost use Rattle.cy_words.specs.PlayWords.{with_digit, number_of, number_or, is_
 ghost use Rattle.cy_words.specs.PlayWords.{is_list_or_none, is_no_config, is_other, is_play};
 ghost use Rattle.cy_words.specs.PlayWords.{where_play, play_words, asked_by};
 ghost use Rattle.cy_words.specs.PlayViews.{play_words_of, options_of};
+ghost use Rattle.cy_words.specs.Scan.{play_of};
 
-use crate::options::Options;
+use crate::options::{Options, options_met};
 use clap::ArgMatches;
+use cy_msg::Text;
 use cy_replay::Components;
 
 /// What is asked of a play: its components, names of files, and which messages are let through.
@@ -168,11 +170,18 @@ impl<'a> Options<'a> {
 }
 
 impl<'a> Play<'a> {
-    // What the values that are kept ask for behind `play`.
+    // What the values ask for that `clap` keeps behind `play`.
     pub(crate) fn of(matches: &ArgMatches<'a>) -> Option<Self>
         requires { IsFlag (flag_kept (rows_of (found_of matches.now))) }
         ensures { option_map play_words_of result ≡ play_in (rows_of (found_of matches.now)) }
     {
         Options::of(matches).asked()
     }
+}
+
+/// What the words behind `play` ask for; None where they are not of its form.
+pub(crate) fn play_words<'a>(words: &'a [Text]) -> Option<Play<'a>>
+    ensures { option_map play_words_of result ≡ play_of words.now }
+{
+    options_met(words)?.asked()
 }

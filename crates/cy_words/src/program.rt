@@ -1,5 +1,5 @@
 // How the program's commands are told to `clap`.
-ghost use Rattle.std.specs.Prelude.{◌≡◌, true, IfOk, fold, map, option_map};
+ghost use Rattle.std.specs.Prelude.{◌≡◌, Some, true, is_some, IfOk, fold, map, option_map};
 ghost use Rattle.clap.specs.Words.{app_of, found_of, new_rule, rows_of};
 ghost use Rattle.clap.specs.declared.builder.command.Command.TheViews.{out-Command};
 ghost use Rattle.clap.specs.Words.{subcommand_of, takes, with_rule};
@@ -13,12 +13,12 @@ use std::alloc::{AllocError, Global};
 
 // The options with a value: those of `check`, and the others that `play` has too.
 const FILES: [&str; 2] = ["dag", "sched"];
-const OTHERS: [&str; 7] = [
-    "record", "out", "trace", "channels", "drop", "begin", "end",
-];
+
+const OTHERS: [&str; 7] = ["record", "out", "trace", "channels", "drop", "begin", "end"];
 
 // The words of `pass` and of `make`, in their order.
 const PASSED: [&str; 5] = ["record", "out", "trace", "from", "to"];
+
 const MADE: [&str; 2] = ["count", "prefix"];
 
 // A command with further options that have a value.
@@ -106,19 +106,20 @@ fn program<'a>(alloc: Global) -> Result<Command<'a>, AllocError>
 }
 
 /// The matches of the command that the words name, which `clap` takes.
-pub(crate) fn matches_of<'a>(
+pub(crate) fn matches_of<'w, 'a>(
     alloc: Global,
-    words: &'a [&'a str],
-) -> Result<Option<ArgMatches<'a>>, WordsError>
-    requires { takes program (texts words.now) ≡ true }
-    ensures { IfOk result (λ found. option_map (λ m. rows_of (found_of m)) found
+    words: &'w [&'a str],
+) -> Result<ArgMatches<'w>, WordsError>
+    requires taken { takes program (texts words.now) ≡ true }
+    requires named { is_some (subcommand_of program (texts words.now)) ≡ true }
+    ensures { IfOk result (λ found. Some (rows_of (found_of found))
         ≡ option_map (λ p. p.1) (subcommand_of program (texts words.now))) }
 {
     match program(alloc)?.try_get_matches_from(words) {
-        Ok(mut matches) => match matches.remove_subcommand() {
-            Some((_, found)) => Ok(Some(found)),
-            None => Ok(None),
-        },
+        Ok(mut matches) => {
+            let (_, found) = matches.remove_subcommand().unwrap();
+            Ok(found)
+        }
         Err(error) => Err(WordsError::of_taken(error)),
     }
 }

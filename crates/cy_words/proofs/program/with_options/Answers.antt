@@ -1,4 +1,4 @@
-use Rattle.std.proofs.Common.{◌≡◌, ◌∙◌, ◌||◌, Bool, List, Some, sym, ap, ℕ}
+use Rattle.std.proofs.Common.{◌∙◌, ◌||◌, Bool, List, Some, sym, ap, ℕ}
 use Rattle.std.specs.Borrow.{Bor}
 use Rattle.clap.specs.Words.{Rule, app_of, rule_of}
 use Rattle.clap.specs.declared.builder.arg.Arg.{Arg}

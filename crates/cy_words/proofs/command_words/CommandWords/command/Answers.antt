@@ -1,0 +1,48 @@
+use Rattle.std.proofs.Common.{◌≡◌, ◌∙◌, List, Some, true, is_some, option_map, ap, subst, sym}
+use Rattle.std.specs.Borrow.{Bor}
+use Rattle.clap.specs.Walk.{Row, texts}
+use Rattle.clap.specs.Words.{Text, found_of, rows_of, subcommand_of, takes}
+use Rattle.cy_words.specs.Kept.{IsFlag, flag_kept}
+use Rattle.cy_words.specs.Program.{program}
+use Rattle.cy_words.specs.Scan.{command_of}
+use Rattle.cy_words.specs.Views.{command_asked}
+use Rattle.cy_words.proofs.InForm.{in_form, was_found}
+use Rattle.cy_words.proofs.Read.{all_read, same_kept, then_asked}
+use Rattle.cy_words.proofs.command_words.CommandWords.command.Goals as goal
+
+pub matches_of-requires-clause-taken : goal.matches_of-requires-clause-taken
+matches_of-requires-clause-taken c =
+    subst (λ (l : List (Bor Text)). takes program (texts l) ≡ true) (sym c.as_slice.ensures.value) (all_read c.self.inside.words.items c.self.inside.asks).taken
+
+pub matches_of-requires-clause-named : goal.matches_of-requires-clause-named
+matches_of-requires-clause-named c =
+    subst (λ (l : List (Bor Text)). is_some (subcommand_of program (texts l)) ≡ true) (sym c.as_slice.ensures.value) (all_read c.self.inside.words.items c.self.inside.asks).named
+
+pub of-requires : goal.of-requires
+of-requires c =
+    let r = all_read c.self.inside.words.items c.self.inside.asks in
+    let kept = same_kept c.self.inside.words.items c.as_slice.result.now r (rows_of (found_of c.in_ok-found.found)) c.as_slice.ensures.value c.in_ok-found.ensures in
+    subst (λ (rows : List Row). IsFlag (flag_kept rows)) (sym kept) r.flag
+
+found_is : (c : goal.After-of) → option_map command_asked c.of.result ≡ command_of (texts c.self.inside.words.items)
+found_is c =
+    let r = all_read c.self.inside.words.items c.self.inside.asks in
+    let kept = same_kept c.self.inside.words.items c.as_slice.result.now r (rows_of (found_of c.in_ok-found.found)) c.as_slice.ensures.value c.in_ok-found.ensures in
+    then_asked c.self.inside.words.items r c.index.result.now (rows_of (found_of c.in_ok-found.found)) (option_map command_asked c.of.result) c.index.ensures c.of.ensures kept
+
+pub unwrap-requires : goal.unwrap-requires
+unwrap-requires c = was_found c.of.result (texts c.self.inside.words.items) (found_is c) c.self.inside.asks
+
+pub returns-clause-asked : goal.returns-clause-asked
+returns-clause-asked c =
+    let r = all_read c.self.inside.words.items c.self.inside.asks in
+    let kept = same_kept c.self.inside.words.items c.as_slice.result.now r (rows_of (found_of c.in_ok-found.found)) c.as_slice.ensures.value c.in_ok-found.ensures in
+    let is = then_asked c.self.inside.words.items r c.index.result.now (rows_of (found_of c.in_ok-found.found)) (option_map command_asked c.of.result) c.index.ensures c.of.ensures kept in
+    ap command_of (sym c.self.view_is) ∙ (sym is ∙ ap (option_map command_asked) c.unwrap.ensures)
+
+pub returns-clause-form : goal.returns-clause-form
+returns-clause-form c =
+    let r = all_read c.self.inside.words.items c.self.inside.asks in
+    let kept = same_kept c.self.inside.words.items c.as_slice.result.now r (rows_of (found_of c.in_ok-found.found)) c.as_slice.ensures.value c.in_ok-found.ensures in
+    let is = then_asked c.self.inside.words.items r c.index.result.now (rows_of (found_of c.in_ok-found.found)) (option_map command_asked c.of.result) c.index.ensures c.of.ensures kept in
+    in_form (texts c.self.inside.words.items) (Some c.unwrap.result) (sym (ap (option_map command_asked) c.unwrap.ensures) ∙ is)
