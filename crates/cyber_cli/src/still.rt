@@ -1,6 +1,7 @@
 // The top calls.
-ghost use Rattle.std.specs.Prelude.{◌≡◌, ◌≢◌, Option};
+ghost use Rattle.std.specs.Prelude.{ℕ, ◌≡◌, ◌≢◌, List, Option};
 ghost use Rattle.cyber_cli.specs.Line.{bytes_of_line};
+ghost use Rattle.cy_words.specs.Asking.{IsReadAs};
 ghost use Rattle.cy_words.specs.Command as asked;
 ghost use Rattle.cy_words.specs.Command.{Asks, AsksStill, IsAsked};
 ghost use Rattle.cy_words.specs.Scan.{command_of, still_command_of};
@@ -10,14 +11,14 @@ ghost use Rattle.cy_words.specs.Views.{command_asked, IsInForm};
 ghost use Rattle.cy_store.specs.Store.{SinkView};
 
 use crate::commands::{run_check, run_info, run_make, run_play, run_play_with_threads};
-use crate::due::Due;
+use crate::due::{Due, out_of_memory};
 use crate::fault_text::{OUTPUT_LINE, USAGE_LINE};
 use crate::line::{Line, write_line};
 use crate::status::Status;
-use cy_words::{Command, command_of, still_command_of};
 use cy_msg::Text;
 use cy_run::Gate;
 use cy_store::{Sink, SinkError, Store};
+use cy_words::{Command, CommandWords, WordsError};
 use std::alloc::Global;
 use std::sync::Wait;
 use std::thread::Threads;
@@ -47,14 +48,24 @@ fn misused<'a>() -> Due<'a>
     }
 }
 
-// Does what the words ask for where there are no threads, and says which status is due.
-fn due_of<'a, S: Store>(alloc: Global, words: &'a [Text], store: &mut S) -> Due<'a>
-    ensures { IsDue (still_command_of words.now) (S.shows store.old) (S.shows store.new)
-        result.status (bytes_of_line result.line) }
+// Does what words that were read ask for, on this thread, and says which status is due. Where they
+// were read for a world without threads, a play is serial.
+fn due_of<'s, S: Store>(
+    alloc: Global,
+    read: &'s Result<Option<CommandWords<'_>>, WordsError>,
+    store: &mut S,
+) -> Due<'s>
+    ensures { (words : List (List ℕ)) → IsReadAs (still_command_of words) words read.now
+        → IsDue (still_command_of words) (S.shows store.old) (S.shows store.new) result.status
+        (bytes_of_line result.line) }
 {
-    match still_command_of(words) {
-        Some(command) => due_for(alloc, &command, store),
-        None => misused(),
+    match read {
+        Ok(Some(words)) => match words.command(alloc) {
+            Ok(command) => due_for(alloc, &command, store),
+            Err(WordsError::Memory) => out_of_memory(),
+        },
+        Ok(None) => misused(),
+        Err(WordsError::Memory) => out_of_memory(),
     }
 }
 
@@ -76,20 +87,25 @@ fn due_with<'a, S: Store, G: Gate, R: Threads + Wait + Sync>(
     }
 }
 
-// Does what the words ask for with threads, and says which status is due.
-fn due_with_threads<'a, S: Store, G: Gate, R: Threads + Wait + Sync>(
+// Does what words that were read ask for, with threads, and says which status is due.
+fn due_with_threads<'s, S: Store, G: Gate, R: Threads + Wait + Sync>(
     rt: &R,
     alloc: Global,
-    words: &'a [Text],
+    read: &'s Result<Option<CommandWords<'_>>, WordsError>,
     store: &mut S,
     gate: &G,
-) -> Due<'a>
-    ensures { IsDue (command_of words.now) (S.shows store.old) (S.shows store.new) result.status
+) -> Due<'s>
+    ensures { (words : List (List ℕ)) → IsReadAs (command_of words) words read.now
+        → IsDue (command_of words) (S.shows store.old) (S.shows store.new) result.status
         (bytes_of_line result.line) }
 {
-    match command_of(words) {
-        Some(command) => due_with(rt, alloc, &command, store, gate),
-        None => misused(),
+    match read {
+        Ok(Some(words)) => match words.command(alloc) {
+            Ok(command) => due_with(rt, alloc, &command, store, gate),
+            Err(WordsError::Memory) => out_of_memory(),
+        },
+        Ok(None) => misused(),
+        Err(WordsError::Memory) => out_of_memory(),
     }
 }
 
@@ -186,7 +202,8 @@ pub fn cyber<S: Store, O: Sink, E: Sink, G: Gate, R: Threads + Wait + Sync>(
           err = E.shows err.old;
         } record { out = O.shows out.new; err = E.shows err.new } result }
 {
-    let due = due_with_threads(rt, alloc, words, store, gate);
+    let read = CommandWords::asking(alloc, words);
+    let due = due_with_threads(rt, alloc, &read, store, gate);
     tell(&due, out, err)
 }
 
@@ -210,6 +227,7 @@ pub fn cyber_still<S: Store, O: Sink, E: Sink>(
           err = E.shows err.old;
         } record { out = O.shows out.new; err = E.shows err.new } result }
 {
-    let due = due_of(alloc, words, store);
+    let read = CommandWords::asking_still(alloc, words);
+    let due = due_of(alloc, &read, store);
     tell(&due, out, err)
 }

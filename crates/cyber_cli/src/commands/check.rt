@@ -11,7 +11,6 @@ ghost use Rattle.cyber_cli.specs.Line.{bytes_of_line};
 ghost use Rattle.cyber_cli.specs.CheckEnds.{IsDueUnset, IsTextOf};
 ghost use Rattle.cy_words.specs.Views.{check_words_of};
 
-use cy_words::Check;
 use crate::config_text::{fault_status, refusal_line, store_line};
 use crate::due::{Due, out_of_memory};
 use crate::line::Line;
@@ -21,6 +20,7 @@ use cy_msg::{Bytes, Text};
 use cy_replay::{Configuration, SetupError, place_components, read_configuration, wire_components};
 use cy_sched::Sched;
 use cy_store::Store;
+use cy_words::Check;
 use std::alloc::Global;
 
 /// What is due where the files are not accepted.

@@ -15,13 +15,12 @@ use super::play::{played_world, read_files, write_both};
 use crate::due::{Due, out_of_memory};
 use crate::failure::{Failure, File};
 use crate::line::Line;
-use cy_words::Make;
-use cy_words::Play;
 use crate::status::Status;
 use cy_make::{Config, MakeError, name_with, write_inputs};
 use cy_msg::Text;
 use cy_replay::{Components, Replay};
 use cy_store::{MemStore, Store};
+use cy_words::{Make, Play};
 use std::alloc::{AllocError, Global};
 
 // The names of the files that are played, and of those that are written for it.

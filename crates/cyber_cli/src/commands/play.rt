@@ -28,7 +28,6 @@ use super::check::due_unset;
 use crate::due::{Due, out_of_memory, store_failed};
 use crate::failure::{Failure, File};
 use crate::line::Line;
-use cy_words::Play;
 use crate::status::Status;
 use crate::summary::done_line;
 use cy_comp::{Call, Plan};
@@ -39,6 +38,7 @@ use cy_replay::{
 };
 use cy_store::Store;
 use cy_trace::{TraceError, trace_is_read_back, trace_text};
+use cy_words::Play;
 use cy_writer::{WriteError, write_file};
 use std::alloc::{AllocError, Global};
 use wake_core::{CoreError, World, laws, serial};

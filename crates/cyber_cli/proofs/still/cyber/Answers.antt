@@ -12,7 +12,7 @@ returns-clause-answers g c command asked = record {
   due = c.due_with_threads-due.result.status;
   line = bytes_of_line c.due_with_threads-due.result.line;
   is_due = subst (λ (o : Option Command). IsDue o (g.S.Store.shows c.args.store.now) (g.S.Store.shows c.due_with_threads-due.new.store) c.due_with_threads-due.result.status (bytes_of_line c.due_with_threads-due.result.line))
-      (asked_is c.args.words.now command asked) c.due_with_threads-due.ensures;
+      (asked_is c.args.words.now command asked) (c.due_with_threads-due.ensures c.args.words.now c.asking-read.ensures);
   is_told = c.tell.ensures;
 }
 
@@ -23,4 +23,4 @@ returns-clause-complete g c command asked =
     (returns-clause-answers g c command asked)
 
 pub tell-requires : goal.tell-requires
-tell-requires g c = not_sink (command_of c.args.words.now) (g.S.Store.shows c.args.store.now) (g.S.Store.shows c.due_with_threads-due.new.store) c.due_with_threads-due.result.status (bytes_of_line c.due_with_threads-due.result.line) c.due_with_threads-due.ensures
+tell-requires g c = not_sink (command_of c.args.words.now) (g.S.Store.shows c.args.store.now) (g.S.Store.shows c.due_with_threads-due.new.store) c.due_with_threads-due.result.status (bytes_of_line c.due_with_threads-due.result.line) (c.due_with_threads-due.ensures c.args.words.now c.asking-read.ensures)

@@ -12,7 +12,7 @@ returns-clause-answers g c command asked = record {
   due = c.due_of-due.result.status;
   line = bytes_of_line c.due_of-due.result.line;
   is_due = subst (λ (o : Option Command). IsDue o (g.S.Store.shows c.args.store.now) (g.S.Store.shows c.due_of-due.new.store) c.due_of-due.result.status (bytes_of_line c.due_of-due.result.line))
-      (still_asked_is c.args.words.now command asked) c.due_of-due.ensures;
+      (still_asked_is c.args.words.now command asked) (c.due_of-due.ensures c.args.words.now c.asking_still-read.ensures);
   is_told = c.tell.ensures;
 }
 
@@ -23,4 +23,4 @@ returns-clause-complete g c command asked =
     (returns-clause-answers g c command asked)
 
 pub tell-requires : goal.tell-requires
-tell-requires g c = not_sink (still_command_of c.args.words.now) (g.S.Store.shows c.args.store.now) (g.S.Store.shows c.due_of-due.new.store) c.due_of-due.result.status (bytes_of_line c.due_of-due.result.line) c.due_of-due.ensures
+tell-requires g c = not_sink (still_command_of c.args.words.now) (g.S.Store.shows c.args.store.now) (g.S.Store.shows c.due_of-due.new.store) c.due_of-due.result.status (bytes_of_line c.due_of-due.result.line) (c.due_of-due.ensures c.args.words.now c.asking_still-read.ensures)
