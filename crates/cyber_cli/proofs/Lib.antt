@@ -1,7 +1,6 @@
 pub mod CheckExits
 pub mod Complete
 pub mod DoneLine
-pub mod DueAsked
 pub mod Fronts
 pub mod InfoExits
 pub mod MakeExits
