@@ -40,14 +40,26 @@ fn told(rt: &HostRuntime, text: &str, files: &[&str]) -> Result<String, Fail> {
 fn tells_components_contexts_and_unknown_fields(rt: HostRuntime) -> Result<(), Fail> {
     for (dag, files, want) in [
         (
-            "module_config { module_library: \"x\" components { class_name: \"PassComponent\" config { name: \"p\" config_file_path: \"p.conf\" readers { channel: \"/a\" pending_queue_size: 0 } } } }",
+            "module_config { module_library: \"x\" components { class_name: \"PassComponent\" \
+            config { name: \"p\" config_file_path: \"p.conf\" readers { channel: \"/a\" \
+            pending_queue_size: 0 } } } }",
             &["out: \"/o\" colour: 3"] as &[&str],
-            "component \"p\" class PassComponent reads \"/a\" queue 1 writes \"/o\"\ncontext \"default_grp\" processors 2 order \"p\"\nunknown p.conf colour\nunknown s.conf scheduler_conf.depth\nok\n",
+            "component \"p\" class PassComponent reads \"/a\" queue 1 writes \"/o\"\n\
+            context \"default_grp\" processors 2 order \"p\"\nunknown p.conf colour\n\
+            unknown s.conf scheduler_conf.depth\nok\n",
         ),
         (
-            "module_config { components { class_name: \"SumComponent\" config { name: \"s\\n\" config_file_path: \"s\" readers { channel: \"/a\" pending_queue_size: 7 } readers { channel: \"/b\" } } } components { class_name: \"TakeComponent\" config { name: \"t\" config_file_path: \"t\" readers { channel: \"/a\" } } } } depth { }",
+            "module_config { components { class_name: \"SumComponent\" \
+            config { name: \"s\\n\" config_file_path: \"s\" \
+            readers { channel: \"/a\" pending_queue_size: 7 } readers { channel: \"/b\" } } } \
+            components { class_name: \"TakeComponent\" \
+            config { name: \"t\" config_file_path: \"t\" readers { channel: \"/a\" } } } } \
+            depth { }",
             &["out: \"/o\"", "out: \"\" n: 3"],
-            "component \"s\\n\" class SumComponent reads \"/a\" \"/b\" queue 7 writes \"/o\"\ncomponent \"t\" class TakeComponent reads \"/a\" queue 1 writes \"\"\ncontext \"default_grp\" processors 2 order \"s\\n\" \"t\"\nunknown d.dag depth\nunknown s.conf scheduler_conf.depth\nok\n",
+            "component \"s\\n\" class SumComponent reads \"/a\" \"/b\" queue 7 writes \"/o\"\n\
+            component \"t\" class TakeComponent reads \"/a\" queue 1 writes \"\"\n\
+            context \"default_grp\" processors 2 order \"s\\n\" \"t\"\nunknown d.dag depth\n\
+            unknown s.conf scheduler_conf.depth\nok\n",
         ),
     ] {
         let text = told(&rt, dag, files)?;

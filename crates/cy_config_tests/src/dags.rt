@@ -87,11 +87,15 @@ pub(crate) fn dag(rt: &HostRuntime, components: &str) -> Result<String, Fail> {
 fn reads_and_refuses_dags(rt: HostRuntime) -> Result<(), Fail> {
     for (components, want) in [
         (
-            "module_library: \"x\" components { class_name: \"PassComponent\" config { name: \"p\" config_file_path: \"p.conf\" readers { channel: \"/a\" pending_queue_size: 0 } } }",
+            "module_library: \"x\" components { class_name: \"PassComponent\" \
+            config { name: \"p\" config_file_path: \"p.conf\" readers { channel: \"/a\" \
+            pending_queue_size: 0 } } }",
             "p PassComponent p.conf: /a 1; ",
         ),
         (
-            "components { class_name: \"SumComponent\" config { name: \"s\" config_file_path: \"s\" readers { channel: \"/a\" pending_queue_size: 7 qos_profile { depth: 1 } } readers { channel: \"/b\" } } } colour: 3",
+            "components { class_name: \"SumComponent\" config { name: \"s\" \
+            config_file_path: \"s\" readers { channel: \"/a\" pending_queue_size: 7 \
+            qos_profile { depth: 1 } } readers { channel: \"/b\" } } } colour: 3",
             "s SumComponent s: /a 7 /b 1; module_config[0].colour ",
         ),
         (
@@ -119,31 +123,39 @@ fn reads_and_refuses_dags(rt: HostRuntime) -> Result<(), Fail> {
             "NoReader 0",
         ),
         (
-            "components { class_name: \"PassComponent\" config { name: \"a\" readers [ {}, {}, {}, {}, {} ] } }",
+            "components { class_name: \"PassComponent\" config { name: \"a\" \
+            readers [ {}, {}, {}, {}, {} ] } }",
             "TooManyReaders 0 5",
         ),
         (
-            "components { class_name: \"PassComponent\" config { name: \"a\" readers [ { channel: \"/x\" }, { channel: \"/x\" }, {} ] } }",
+            "components { class_name: \"PassComponent\" config { name: \"a\" \
+            readers [ { channel: \"/x\" }, { channel: \"/x\" }, {} ] } }",
             "Missing 0 channel",
         ),
         (
-            "components { class_name: \"SelectComponent\" config { name: \"a\" readers [ { channel: \"/x\" }, { channel: \"/x\" } ] } }",
+            "components { class_name: \"SelectComponent\" config { name: \"a\" \
+            readers [ { channel: \"/x\" }, { channel: \"/x\" } ] } }",
             "ReaderTwice 0 /x",
         ),
         (
-            "components { class_name: \"SelectComponent\" config { name: \"a\" readers [ { channel: \"/x\" }, { channel: \"/y\" } ] } }",
+            "components { class_name: \"SelectComponent\" config { name: \"a\" \
+            readers [ { channel: \"/x\" }, { channel: \"/y\" } ] } }",
             "TooFewReaders 0 2",
         ),
         (
-            "components { class_name: \"PassComponent\" config { name: \"a\" readers { channel: \"/x\" } } }",
+            "components { class_name: \"PassComponent\" config { name: \"a\" \
+            readers { channel: \"/x\" } } }",
             "Missing 0 config_file_path",
         ),
         (
-            "components { class_name: \"PassComponent\" config { name: \"a\" config_file_path: \"f\" readers { channel: \"/x\" } } } components { class_name: \"Foo\" config { name: \"a\" } }",
+            "components { class_name: \"PassComponent\" config { name: \"a\" \
+            config_file_path: \"f\" readers { channel: \"/x\" } } } \
+            components { class_name: \"Foo\" config { name: \"a\" } }",
             "NameTwice 0 1",
         ),
         (
-            "components { class_name: \"PassComponent\" config { name: \"a\" readers { channel: \"/x\" qos_profile: 3 } } }",
+            "components { class_name: \"PassComponent\" config { name: \"a\" \
+            readers { channel: \"/x\" qos_profile: 3 } } }",
             "Shape module_config[0].components[0].config.readers[0].qos_profile",
         ),
     ] {

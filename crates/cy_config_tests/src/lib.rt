@@ -1,4 +1,5 @@
-//! Tests of configuration files: `cy_dag`, `cy_sched` and `cy_check` over texts that `cy_text` reads.
+//! Tests of configuration files: `cy_dag`, `cy_sched` and `cy_check` over texts that `cy_text`
+//! reads.
 //! Each expected value is written out by hand from the rules of the formats.
 #![tactic(auto)]
 

@@ -70,12 +70,15 @@ fn places_in_groups(rt: HostRuntime) -> Result<(), Fail> {
             "g 1: 2 0 1; ",
         ),
         (
-            "groups { name: \"g\" tasks { name: \"a\" prio: 9 } tasks { name: \"b\" prio: 5 } tasks { name: \"a\" } }",
+            "groups { name: \"g\" tasks { name: \"a\" prio: 9 } tasks { name: \"b\" prio: 5 } \
+            tasks { name: \"a\" } }",
             &["a", "b"],
             "g 1: 1 0; ",
         ),
         (
-            "groups { name: \"g\" tasks { name: \"a\" } } groups { name: \"h\" processor_num: 2 tasks { name: \"a\" prio: 3 } } groups { name: \"i\" tasks { prio: 9 } }",
+            "groups { name: \"g\" tasks { name: \"a\" } } \
+            groups { name: \"h\" processor_num: 2 tasks { name: \"a\" prio: 3 } } \
+            groups { name: \"i\" tasks { prio: 9 } }",
             &["a", "b"],
             "g 1: 1; h 2: 0; i 1:; ",
         ),
@@ -106,7 +109,8 @@ fn places_on_processors(rt: HostRuntime) -> Result<(), Fail> {
             "choreography_processor_num: 4 pool_processor_num: 2 tasks { name: \"a\" processor: 7 }
             tasks { name: \"b\" processor: 0 prio: 1 } tasks { name: \"c\" processor: 0 prio: 5 }",
             &["a", "b", "c", "d"] as &[&str],
-            "pinned 0 1 pinned: 2 1; pinned 1 1 pinned:; pinned 2 1 pinned:; pinned 3 1 pinned:; default_grp 2: 0 3; ",
+            "pinned 0 1 pinned: 2 1; pinned 1 1 pinned:; pinned 2 1 pinned:; pinned 3 1 pinned:; \
+            default_grp 2: 0 3; ",
         ),
         (
             "choreography_processor_num: 1 tasks { name: \"a\" processor: 0 prio: 20 }
@@ -116,7 +120,8 @@ fn places_on_processors(rt: HostRuntime) -> Result<(), Fail> {
             "pinned 0 1 pinned: 1 0; default_grp 1: 2 3; ",
         ),
         (
-            "choreography_processor_num: 2 tasks { name: \"a\" processor: 0 } tasks { name: \"a\" processor: 1 }
+            "choreography_processor_num: 2 tasks { name: \"a\" processor: 0 } \
+            tasks { name: \"a\" processor: 1 }
             tasks { name: \"b\" }",
             &["a", "b"],
             "pinned 0 1 pinned:; pinned 1 1 pinned: 0; default_grp 1: 1; ",

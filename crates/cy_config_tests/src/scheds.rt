@@ -136,11 +136,13 @@ fn reads_and_refuses_small_files(rt: HostRuntime) -> Result<(), Fail> {
             "TooManyProcessors 65",
         ),
         (
-            "scheduler_conf { classic_conf { groups { processor_num: 63 } groups { name: \"b\" } } }",
+            "scheduler_conf { classic_conf { groups { processor_num: 63 } \
+            groups { name: \"b\" } } }",
             " 63:; b 1:; ",
         ),
         (
-            "scheduler_conf { classic_conf { groups { name: \"g\" processor_num: 65 } groups { name: \"h\" } groups { name: \"g\" } } }",
+            "scheduler_conf { classic_conf { groups { name: \"g\" processor_num: 65 } \
+            groups { name: \"h\" } groups { name: \"g\" } } }",
             "GroupTwice g",
         ),
         (
@@ -157,16 +159,20 @@ fn reads_and_refuses_small_files(rt: HostRuntime) -> Result<(), Fail> {
         ),
         ("scheduler_conf { policy: \"choreography\" }", "0 and 1:"),
         (
-            "scheduler_conf { policy: \"choreography\" choreography_conf { choreography_processor_num: 4 pool_processor_num: 2
-            tasks { name: \"a\" processor: 7 } tasks { name: \"b\" prio: 5 } tasks { processor: -2147483648 colour: 1 } } }",
+            "scheduler_conf { policy: \"choreography\" \
+            choreography_conf { choreography_processor_num: 4 pool_processor_num: 2
+            tasks { name: \"a\" processor: 7 } tasks { name: \"b\" prio: 5 } \
+            tasks { processor: -2147483648 colour: 1 } } }",
             "4 and 2: a 7 1 b -1 5  -2147483648 1 scheduler_conf.choreography_conf.tasks[2].colour",
         ),
         (
-            "scheduler_conf { policy: \"choreography\" choreography_conf { choreography_processor_num: 63 pool_processor_num: 2 } }",
+            "scheduler_conf { policy: \"choreography\" \
+            choreography_conf { choreography_processor_num: 63 pool_processor_num: 2 } }",
             "TooManyProcessors 65",
         ),
         (
-            "scheduler_conf { policy: \"choreography\" choreography_conf { tasks { processor: 2147483648 } } }",
+            "scheduler_conf { policy: \"choreography\" \
+            choreography_conf { tasks { processor: 2147483648 } } }",
             "Shape scheduler_conf.choreography_conf.tasks[0].processor",
         ),
         (

@@ -81,7 +81,8 @@ fn wired(
 // A component of a name that sums these channels.
 fn sums(rt: &HostRuntime, name: &str, channels: &[&str]) -> Result<String, Fail> {
     let mut text = format!(in rt.alloc();
-        "components {{ class_name: \"SumComponent\" config {{ name: \"{name}\" config_file_path: \"f\""
+        "components {{ class_name: \"SumComponent\" config {{ name: \"{name}\" \
+        config_file_path: \"f\""
     )?;
     for channel in channels {
         text.push_str(format!(in rt.alloc(); " readers {{ channel: \"{channel}\" }}")?.as_str())?;

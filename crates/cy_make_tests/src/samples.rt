@@ -1,5 +1,5 @@
-// The files that are made for four messages under the prefix `m`, and the record of two: their bytes
-// are those that `bench/made.py` writes.
+// The files that are made for four messages under the prefix `m`, and the record of two: their
+// bytes are those that `bench/made.py` writes.
 use std::alloc::{AllocError, Global};
 
 /// The end of a record's header section.

@@ -15,8 +15,8 @@ use Rattle.cy_words.specs.PassWords.{all_messages}
 use Rattle.cy_words.specs.PlayWords.{PlayWords}
 use Rattle.cyber_cli.specs.PlayWork.{IsPlayWork}
 
--- A serial play of all messages of the record that is made, through the components that are made, with the
--- default scheduler.
+-- A serial play of all messages of the record that is made, through the components that are made,
+-- with the default scheduler.
 abbrev pub play_made : MakeWords → PlayWords
 play_made w = record {
   request = record {

@@ -175,8 +175,8 @@ fn tell<O: Sink, E: Sink>(due: &Due, out: &mut O, err: &mut E) -> Status
 /// `check --dag F [--sched F]` prints what configuration files say, and `info FILE` what a record
 /// is.
 ///
-/// `make N PREFIX` makes the files of a play of N messages, whose names begin with PREFIX, and plays
-/// them.
+/// `make N PREFIX` makes the files of a play of N messages, whose names begin with PREFIX, and
+/// plays them.
 ///
 /// The text or the line that tells what was done goes to `out`, and one that tells of a refusal or
 /// a fault goes to `err`. The answer is one of the seven statuses; its contract says which is due,

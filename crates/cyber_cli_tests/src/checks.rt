@@ -8,15 +8,19 @@ use std::test::Fail;
 const CHECK: [&str; 5] = ["check", "--dag", "d.dag", "--sched", "s.sched"];
 
 const DAG: &str =
-    "module_config { module_library: \"x\" components { class_name: \"PassComponent\" config { name: \"p\" config_file_path: \"p.conf\" readers { channel: \"/a\" pending_queue_size: 0 } } } }";
+    "module_config { module_library: \"x\" components { class_name: \"PassComponent\" \
+    config { name: \"p\" config_file_path: \"p.conf\" readers { channel: \"/a\" \
+    pending_queue_size: 0 } } } }";
 
 const CONFIG: &str = "out: \"/o\" colour: 3";
 
 const SCHED: &str =
-    "scheduler_conf { classic_conf { groups { name: \"g\" tasks { name: \"p\" prio: 3 } } } shade: 1 }";
+    "scheduler_conf { classic_conf { groups { name: \"g\" tasks { name: \"p\" prio: 3 } } } \
+    shade: 1 }";
 
 const TEXT: &str = "component \"p\" class PassComponent reads \"/a\" queue 1 writes \"/o\"\n\
-    context \"g\" processors 1 order \"p\"\nunknown p.conf colour\nunknown s.sched scheduler_conf.shade\nok\n";
+    context \"g\" processors 1 order \"p\"\nunknown p.conf colour\n\
+    unknown s.sched scheduler_conf.shade\nok\n";
 
 /// The calls that make the three files.
 const CALLS_BEFORE: u64 = 6;

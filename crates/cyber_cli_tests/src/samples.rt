@@ -76,7 +76,8 @@ const OPEN_HEADER: &[u8] = b"\0\0\0\0\0\0\0\0\x25\0\0\0\0\0\0\0\
 
 /// The trace of that run.
 pub const TRACE: &str =
-    "cyber-trace 1\nplayed 1 shadowed 0\ncomponent \"pass\"\nroles 0\ncall 1/1 1 1@100=7\nend DATA_WAIT next 2\ntape \"/in\" 1\ntape \"/out\" 1\n";
+    "cyber-trace 1\nplayed 1 shadowed 0\ncomponent \"pass\"\nroles 0\ncall 1/1 1 1@100=7\n\
+    end DATA_WAIT next 2\ntape \"/in\" 1\ntape \"/out\" 1\n";
 
 /// The trace of a run of the record of two messages.
 pub const TWO_TRACE: &str = "cyber-trace 1\nplayed 2 shadowed 0\ncomponent \"pass\"\nroles 00\n\
@@ -89,7 +90,8 @@ pub const EMPTY_TRACE: &str =
 
 /// The trace of a run of the record that is written, of which one message is shadowed.
 pub const AGAIN_TRACE: &str =
-    "cyber-trace 1\nplayed 1 shadowed 1\ncomponent \"pass\"\nroles 0\ncall 1/1 1 1@100=7\nend DATA_WAIT next 2\ntape \"/in\" 1\ntape \"/out\" 1\n";
+    "cyber-trace 1\nplayed 1 shadowed 1\ncomponent \"pass\"\nroles 0\ncall 1/1 1 1@100=7\n\
+    end DATA_WAIT next 2\ntape \"/in\" 1\ntape \"/out\" 1\n";
 
 fn sections(alloc: Global, header: &[u8], rest: &[u8]) -> Result<Vec<u8>, AllocError> {
     let mut bytes = header.to_vec(alloc)?;

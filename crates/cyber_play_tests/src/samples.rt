@@ -10,7 +10,8 @@ pub const DAG: &[u8] = b"module_config {\n  module_library: \"x\"\n\
     \x20 components {\n    class_name: \"PassComponent\"\n\
     \x20   config { name: \"p\" config_file_path: \"p.conf\" readers { channel: \"/a\" } }\n  }\n\
     \x20 components {\n    class_name: \"PassComponent\"\n\
-    \x20   config { name: \"r\" config_file_path: \"r.conf\" readers { channel: \"/o\" } }\n  }\n}\n";
+    \x20   config { name: \"r\" config_file_path: \"r.conf\" readers { channel: \"/o\" } }\n  }\n\
+    }\n";
 
 /// The file of `p`.
 pub const FIRST_CONFIG: &[u8] = b"out: \"/o\"\n";
