@@ -1,5 +1,5 @@
 // The command `check`: what it prints, and each call of the store failing in turn.
-use crate::ran::{Ran, run};
+use crate::ran::{Ran, ends, run};
 use cy_store::{MemStore, Store};
 use cyber_cli::Status;
 use std::alloc::Global;
@@ -40,6 +40,15 @@ fn files(alloc: Global) -> Result<MemStore, Fail> {
     Ok(store)
 }
 
+// What is told where this call of the program fails.
+fn line_at(call: usize) -> &'static [u8] {
+    match call {
+        1 | 2 => b"cyber: d.dag: the store failed\n".as_slice(),
+        3 | 4 => b"cyber: p.conf: the store failed\n".as_slice(),
+        _ => b"cyber: s.sched: the store failed\n".as_slice(),
+    }
+}
+
 // The run where this call of the program fails.
 fn failing_at(alloc: Global, call: usize) -> Result<Ran<MemStore>, Fail> {
     let mut store = files(alloc)?;
@@ -51,9 +60,7 @@ fn failing_at(alloc: Global, call: usize) -> Result<Ran<MemStore>, Fail> {
 fn prints_what_configuration_files_say(rt: HostRuntime) -> Result<(), Fail> {
     let alloc = rt.alloc();
     let ran = run(alloc, &CHECK, files(alloc)?)?;
-    assert_eq!(rt; ran.status, Status::Done);
-    assert_eq!(rt; ran.out.bytes(), TEXT.as_bytes());
-    assert_eq!(rt; ran.err.bytes(), b"".as_slice());
+    ends(&rt, &ran, Status::Done, TEXT.as_bytes(), b"");
     Ok(())
 }
 
@@ -62,14 +69,7 @@ fn names_the_file_whose_call_failed(rt: HostRuntime) -> Result<(), Fail> {
     let alloc = rt.alloc();
     for call in 1..=CALLS {
         let ran = failing_at(alloc, call)?;
-        assert_eq!(rt; ran.status, Status::StoreFault, "{call}");
-        let line = match call {
-            1 | 2 => b"cyber: d.dag: the store failed\n".as_slice(),
-            3 | 4 => b"cyber: p.conf: the store failed\n".as_slice(),
-            _ => b"cyber: s.sched: the store failed\n".as_slice(),
-        };
-        assert_eq!(rt; ran.err.bytes(), line, "{call}");
-        assert_eq!(rt; ran.out.bytes(), b"".as_slice(), "{call}");
+        ends(&rt, &ran, Status::StoreFault, b"", line_at(call));
     }
     let done = failing_at(alloc, CALLS + 1)?;
     assert_eq!(rt; done.status, Status::Done);

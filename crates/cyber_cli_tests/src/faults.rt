@@ -1,5 +1,5 @@
 // Each call of the store fails in turn, and what stands then.
-use crate::ran::{PASS, Ran, run, store_of};
+use crate::ran::{PASS, Ran, ends, run, store_of};
 use crate::samples::{TRACE, in_record, open_record, out_record};
 use cy_store::MemStore;
 use cyber_cli::Status;
@@ -43,31 +43,45 @@ fn record_at(alloc: Global, piece: usize, keep: usize) -> Result<Vec<u8>, Fail> 
     Ok(bytes)
 }
 
-// What stands after a call that failed and kept so many bytes.
-fn stands(rt: &impl Abort, alloc: Global, call: usize, keep: usize) -> Result<(), Fail> {
-    let ran = failing_at(alloc, call, keep)?;
-    assert_eq!(rt; ran.status, Status::StoreFault, "{call}");
-    let line = match call {
+// What is told where this call fails.
+fn line_at(call: usize) -> &'static [u8] {
+    match call {
         1 | 2 => b"cyber: in.rec: the store failed\n".as_slice(),
         3..=10 => b"cyber: out.rec: the store failed\n".as_slice(),
         _ => b"cyber: t.txt: the store failed\n".as_slice(),
-    };
-    assert_eq!(rt; ran.err.bytes(), line, "{call}");
-    assert_eq!(rt; ran.out.bytes(), b"".as_slice(), "{call}");
-    let record = match call {
+    }
+}
+
+// The record that stands where this call failed and kept so many bytes.
+fn record_after(alloc: Global, call: usize, keep: usize) -> Result<Option<Vec<u8>>, Fail> {
+    Ok(match call {
         1..=3 => None,
         4..=10 => Some(record_at(alloc, call.saturating_sub(FIRST_PUT), keep)?),
         _ => Some(out_record(alloc)?),
-    };
-    let want = record.as_ref().map(|bytes| bytes.as_slice());
-    assert!(rt; ran.store.file("out.rec") == want, "{call} {keep}");
+    })
+}
+
+// The trace that stands then.
+fn trace_after(call: usize, keep: usize) -> Option<&'static [u8]> {
     let trace = TRACE.as_bytes();
-    let want = if call < CALLS {
+    if call < CALLS {
         None
     } else {
         Some(&trace[..keep.min(trace.len())])
-    };
-    assert_eq!(rt; ran.store.file("t.txt"), want, "{call} {keep}");
+    }
+}
+
+// What stands after a call that failed and kept so many bytes.
+fn stands(rt: &impl Abort, alloc: Global, call: usize, keep: usize) -> Result<(), Fail> {
+    let ran = failing_at(alloc, call, keep)?;
+    ends(rt, &ran, Status::StoreFault, b"", line_at(call));
+    let record = record_after(alloc, call, keep)?;
+    let want = record.as_ref().map(|bytes| bytes.as_slice());
+    assert!(rt; ran.store.file("out.rec") == want, "{call} {keep}");
+    assert!(rt;
+        ran.store.file("t.txt") == trace_after(call, keep),
+        "{call} {keep}"
+    );
     Ok(())
 }
 

@@ -1,9 +1,10 @@
 // The command `info`: what it prints of a record that was written, and each refusal.
-use crate::ran::{PASS, run, store_of};
+use crate::ran::{PASS, ends, run, store_of};
 use crate::samples::in_record;
 use cy_store::MemStore;
 use cyber_cli::Status;
 use std::alloc::Global;
+use std::process::Abort;
 use std::test::Fail;
 
 const INFO: [&str; 2] = ["info", "in.rec"];
@@ -20,14 +21,25 @@ fn behind_header(alloc: Global, rest: &[u8]) -> Result<Vec<u8>, Fail> {
     Ok(bytes)
 }
 
+// A file is refused as a record, with this status and this line.
+fn refuses(
+    rt: &impl Abort,
+    alloc: Global,
+    bytes: &[u8],
+    status: Status,
+    line: &[u8],
+) -> Result<(), Fail> {
+    let ran = run(alloc, &INFO, store_of(alloc, bytes)?)?;
+    ends(rt, &ran, status, b"", line);
+    Ok(())
+}
+
 #[test]
 fn tells_what_a_written_record_is(rt: HostRuntime) -> Result<(), Fail> {
     let bytes = in_record(rt.alloc())?;
     let played = run(rt.alloc(), &PASS, store_of(rt.alloc(), &bytes)?)?;
     let told = run(rt.alloc(), &["info", "out.rec"], played.store)?;
-    assert_eq!(rt; told.status, Status::Done);
-    assert_eq!(rt; told.out.bytes(), TEXT);
-    assert_eq!(rt; told.err.bytes(), b"".as_slice());
+    ends(&rt, &told, Status::Done, TEXT, b"");
     Ok(())
 }
 
@@ -66,59 +78,38 @@ fn refuses_each_fault_behind_the_header(rt: HostRuntime) -> Result<(), Fail> {
         ),
     ] {
         let bytes = behind_header(rt.alloc(), rest)?;
-        let ran = run(rt.alloc(), &INFO, store_of(rt.alloc(), &bytes)?)?;
-        assert_eq!(rt; ran.status, status);
-        assert_eq!(rt; ran.err.bytes(), line);
-        assert_eq!(rt; ran.out.bytes(), b"".as_slice());
+        refuses(&rt, rt.alloc(), &bytes, status, line)?;
     }
     Ok(())
 }
 
 #[test]
 fn refuses_headers_and_limits(rt: HostRuntime) -> Result<(), Fail> {
-    let mut compressed = in_record(rt.alloc())?;
+    let alloc = rt.alloc();
+    let mut compressed = in_record(alloc)?;
     if compressed.len() > 21 {
         compressed[21] = 2;
     }
-    let ran = run(rt.alloc(), &INFO, store_of(rt.alloc(), &compressed)?)?;
-    assert_eq!(rt; ran.status, Status::Refused);
-    assert_eq!(rt;
-        ran.err.bytes(),
-        b"cyber: in.rec: compressed chunks of kind 2\n".as_slice()
-    );
-    let mut long = behind_header(
-        rt.alloc(),
-        b"\x04\0\0\0\0\0\0\0\x04\x10\0\0\0\0\0\0\x0a\x81\x20",
-    )?;
+    let line = b"cyber: in.rec: compressed chunks of kind 2\n";
+    refuses(&rt, alloc, &compressed, Status::Refused, line)?;
+    let mut long = behind_header(alloc, b"\x04\0\0\0\0\0\0\0\x04\x10\0\0\0\0\0\0\x0a\x81\x20")?;
     long.resize(2_064 + 16 + 4_100, b'n')?;
-    let ran = run(rt.alloc(), &INFO, store_of(rt.alloc(), &long)?)?;
-    assert_eq!(rt; ran.status, Status::Limit);
-    assert_eq!(rt;
-        ran.err.bytes(),
-        b"cyber: in.rec: limit NameTooLong passed: 4097\n".as_slice()
-    );
-    let ran = run(rt.alloc(), &INFO, store_of(rt.alloc(), b"a text")?)?;
-    assert_eq!(rt; ran.status, Status::Refused);
-    assert_eq!(rt;
-        ran.err.bytes(),
-        b"cyber: in.rec: not a record\n".as_slice()
-    );
-    Ok(())
+    let line = b"cyber: in.rec: limit NameTooLong passed: 4097\n";
+    refuses(&rt, alloc, &long, Status::Limit, line)?;
+    let line = b"cyber: in.rec: not a record\n";
+    refuses(&rt, alloc, b"a text", Status::Refused, line)
 }
 
 #[test]
 fn names_a_record_that_cannot_be_read(rt: HostRuntime) -> Result<(), Fail> {
-    let ran = run(rt.alloc(), &INFO, MemStore::new(rt.alloc()))?;
-    assert_eq!(rt; ran.status, Status::StoreFault);
-    assert_eq!(rt;
-        ran.err.bytes(),
-        b"cyber: in.rec: the store failed\n".as_slice()
-    );
+    let line = b"cyber: in.rec: the store failed\n";
+    let missing = run(rt.alloc(), &INFO, MemStore::new(rt.alloc()))?;
+    ends(&rt, &missing, Status::StoreFault, b"", line);
     let bytes = in_record(rt.alloc())?;
     let mut store = store_of(rt.alloc(), &bytes)?;
     store.fail_at(3, 0)?;
-    let ran = run(rt.alloc(), &INFO, store)?;
-    assert_eq!(rt; ran.status, Status::StoreFault);
+    let failed = run(rt.alloc(), &INFO, store)?;
+    ends(&rt, &failed, Status::StoreFault, b"", line);
     Ok(())
 }
 

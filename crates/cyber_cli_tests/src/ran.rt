@@ -3,6 +3,7 @@ use cy_msg::Text;
 use cy_store::{MemSink, MemStore, Store};
 use cyber_cli::{Status, cyber_still};
 use std::alloc::Global;
+use std::process::Abort;
 use std::test::Fail;
 
 /// The words of `pass` over `in.rec`.
@@ -56,4 +57,27 @@ pub fn run<S: Store + Drop>(alloc: Global, words: &[&str], store: S) -> Result<R
         MemSink::new(alloc),
         MemSink::new(alloc),
     )
+}
+
+/// Looks at the status, and at what both sinks got.
+pub fn ends<S: Store + Drop>(
+    rt: &impl Abort,
+    ran: &Ran<S>,
+    status: Status,
+    out: &[u8],
+    err: &[u8],
+) {
+    assert_eq!(rt; ran.status, status);
+    assert_eq!(rt; ran.out.bytes(), out);
+    assert_eq!(rt; ran.err.bytes(), err);
+}
+
+/// Looks that the store holds these bytes under a name.
+pub fn holds(rt: &impl Abort, ran: &Ran<MemStore>, name: &str, want: &[u8]) {
+    assert_eq!(rt; ran.store.file(name), Some(want), "{name}");
+}
+
+/// Looks that the store has no file of a name.
+pub fn lacks(rt: &impl Abort, ran: &Ran<MemStore>, name: &str) {
+    assert!(rt; ran.store.file(name).is_none(), "{name}");
 }

@@ -1,5 +1,5 @@
 // Words and records that are refused, each with ample memory.
-use crate::ran::{PASS, run, run_over, store_of};
+use crate::ran::{PASS, ends, lacks, run, run_over, store_of};
 use crate::samples::in_record;
 use cy_store::{MemSink, MemStore};
 use cyber_cli::Status;
@@ -12,11 +12,9 @@ const USAGE_LINE: &[u8] = b"cyber: the words are not of a known form\n";
 // A record is refused with this line, and nothing is made.
 fn is_refused(rt: &impl Abort, alloc: Global, bytes: &[u8], line: &[u8]) -> Result<(), Fail> {
     let ran = run(alloc, &PASS, store_of(alloc, bytes)?)?;
-    assert_eq!(rt; ran.status, Status::Refused);
-    assert_eq!(rt; ran.err.bytes(), line);
-    assert_eq!(rt; ran.out.bytes(), b"".as_slice());
-    assert!(rt; ran.store.file("out.rec").is_none());
-    assert!(rt; ran.store.file("t.txt").is_none());
+    ends(rt, &ran, Status::Refused, b"", line);
+    lacks(rt, &ran, "out.rec");
+    lacks(rt, &ran, "t.txt");
     Ok(())
 }
 
@@ -56,8 +54,7 @@ fn passes_the_whole_sections_of_a_cut_record(rt: HostRuntime) -> Result<(), Fail
         let mut bytes = in_record(alloc)?;
         bytes.truncate(size);
         let ran = run(alloc, &PASS, store_of(alloc, &bytes)?)?;
-        assert_eq!(rt; ran.status, Status::Done, "{size}");
-        assert_eq!(rt; ran.out.bytes(), line, "{size}");
+        ends(&rt, &ran, Status::Done, line, b"");
     }
     Ok(())
 }
@@ -76,11 +73,8 @@ fn refuses_a_record_that_broke_off(rt: HostRuntime) -> Result<(), Fail> {
     );
     let words = ["pass", "out.rec", "o2", "t2", "/in", "/x"];
     let ran = run(alloc, &words, broken.store)?;
-    assert_eq!(rt; ran.status, Status::Refused);
-    assert_eq!(rt;
-        ran.err.bytes(),
-        b"cyber: out.rec: at 2139: Cut\n".as_slice()
-    );
+    let line = b"cyber: out.rec: at 2139: Cut\n";
+    ends(&rt, &ran, Status::Refused, b"", line);
     Ok(())
 }
 
@@ -88,21 +82,17 @@ fn refuses_a_record_that_broke_off(rt: HostRuntime) -> Result<(), Fail> {
 fn faults_where_the_record_is_missing(rt: HostRuntime) -> Result<(), Fail> {
     let alloc = rt.alloc();
     let missing = run(alloc, &PASS, MemStore::new(alloc))?;
-    assert_eq!(rt; missing.status, Status::StoreFault);
-    assert_eq!(rt;
-        missing.err.bytes(),
-        b"cyber: in.rec: the store failed\n".as_slice()
-    );
-    assert!(rt; missing.store.file("out.rec").is_none());
+    let line = b"cyber: in.rec: the store failed\n";
+    ends(&rt, &missing, Status::StoreFault, b"", line);
+    lacks(&rt, &missing, "out.rec");
     Ok(())
 }
 
 // The words are of no known form.
 fn is_misused(rt: &impl Abort, alloc: Global, words: &[&str]) -> Result<(), Fail> {
     let ran = run(alloc, words, store_of(alloc, &in_record(alloc)?)?)?;
-    assert_eq!(rt; ran.status, Status::Usage);
-    assert_eq!(rt; ran.err.bytes(), USAGE_LINE);
-    assert!(rt; ran.store.file("b").is_none());
+    ends(rt, &ran, Status::Usage, b"", USAGE_LINE);
+    lacks(rt, &ran, "b");
     Ok(())
 }
 
@@ -140,9 +130,7 @@ fn faults_where_a_refusal_is_not_told(rt: HostRuntime) -> Result<(), Fail> {
         let mut store = store_of(alloc, whole)?;
         store.fail_at(call, 0)?;
         let ran = run_over(alloc, words, store, MemSink::new(alloc), err)?;
-        assert_eq!(rt; ran.status, Status::SinkFault, "{write}");
-        assert_eq!(rt; ran.err.bytes(), want, "{write}");
-        assert_eq!(rt; ran.out.bytes(), b"".as_slice(), "{write}");
+        ends(&rt, &ran, Status::SinkFault, b"", want);
     }
     Ok(())
 }

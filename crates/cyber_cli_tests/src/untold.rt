@@ -3,7 +3,7 @@
 ghost use Rattle.std.specs.Prelude.{◌≡◌, ◌≤◌, ◌+◌, ◌-◌, ◌^◌, min, None};
 ghost use Rattle.cy_store.specs.declared.error.StoreError.TheVariants as store_error;
 
-use crate::ran::{PASS, run, store_of};
+use crate::ran::{PASS, ends, run, store_of};
 use crate::samples::{in_record, out_record};
 use cy_store::{MemStore, Store, StoreError};
 use cyber_cli::Status;
@@ -100,10 +100,7 @@ fn faults_where_nothing_is_told(rt: HostRuntime) -> Result<(), Fail> {
         more: 0,
     };
     let ran = run(alloc, &PASS, store)?;
-    assert_eq!(rt; ran.status, Status::StoreFault);
-    assert_eq!(rt;
-        ran.err.bytes(),
-        b"cyber: in.rec: the store failed\n".as_slice()
-    );
+    let line = b"cyber: in.rec: the store failed\n";
+    ends(&rt, &ran, Status::StoreFault, b"", line);
     Ok(())
 }
