@@ -1,49 +1,85 @@
 // DAG files and component files.
 use crate::texts::{parsed, tree};
-use cy_comp::Kind;
 use cy_dag::{DagError, read_component_config, read_dag};
 use std::test::Fail;
 
+// The name of a refusal.
+fn name_of(error: &DagError) -> &'static str {
+    match error {
+        DagError::Shape { .. } => "Shape",
+        DagError::NoComponents => "NoComponents",
+        DagError::Timers { .. } => "Timers",
+        DagError::TooMany { .. } => "TooMany",
+        DagError::Missing { .. } => "Missing",
+        DagError::NameTwice { .. } => "NameTwice",
+        DagError::UnknownClass { .. } => "UnknownClass",
+        DagError::NoReader { .. } => "NoReader",
+        DagError::TooManyReaders { .. } => "TooManyReaders",
+        DagError::ReaderTwice { .. } => "ReaderTwice",
+        DagError::TooFewReaders { .. } => "TooFewReaders",
+        DagError::NotWhole { .. } => "NotWhole",
+        DagError::TwoWriters { .. } => "TwoWriters",
+        DagError::TriggerCycle { .. } => "TriggerCycle",
+        DagError::TooManyChannels { .. } => "TooManyChannels",
+        DagError::Memory => "Memory",
+    }
+}
+
+// Its first number and its second.
+fn numbers_of(error: &DagError) -> (Option<u32>, Option<u32>) {
+    match error {
+        DagError::Timers { count }
+        | DagError::TooMany { count }
+        | DagError::TooManyChannels { count } => (Some(*count), None),
+        DagError::Missing { component, .. }
+        | DagError::UnknownClass { component }
+        | DagError::NoReader { component }
+        | DagError::ReaderTwice { component, .. }
+        | DagError::NotWhole { component, .. } => (Some(*component), None),
+        DagError::TooManyReaders { component, count }
+        | DagError::TooFewReaders { component, count } => (Some(*component), Some(*count)),
+        DagError::NameTwice { first, second } | DagError::TwoWriters { first, second } => {
+            (Some(*first), Some(*second))
+        }
+        _ => (None, None),
+    }
+}
+
+// The path, the field or the channel that it names.
+fn text_of(error: &DagError) -> Option<&str> {
+    match error {
+        DagError::Shape { path } => Some(path.as_str()),
+        DagError::Missing { field, .. } | DagError::NotWhole { field, .. } => Some(field.as_str()),
+        DagError::ReaderTwice { channel, .. } => Some(channel.as_str()),
+        _ => None,
+    }
+}
+
+// Adds a number behind a space.
+fn push_number(rt: &HostRuntime, line: &mut String, number: u32) -> Result<(), Fail> {
+    line.push_str(format!(in rt.alloc(); " {number}")?.as_str())?;
+    Ok(())
+}
+
 // Why a file is refused, in one line.
-pub(crate) fn refusal(rt: &HostRuntime, error: DagError) -> Result<String, Fail> {
-    Ok(match error {
-        DagError::Shape { path } => format!(in rt.alloc(); "Shape {}", path.as_str())?,
-        DagError::NoComponents => String::from_str(rt.alloc(), "NoComponents")?,
-        DagError::Timers { count } => format!(in rt.alloc(); "Timers {count}")?,
-        DagError::TooMany { count } => format!(in rt.alloc(); "TooMany {count}")?,
-        DagError::Missing { component, field } => {
-            format!(in rt.alloc(); "Missing {component} {}", field.as_str())?
+pub(crate) fn refusal(rt: &HostRuntime, error: &DagError) -> Result<String, Fail> {
+    let mut line = String::from_str(rt.alloc(), name_of(error))?;
+    let (first, second) = numbers_of(error);
+    for number in [first, second] {
+        if let Some(number) = number {
+            push_number(rt, &mut line, number)?;
         }
-        DagError::NameTwice { first, second } => format!(in rt.alloc();
-            "NameTwice {first} {second}"
-        )?,
-        DagError::UnknownClass { component } => format!(in rt.alloc(); "UnknownClass {component}")?,
-        DagError::NoReader { component } => format!(in rt.alloc(); "NoReader {component}")?,
-        DagError::TooManyReaders { component, count } => {
-            format!(in rt.alloc(); "TooManyReaders {component} {count}")?
+    }
+    if let Some(text) = text_of(error) {
+        line.push_str(" ")?;
+        line.push_str(text)?;
+    }
+    if let DagError::TriggerCycle { components } = error {
+        for component in components.as_slice() {
+            push_number(rt, &mut line, *component)?;
         }
-        DagError::ReaderTwice { component, channel } => {
-            format!(in rt.alloc(); "ReaderTwice {component} {}", channel.as_str())?
-        }
-        DagError::TooFewReaders { component, count } => {
-            format!(in rt.alloc(); "TooFewReaders {component} {count}")?
-        }
-        DagError::NotWhole { component, field } => {
-            format!(in rt.alloc(); "NotWhole {component} {}", field.as_str())?
-        }
-        DagError::TwoWriters { first, second } => format!(in rt.alloc();
-            "TwoWriters {first} {second}"
-        )?,
-        DagError::TriggerCycle { components } => {
-            let mut line = String::from_str(rt.alloc(), "TriggerCycle")?;
-            for component in components.as_slice() {
-                line.push_str(format!(in rt.alloc(); " {component}")?.as_str())?;
-            }
-            line
-        }
-        DagError::TooManyChannels { count } => format!(in rt.alloc(); "TooManyChannels {count}")?,
-        DagError::Memory => String::from_str(rt.alloc(), "Memory")?,
-    })
+    }
+    Ok(line)
 }
 
 // What a DAG says, or why it is refused, in one line.
@@ -51,7 +87,7 @@ fn told(rt: &HostRuntime, text: &str) -> Result<String, Fail> {
     let tree = tree(rt, text.as_bytes())?;
     let dag = match read_dag(rt.alloc(), &tree) {
         Ok(dag) => dag,
-        Err(error) => return refusal(rt, error),
+        Err(error) => return refusal(rt, &error),
     };
     let mut line = String::new(rt.alloc());
     for component in dag.components.as_slice() {
@@ -190,25 +226,14 @@ fn config(rt: &HostRuntime, class: &str, text: &str) -> Result<String, Fail> {
     let tree = tree(rt, text.as_bytes())?;
     let config = match read_component_config(rt.alloc(), &tree, 5, class) {
         Ok(config) => config,
-        Err(error) => return refusal(rt, error),
+        Err(error) => return refusal(rt, &error),
     };
-    let mut line = match config.kind {
-        Kind::Pass => String::from_str(rt.alloc(), "Pass")?,
-        Kind::Filter { lo, hi } => format!(in rt.alloc(); "Filter {lo} {hi}")?,
-        Kind::Sum => String::from_str(rt.alloc(), "Sum")?,
-        Kind::Count => String::from_str(rt.alloc(), "Count")?,
-        Kind::Max => String::from_str(rt.alloc(), "Max")?,
-        Kind::Window { n } => format!(in rt.alloc(); "Window {n}")?,
-        Kind::Change => String::from_str(rt.alloc(), "Change")?,
-        Kind::Select => String::from_str(rt.alloc(), "Select")?,
-        Kind::Hold { delay } => format!(in rt.alloc(); "Hold {delay}")?,
-        Kind::Take { n } => format!(in rt.alloc(); "Take {n}")?,
-    };
-    line.push_str(format!(in rt.alloc();
-        " {} {}",
+    let mut line = format!(in rt.alloc();
+        "{:?} {} {}",
+        config.kind,
         config.out.as_str(),
         config.out_type.as_str()
-    )?.as_str())?;
+    )?;
     for path in config.unknown.as_slice() {
         line.push_str(" ")?;
         line.push_str(path.as_str())?;
@@ -224,7 +249,7 @@ fn reads_and_refuses_component_files(rt: HostRuntime) -> Result<(), Fail> {
         (
             "FilterComponent",
             "out: \"/o\" lo: -9223372036854775808 hi: 9223372036854775807",
-            "Filter -9223372036854775808 9223372036854775807 /o ",
+            "Filter { lo: -9223372036854775808, hi: 9223372036854775807 } /o ",
         ),
         ("FilterComponent", "out: \"/o\" lo: 1", "Missing 5 hi"),
         ("FilterComponent", "out: \"/o\" lo: \"x\"", "NotWhole 5 lo"),
@@ -237,26 +262,30 @@ fn reads_and_refuses_component_files(rt: HostRuntime) -> Result<(), Fail> {
         ("FilterComponent", "out: 3", "Shape out"),
         ("CountComponent", "out: \"/o\"", "Count /o "),
         ("MaxComponent", "out: \"/o\"", "Max /o "),
-        ("WindowComponent", "out: \"/o\" n: 4096", "Window 4096 /o "),
+        (
+            "WindowComponent",
+            "out: \"/o\" n: 4096",
+            "Window { n: 4096 } /o ",
+        ),
         ("WindowComponent", "out: \"/o\" n: 4097", "NotWhole 5 n"),
         ("WindowComponent", "out: \"/o\" n: 0", "NotWhole 5 n"),
         (
             "WindowComponent",
             "out: \"/o\" n: \"x\" n: 8",
-            "Window 8 /o ",
+            "Window { n: 8 } /o ",
         ),
         ("ChangeComponent", "out: \"/o\"", "Change /o "),
         ("SelectComponent", "out: \"/o\"", "Select /o "),
         (
             "HoldComponent",
             "out: \"/o\" delay: 18446744073709551615",
-            "Hold 18446744073709551615 /o ",
+            "Hold { delay: 18446744073709551615 } /o ",
         ),
         ("HoldComponent", "out: \"/o\" delay: -1", "NotWhole 5 delay"),
         (
             "TakeComponent",
             "out: \"/o\" n: 4294967295",
-            "Take 4294967295 /o ",
+            "Take { n: 4294967295 } /o ",
         ),
         ("TakeComponent", "out: \"/o\" n: 4294967296", "NotWhole 5 n"),
         ("FooComponent", "out: 3", "UnknownClass 5"),

@@ -25,20 +25,27 @@ pub(crate) const CLASSIC: &str = "scheduler_conf {
 }
 ";
 
+// The name of a refusal, and what it names.
+fn parts_of(error: &SchedError) -> (&'static str, Option<&str>) {
+    match error {
+        SchedError::Shape { path } => ("Shape ", Some(path.as_str())),
+        SchedError::UnknownPolicy { policy } => ("UnknownPolicy ", Some(policy.as_str())),
+        SchedError::NoGroup => ("NoGroup", None),
+        SchedError::GroupTwice { name } => ("GroupTwice ", Some(name.as_str())),
+        SchedError::TooManyProcessors { .. } => ("TooManyProcessors ", None),
+        SchedError::Memory => ("Memory", None),
+    }
+}
+
 // Why a file is refused, in one line.
-fn refusal(rt: &HostRuntime, error: SchedError) -> Result<String, Fail> {
-    Ok(match error {
-        SchedError::Shape { path } => format!(in rt.alloc(); "Shape {}", path.as_str())?,
-        SchedError::UnknownPolicy { policy } => {
-            format!(in rt.alloc(); "UnknownPolicy {}", policy.as_str())?
-        }
-        SchedError::NoGroup => String::from_str(rt.alloc(), "NoGroup")?,
-        SchedError::GroupTwice { name } => format!(in rt.alloc(); "GroupTwice {}", name.as_str())?,
-        SchedError::TooManyProcessors { count } => {
-            format!(in rt.alloc(); "TooManyProcessors {count}")?
-        }
-        SchedError::Memory => String::from_str(rt.alloc(), "Memory")?,
-    })
+fn refusal(rt: &HostRuntime, error: &SchedError) -> Result<String, Fail> {
+    let (name, named) = parts_of(error);
+    let mut line = String::from_str(rt.alloc(), name)?;
+    line.push_str(named.unwrap_or(""))?;
+    if let SchedError::TooManyProcessors { count } = error {
+        line.push_str(format!(in rt.alloc(); "{count}")?.as_str())?;
+    }
+    Ok(line)
 }
 
 // The group of a classic scheduler, with its tasks.
@@ -105,7 +112,7 @@ fn told(rt: &HostRuntime, text: &str) -> Result<String, Fail> {
     let tree = tree(rt, text.as_bytes())?;
     match read_sched(rt.alloc(), &tree) {
         Ok(sched) => line_of(rt, &sched),
-        Err(error) => refusal(rt, error),
+        Err(error) => refusal(rt, &error),
     }
 }
 

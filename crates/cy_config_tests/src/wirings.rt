@@ -74,7 +74,7 @@ fn wired(
     let configs = configs(rt, &dag, files)?;
     match wire(rt.alloc(), &dag, &configs, channels) {
         Ok(wiring) => line_of(rt, &wiring),
-        Err(error) => refusal(rt, error),
+        Err(error) => refusal(rt, &error),
     }
 }
 
