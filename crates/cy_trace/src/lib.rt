@@ -5,6 +5,7 @@
 
 mod building;
 mod call;
+mod ending;
 mod error;
 mod fault;
 mod laws;

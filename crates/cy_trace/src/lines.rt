@@ -1,6 +1,6 @@
 // The lines of a trace, each added to a text.
-ghost use Rattle.std.specs.Prelude.{◌≡◌, ◌<◌, ◌+◌, ◌++◌, ◌^◌, ℕ, length, map, slice_get, Some, OnOk};
-ghost use Rattle.std.specs.Prelude.{IfOk, codes};
+ghost use Rattle.std.specs.Prelude.{◌≡◌, ◌<◌, ◌≤◌, ◌+◌, ◌++◌, ◌^◌, ℕ, [], length, map, slice_get, Some};
+ghost use Rattle.std.specs.Prelude.{IfOk, OnOk, codes};
 ghost use Rattle.std.specs.List.{flat_map};
 ghost use Rattle.std.specs.Fmt.{decimal};
 ghost use Rattle.cy_msg.specs.declared.token.Token.{Token};
@@ -11,6 +11,7 @@ ghost use Rattle.cy_trace.specs.TraceText.{seqs_text, call_line, call_lines, end
 ghost use Rattle.cy_trace.specs.TraceText.{component_text, tape_line};
 ghost use Rattle.cy_trace.specs.TapeLines.{tape_start, started_line};
 
+use crate::ending::Ending;
 use cy_comp::{Call, Kind, Out, Plan, is_finished, next_cursor};
 use cy_msg::{Bytes, Names, Token, Tuple, push_quoted};
 use itoa::{Buffer, Integer};
@@ -34,90 +35,111 @@ pub(crate) fn push_head(to: &mut Vec<u8>, played: u32, shadowed: u32) -> Result<
     to.extend_from_slice(b"\n")
 }
 
-// A value, where there is one.
-fn push_value(to: &mut Vec<u8>, value: Option<i64>) -> Result<(), AllocError>
-    ensures { OnOk result (to.new.items ≡ to.old.items ++ value_text value) }
+// A value in front of a line's end, where there is one.
+fn put_value(line: &mut Ending, value: Option<i64>)
+    requires { length line.old + 22 ≤ 256 }
+    ensures text { line.new ≡ value_text value ++ line.old }
+    ensures len { length line.new ≤ length line.old + 22 }
 {
-    match value {
-        None => Ok(()),
-        Some(value) => {
-            to.push(b'=')?;
-            push_number(to, value)
-        }
+    if let Some(value) = value {
+        line.signed(value);
+        line.byte(b'=');
     }
 }
 
 // What a call put out, behind so many earlier outputs.
-fn push_out(to: &mut Vec<u8>, before: usize, out: &Option<Out>) -> Result<(), AllocError>
-    requires { before + 1 < 2 ^ 64 }
-    ensures { OnOk result (to.new.items ≡ to.old.items ++ out_text before out.now) }
+fn put_out(line: &mut Ending, before: usize, out: &Option<Out>)
+    requires countable { before + 1 < 2 ^ 64 }
+    requires room { length line.old + 63 ≤ 256 }
+    ensures text { line.new ≡ out_text before out.now ++ line.old }
+    ensures len { length line.new ≤ length line.old + 63 }
 {
     match out {
-        None => to.extend_from_slice(b"-"),
+        None => line.byte(b'-'),
         Some(out) => {
-            push_number(to, before + 1)?;
-            to.push(b'@')?;
-            push_number(to, out.time)?;
-            push_value(to, out.whole)
+            put_value(line, out.whole);
+            line.number(out.time);
+            line.byte(b'@');
+            line.number(before as u64 + 1);
         }
     }
 }
 
 // The number of a message of a tuple.
-fn push_seq(to: &mut Vec<u8>, message: &Token) -> Result<(), AllocError>
-    ensures { OnOk result (to.new.items ≡ to.old.items ++ codes " " ++ decimal message.now.seq) }
+fn put_seq(line: &mut Ending, message: &Token)
+    requires { length line.old + 21 ≤ 256 }
+    ensures text { line.new ≡ codes " " ++ decimal message.now.seq ++ line.old }
+    ensures len { length line.new ≤ length line.old + 21 }
 {
-    to.push(b' ')?;
-    push_number(to, message.seq)
+    line.number(u64::from(message.seq));
+    line.byte(b' ');
 }
 
 // The numbers of the messages of a tuple.
-fn push_seqs(to: &mut Vec<u8>, tuple: &Tuple) -> Result<(), AllocError>
-    ensures { OnOk result (to.new.items ≡ to.old.items ++ seqs_text tuple.now) }
+fn put_seqs(line: &mut Ending, tuple: &Tuple)
+    requires { length line.old + 84 ≤ 256 }
+    ensures text { line.new ≡ seqs_text tuple.now ++ line.old }
+    ensures len { length line.new ≤ length line.old + 84 }
 {
     match tuple {
-        Tuple::One(a) => push_seq(to, a),
+        Tuple::One(a) => put_seq(line, a),
         Tuple::Two(a, b) => {
-            push_seq(to, a)?;
-            push_seq(to, b)
+            put_seq(line, b);
+            put_seq(line, a);
         }
         Tuple::Three(a, b, c) => {
-            push_seq(to, a)?;
-            push_seq(to, b)?;
-            push_seq(to, c)
+            put_seq(line, c);
+            put_seq(line, b);
+            put_seq(line, a);
         }
         Tuple::Four(a, b, c, d) => {
-            push_seq(to, a)?;
-            push_seq(to, b)?;
-            push_seq(to, c)?;
-            push_seq(to, d)
+            put_seq(line, d);
+            put_seq(line, c);
+            put_seq(line, b);
+            put_seq(line, a);
         }
     }
 }
 
+// A call, behind so many outputs of earlier calls, in front of nothing.
+fn put_call(line: &mut Ending, before: usize, call: &Call)
+    requires countable { before + 1 < 2 ^ 64 }
+    requires empty { line.old ≡ [] }
+    ensures { line.new ≡ call_line before call.now }
+{
+    line.byte(b'\n');
+    put_out(line, before, &call.out);
+    line.byte(b' ');
+    put_seqs(line, &call.tuple);
+    line.number(call.tail);
+    line.byte(b'/');
+    line.number(call.position);
+    line.word(b"call ");
+}
+
 // A call, behind so many outputs of earlier calls.
-fn push_call_line(to: &mut Vec<u8>, before: usize, call: &Call) -> Result<(), AllocError>
+fn push_call_line(
+    to: &mut Vec<u8>,
+    line: &mut Ending,
+    before: usize,
+    call: &Call,
+) -> Result<(), AllocError>
     requires { before + 1 < 2 ^ 64 }
     ensures { OnOk result (to.new.items ≡ to.old.items ++ call_line before call.now) }
 {
-    to.extend_from_slice(b"call ")?;
-    push_number(to, call.position)?;
-    to.push(b'/')?;
-    push_number(to, call.tail)?;
-    push_seqs(to, &call.tuple)?;
-    to.push(b' ')?;
-    push_out(to, before, &call.out)?;
-    to.push(b'\n')?;
-    Ok(())
+    line.clear();
+    put_call(line, before, call);
+    to.extend_from_slice(line.bytes())
 }
 
 // Calls, from a component's first one on.
 fn push_call_lines(to: &mut Vec<u8>, calls: &[Call]) -> Result<(), AllocError>
     ensures { OnOk result (to.new.items ≡ to.old.items ++ call_lines 0 calls.now) }
 {
+    let mut line = Ending::new();
     let mut before = 0;
     for call in calls {
-        push_call_line(to, before, call)?;
+        push_call_line(to, &mut line, before, call)?;
         if call.out.is_some() {
             before += 1;
         }
@@ -199,14 +221,20 @@ fn line_starts(alloc: Global, names: &Names) -> Result<Vec<Bytes>, AllocError>
 }
 
 // A message of the tape, where the lines of each channel begin so.
-fn push_tape_line(to: &mut Vec<u8>, starts: &[Bytes], token: &Token) -> Result<(), AllocError>
+fn push_tape_line(
+    to: &mut Vec<u8>,
+    line: &mut Ending,
+    starts: &[Bytes],
+    token: &Token,
+) -> Result<(), AllocError>
     requires { token.now.channel < length starts.now }
     ensures { OnOk result (to.new.items ≡ to.old.items ++ started_line starts.now token.now) }
 {
+    line.clear();
+    line.byte(b'\n');
+    line.number(u64::from(token.seq));
     to.extend_from_slice(starts[token.channel as usize].as_slice())?;
-    push_number(to, token.seq)?;
-    to.push(b'\n')?;
-    Ok(())
+    to.extend_from_slice(line.bytes())
 }
 
 // The messages of the tape.
@@ -220,8 +248,9 @@ pub(crate) fn push_tape_lines(
     ensures { OnOk result (to.new.items ≡ to.old.items ++ flat_map (tape_line names.now) tape.now) }
 {
     let starts = line_starts(alloc, names)?;
+    let mut line = Ending::new();
     for token in tape {
-        push_tape_line(to, &starts, token)?;
+        push_tape_line(to, &mut line, &starts, token)?;
     }
     Ok(())
 }
