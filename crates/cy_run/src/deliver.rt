@@ -6,13 +6,14 @@ ghost use Rattle.cy_run.specs.Sending.{Owes, delivered, fills_at, fills_in, news
 ghost use Rattle.cy_run.specs.Sending.{Fills, FillsOn, Tells, TellsOn, IsReadBy, is_first};
 
 use crate::Idle;
+use crate::pace::bit_of;
 use cy_comp::Wiring;
 use cy_msg::Token;
 use cy_table::{FlagTable, Pass};
 use std::sync::Wait;
 
 // Fills each reader of the message that the pass owes, looks at each component that it triggers,
-// and wakes the processors.
+// and tells the processors.
 pub(crate) fn deliver<R: Wait>(
     rt: &R,
     table: &FlagTable,
@@ -26,9 +27,11 @@ pub(crate) fn deliver<R: Wait>(
     ensures same { Stays table.now pass.old pass.new }
     ensures thread { thread_of pass.new ≡ knowing pass.old (delivered (seat_of pass.old)) }
 {
+    let triggered = triggered_by(token.channel, wiring);
     fill_all(rt, table, pass, token, wiring);
+    idle.open(triggered);
     tell_all(table, pass, token.channel, wiring);
-    idle.wake();
+    idle.tell(rt, triggered);
 }
 
 // Fills the readers of a message.
@@ -92,4 +95,15 @@ fn triggers(channel: u32, readers: &[u32]) -> bool
         Some(first) => *first == channel,
         None => false,
     }
+}
+
+// The components that a channel triggers, as a mask.
+pub(crate) fn triggered_by(channel: u32, wiring: &Wiring) -> u64 {
+    let mut triggered = 0;
+    for (component, plan) in wiring.plans.as_slice().iter().enumerate() {
+        if triggers(channel, plan.readers.as_slice()) {
+            triggered |= bit_of(component);
+        }
+    }
+    triggered
 }

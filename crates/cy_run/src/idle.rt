@@ -1,27 +1,16 @@
-// Where processors rest. No clause rests on it: what a processor does is known from its pass alone.
+// Where processors rest, and how the player keeps pace with them. No clause rests on it: what a
+// processor does is known from its pass alone.
 use crate::RunError;
+use crate::pace::{Pace, bits_of, lowest};
+use crate::patience::{LOOKS, Patience};
+use crate::place::{ASLEEP, AWAKE, AWAY, LOOKING, Place};
 use std::alloc::Global;
 use std::marker::Model;
-use std::sync::Wait;
-use std::sync::atomic::AtomicU64;
 use std::sync::atomic::Ordering::SeqCst;
-use std::thread;
+use std::sync::atomic::{AtomicBool, AtomicU64};
+use std::sync::{Mutex, Wait};
 use std::thread::Parker;
 use std::time::Duration;
-
-// The parts of `state`: how many processors rest, how many are at work or rest, and a number that
-// changes with all news.
-const ONE_RESTS: u64 = 1;
-
-const ONE_CAME: u64 = 1 << 8;
-
-const NEWS: u64 = 1 << 16;
-
-// How often a thread looks for what it waits for before it sleeps, which is some microseconds; and
-// how often the player does so, and lets another thread run, before it begins all the same.
-const LOOKS: u32 = 5000;
-
-const ROUNDS: u32 = 200;
 
 // How many milliseconds the player rests before it looks again, and how often it does so before it
 // plays on.
@@ -29,20 +18,25 @@ const PAUSE: u64 = 10;
 
 const PAUSES: u32 = 100;
 
-/// The parkers of the processors of a run. Contracts see it as their number.
+/// The places of the processors of a run. Contracts see it as their number.
 ///
-/// A processor that finds nothing to do rests until there is news: a message that may have woken a
-/// croutine, or the end of the play. When the play has ended, processors go as soon as all that came
-/// rest and there was no news since, so none goes while another one may still send to it.
+/// A processor that finds nothing to do rests until it is called: by a message that triggers a
+/// component of its context while no other processor of that context is awake, or by the end of the
+/// play. When the play has ended, processors go as soon as all that came rest, so none goes while
+/// another one may still send to it.
 ///
 /// The player begins when all have come, for which it waits a bounded time, since there may be no
-/// thread to be had. Where it is ahead of them by some messages it rests until all that came rest,
-/// a second at most, so that they skip little.
+/// thread to be had. Where it is ahead of them by some messages it rests until the components have
+/// fetched what came to them, a second at most, so that they skip little.
 #[derive(Drop)]
 pub struct Idle {
-    parkers: Vec<Parker>,
+    places: Vec<Place>,
+    door: Mutex<()>,
+    news: AtomicU64,
+    pace: Pace,
     player: Parker,
-    state: AtomicU64,
+    resting: AtomicBool,
+    patience: Patience,
 }
 
 impl Model for Idle {
@@ -50,192 +44,259 @@ impl Model for Idle {
 
     ghost Value = { ℕ };
 
-    ghost view = { λ s. vec_len s.parkers };
+    ghost view = { λ s. vec_len s.places };
 }
 
 impl Idle {
     ghost use Rattle.std.specs.Prelude.{◌≡◌, ◌<◌, IfOk};
 
-    /// A parker for each of so many processors. Its only error is `Memory`.
+    /// A place for each of so many processors. Its only error is `Memory`.
     pub fn new(alloc: Global, processors: u32) -> Result<Self, RunError>
         ensures { IfOk result (λ s. s ≡ processors) }
     {
-        let mut parkers = Vec::with_capacity(alloc, processors as usize)?;
+        let mut places = Vec::with_capacity(alloc, processors as usize)?;
         for _ in 0..processors {
-            parkers.push_reserved(Parker::new());
+            places.push_reserved(Place::new());
         }
         Ok(Idle {
-            parkers,
+            places,
+            door: Mutex::new(()),
+            news: AtomicU64::new(0),
+            pace: Pace::new(alloc)?,
             player: Parker::new(),
-            state: AtomicU64::new(0),
+            resting: AtomicBool::new(false),
+            patience: Patience::new(),
         })
     }
 
-    // A processor comes, which is news.
-    pub(crate) fn enter(&self) {
-        let came = |state: u64| Some(with_news(state).wrapping_add(ONE_CAME));
-        let _before = self.state.fetch_update(SeqCst, SeqCst, came);
-        self.unpark_all();
+    // A processor comes, which serves these components.
+    pub(crate) fn enter(&self, me: u32, components: &[u32])
+        requires { me < self.now }
+    {
+        let serves = bits_of(components);
+        self.places[me as usize].come(serves);
+        self.pace.serve(serves);
+        self.player.unpark();
     }
 
     // The news so far, which a processor asks for before it scans.
     pub(crate) fn news(&self) -> u64 {
-        self.state.load(SeqCst) / NEWS
+        self.news.load(SeqCst)
     }
 
-    // There is news: nobody rests.
-    pub(crate) fn wake(&self) {
-        let before = self
-            .state
-            .fetch_update(SeqCst, SeqCst, |state| Some(with_news(state)));
-        if before.is_ok_and(|state| resting_in(state) > 0) {
-            self.unpark_all();
+    // Components have something to do, which is said before they are looked at: so one that has done
+    // it by then is resumed once more, and closed.
+    pub(crate) fn open(&self, components: u64) {
+        if components != 0 {
+            self.pace.open(components);
         }
     }
 
-    // The player waits until all processors came, for so many rounds at most.
-    pub(crate) fn await_all(&self) {
-        for _ in 0..ROUNDS {
-            if self.have_come() {
-                return;
-            }
-            thread::yield_now();
+    // There is news for components, which were looked at: a processor that is awake scans them again
+    // before it rests, since it compares the news, and where none is awake one that rests is called.
+    pub(crate) fn tell<R: Wait>(&self, rt: &R, components: u64) {
+        if components != 0 {
+            self.news.fetch_add(1, SeqCst);
+            self.call_for(rt, components);
         }
     }
 
-    // Whether all processors come while it looks.
-    fn have_come(&self) -> bool {
-        for _ in 0..LOOKS {
-            if came_in(self.state.load(SeqCst)) >= self.parkers.len() as u64 {
+    // A component has nothing to do any more; or it sleeps until the clock is at this time.
+    pub(crate) fn close(&self, component: u32) {
+        self.pace.close(component);
+        self.tell_player();
+    }
+
+    pub(crate) fn sleep(&self, component: u32, first: u64) {
+        self.pace.sleep(component, first);
+        self.tell_player();
+    }
+
+    // It sleeps no more.
+    pub(crate) fn wake(&self, component: u32) {
+        self.pace.wake(component);
+    }
+
+    fn tell_player(&self) {
+        if self.resting.load(SeqCst) && self.pace.busy() == 0 {
+            self.player.unpark();
+        }
+    }
+
+    // The player set the clock, which is news for those whose sleep that ended.
+    pub(crate) fn heed_clock<R: Wait>(&self, rt: &R, clock: u64) {
+        let due = self.pace.tick(clock);
+        self.tell(rt, due);
+    }
+
+    // The player has set the run closing: all processors are to find that. None waits for the player
+    // from now on, so one is called for each component that has news.
+    pub(crate) fn tell_closing<R: Wait>(&self, rt: &R) {
+        self.resting.store(true, SeqCst);
+        self.news.fetch_add(1, SeqCst);
+        let _door = self.door.lock(rt);
+        self.call_all(AWAKE);
+    }
+
+    // Whether some processor does this.
+    fn is_any(&self, state: u64) -> bool {
+        for place in &self.places {
+            if place.is(state) {
                 return true;
             }
         }
         false
     }
 
-    // How far the player is ahead after one message more: by none, where all that came rest. Where
-    // it is ahead by the lead it rests until they do.
-    pub(crate) fn keep_pace<R: Wait>(&self, rt: &R, ahead: u32, lead: u32) -> u32 {
-        if all_rest_in(self.state.load(SeqCst)) {
-            return 0;
+    fn call_all(&self, state: u64) {
+        for place in &self.places {
+            place.call(state);
         }
-        let now = ahead.saturating_add(1);
-        if now < lead {
-            return now;
-        }
-        self.await_rest(rt);
-        0
     }
 
-    // The player rests until all that came rest, of which the last one wakes it, or until some time
-    // has passed: a gate may hold a component until another one is called.
-    fn await_rest<R: Wait>(&self, rt: &R) {
+    // Calls processors that rest for components: one for each context that has nobody awake. Where
+    // the player rests too, calls take long enough for one to be called for each component.
+    fn call_for<R: Wait>(&self, rt: &R, components: u64) {
+        let each = self.resting.load(SeqCst);
+        if self.left_to_resting(components, each) == 0 {
+            return;
+        }
+        let _door = self.door.lock(rt);
+        let left = self.left_to_resting(components, each);
+        let left = self.call_those(LOOKING, left, each);
+        self.call_those(ASLEEP, left, each);
+    }
+
+    // The components that processors serve which rest, and, but where one is called for each, none
+    // that is awake.
+    fn left_to_resting(&self, components: u64, each: bool) -> u64 {
+        let mut awake = 0;
+        let mut resting = 0;
+        for place in &self.places {
+            let serves = place.serves(components);
+            if place.rests() {
+                resting |= serves;
+            } else if !each && place.is(AWAKE) {
+                awake |= serves;
+            }
+        }
+        resting & !awake
+    }
+
+    // Calls those that rest so, and tells which components are left.
+    fn call_those(&self, state: u64, components: u64, each: bool) -> u64 {
+        let mut left = components;
+        for place in &self.places {
+            let serves = place.serves(left);
+            if serves != 0 && place.is(state) {
+                place.call(AWAKE);
+                let called = if each { lowest(serves) } else { serves };
+                left &= !called;
+            }
+        }
+        left
+    }
+
+    // The player waits until all processors came, for so long at most.
+    pub(crate) fn await_all<R: Wait>(&self, rt: &R) {
         for _ in 0..PAUSES {
-            if self.come_to_rest() {
+            if self.have_come() {
                 return;
             }
             self.player.park_timeout(rt, Duration::from_millis(PAUSE));
         }
     }
 
-    // Whether all that came rest while it looks.
-    fn come_to_rest(&self) -> bool {
+    // Whether all processors come while it looks.
+    fn have_come(&self) -> bool {
         for _ in 0..LOOKS {
-            if all_rest_in(self.state.load(SeqCst)) {
+            if !self.is_any(AWAY) {
                 return true;
             }
         }
         false
     }
 
-    // Whether there is news that was not seen, while it looks.
-    fn hears(&self, seen: u64) -> bool {
-        for _ in 0..LOOKS {
-            if self.news() != seen {
-                return true;
+    // Whether components wake when the clock is at this time.
+    pub(crate) fn is_due(&self, clock: u64) -> bool {
+        self.pace.due(clock) != 0
+    }
+
+    // By how many messages the player is ahead after one message more, which triggers a component or
+    // wakes one: by this one, where none is busy. Where it is ahead by the lead it waits for that.
+    pub(crate) fn keep_pace<R: Wait>(&self, rt: &R, ahead: u32, lead: u32) -> u32 {
+        if self.pace.busy() == 0 {
+            return 1;
+        }
+        if ahead < lead {
+            return ahead.saturating_add(1);
+        }
+        if !self.ends_soon() {
+            self.await_end(rt);
+        }
+        1
+    }
+
+    // Whether no component is busy any more while the player looks.
+    fn ends_soon(&self) -> bool {
+        if self.patience.may_look() {
+            for _ in 0..LOOKS {
+                if self.pace.busy() == 0 {
+                    return true;
+                }
             }
+            self.patience.lose();
         }
         false
     }
 
-    // A processor that scanned in vain rests until there is news that it has not seen, and then
-    // stays. It goes, which is true, where all that came rest and it found the play closing.
+    // The player rests until no component is busy, or until some time has passed: a gate may hold a
+    // component until another one is called.
+    fn await_end<R: Wait>(&self, rt: &R) {
+        self.resting.store(true, SeqCst);
+        for _ in 0..PAUSES {
+            let busy = self.pace.busy();
+            if busy == 0 {
+                break;
+            }
+            self.call_for(rt, busy);
+            self.player.park_timeout(rt, Duration::from_millis(PAUSE));
+        }
+        self.resting.store(false, SeqCst);
+    }
+
+    // A processor that scanned in vain rests until it is called, and then stays. It goes, which is
+    // true, where all that came rest and it found the play closing.
     pub(crate) fn rest<R: Wait>(&self, rt: &R, me: u32, seen: u64, closing: bool) -> bool
         requires { me < self.now }
     {
-        if !self.comes_to_rest(seen) {
+        let place = &self.places[me as usize];
+        if !self.comes_to_rest(rt, place, seen, closing) {
             return false;
         }
-        for _ in rt.forever() {
-            if self.news() != seen {
-                return false;
-            }
-            if closing && self.goes(seen) {
-                self.unpark_all();
-                return true;
-            }
-            if !self.hears(seen) {
-                self.parkers[me as usize].park(rt);
-            }
+        place.await_call(rt);
+        if place.is(AWAKE) {
+            return false;
         }
-        unreachable!()
-    }
-
-    // One processor more rests, where there is no news that it has not seen. The last one wakes the
-    // player.
-    fn comes_to_rest(&self, seen: u64) -> bool {
-        let rested = |state: u64| {
-            if state / NEWS == seen {
-                Some(state.wrapping_add(ONE_RESTS))
-            } else {
-                None
-            }
-        };
-        match self.state.fetch_update(SeqCst, SeqCst, rested) {
-            Ok(before) => {
-                if all_rest_in(before.wrapping_add(ONE_RESTS)) {
-                    self.player.unpark();
-                }
-                true
-            }
-            Err(_) => false,
+        if !closing {
+            place.begin(AWAKE);
         }
+        closing
     }
 
-    // One that rests goes, where all rest and there is no news that it has not seen.
-    fn goes(&self, seen: u64) -> bool {
-        let left = |state: u64| {
-            if state / NEWS == seen && all_rest_in(state) {
-                Some(state.wrapping_sub(ONE_RESTS + ONE_CAME))
-            } else {
-                None
-            }
-        };
-        self.state.fetch_update(SeqCst, SeqCst, left).is_ok()
-    }
-
-    fn unpark_all(&self) {
-        for parker in &self.parkers {
-            parker.unpark();
+    // One processor more rests, where there is no news that it has not seen. It says so before it
+    // compares the news, and who has news counts it before it looks who rests: so one of the two
+    // sees the other. The last one calls all to go, when the run is closing.
+    fn comes_to_rest<R: Wait>(&self, rt: &R, place: &Place, seen: u64, closing: bool) -> bool {
+        let _door = self.door.lock(rt);
+        place.begin(LOOKING);
+        if self.news() != seen {
+            place.begin(AWAKE);
+            return false;
         }
+        if closing && !self.is_any(AWAKE) {
+            self.call_all(AWAY);
+        }
+        true
     }
-}
-
-// How many processors rest in a state, and how many came and did not go.
-fn resting_in(state: u64) -> u64 {
-    state % ONE_CAME
-}
-
-fn came_in(state: u64) -> u64 {
-    state / ONE_CAME % (NEWS / ONE_CAME)
-}
-
-// Whether all processors that came rest.
-fn all_rest_in(state: u64) -> bool {
-    resting_in(state) == came_in(state)
-}
-
-// The state with news, in which nobody rests.
-fn with_news(state: u64) -> u64 {
-    state.wrapping_sub(resting_in(state)).wrapping_add(NEWS)
 }

@@ -6,7 +6,7 @@ ghost use Rattle.cy_run.specs.Passes.{IsMadeOf};
 ghost use Rattle.cy_run.specs.Playing.{IsFreePlayer, IsNextFor, after_play, IsToBePlayed, IsPlayed};
 
 use crate::Idle;
-use crate::deliver::deliver;
+use crate::deliver::{deliver, triggered_by};
 use cy_comp::Wiring;
 use cy_msg::{PlayList, Token};
 use cy_table::{FlagTable, Pass};
@@ -29,16 +29,17 @@ pub(crate) fn play_all<R: Wait>(
     ensures played { IsPlayed table.now list.now.tokens player.old player.new }
 {
     laws::put();
-    idle.await_all();
+    idle.await_all(rt);
     let lead = least_queue(wiring);
     let mut ahead = 0;
     for token in list.tokens.as_slice() {
+        ahead = keep_pace(rt, token, idle, wiring, ahead, lead);
         play(rt, table, player, token, idle, wiring);
-        ahead = idle.keep_pace(rt, ahead, lead);
     }
     table.tick(player, u64::MAX);
+    idle.heed_clock(rt, u64::MAX);
     table.set_closing(player);
-    idle.wake();
+    idle.tell_closing(rt);
 }
 
 // How many tuples the buffer of each component keeps at least: a player that is ahead by more may
@@ -49,6 +50,22 @@ fn least_queue(wiring: &Wiring) -> u32 {
         least = least.min(plan.queue);
     }
     least
+}
+
+// By how many messages the player is ahead of the components once it has played this one, before
+// which it waits for them where it must. A message that triggers none and wakes none may come early.
+fn keep_pace<R: Wait>(
+    rt: &R,
+    token: &Token,
+    idle: &Idle,
+    wiring: &Wiring,
+    ahead: u32,
+    lead: u32,
+) -> u32 {
+    if triggered_by(token.channel, wiring) == 0 && !idle.is_due(token.time) {
+        return ahead;
+    }
+    idle.keep_pace(rt, ahead, lead)
 }
 
 // Plays the next message: the clock is set to its time, and it is taped and delivered.
@@ -68,6 +85,7 @@ fn play<R: Wait>(
     ensures bound { (seat_of player.new).clock ≤ last_clock }
 {
     table.tick(player, token.time);
+    idle.heed_clock(rt, token.time);
     table.tape(rt, player, *token);
     deliver(rt, table, player, *token, idle, wiring);
 }

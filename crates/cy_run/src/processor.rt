@@ -30,7 +30,7 @@ pub fn work<G: Gate, R: Wait>(
     ensures free { IsFree table.now pass.new }
     ensures over { EndsInVain context.now (seat_of pass.new).note }
 {
-    idle.enter();
+    idle.enter(me, context.order());
     for _ in rt.forever() {
         let seen = idle.news();
         let closing = table.closing(pass);

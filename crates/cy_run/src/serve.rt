@@ -8,7 +8,7 @@ ghost use Rattle.cy_table.specs.Calls.{Stays, IsStepped, ShowsTheSame, routine_o
 ghost use Rattle.cy_run.specs.Passes.{IsMadeOf, IsFree, IsInPhase};
 ghost use Rattle.cy_run.specs.Serving.{IsReady, HoldsNone, MaySendOut, IsSent, IsSentOut};
 
-use crate::deliver::deliver;
+use crate::deliver::{deliver, triggered_by};
 use crate::{Gate, Idle};
 use cy_comp::{Outcome, State, Wiring};
 use cy_msg::Tuple;
@@ -52,6 +52,7 @@ fn resume<G: Gate, R: Wait>(
 {
     match hold.token() {
         Some(_) => {
+            idle.wake(hold.component());
             send(rt, table, pass, hold, idle, wiring);
             table.yield_as(pass, hold, State::Ready);
         }
@@ -77,10 +78,45 @@ fn call<G: Gate, R: Wait>(
     table.ask(pass, hold);
     match table.fetch(rt, pass, hold) {
         Some(tuple) => {
+            let end = end_of(hold.component(), wiring);
+            close_if(matches!(end, End::Fetch), hold.component(), idle);
             let outcome = step(rt, hold, &tuple, gate);
             follow(rt, table, pass, hold, &outcome, idle, wiring);
+            close_if(matches!(end, End::Call), hold.component(), idle);
         }
-        None => table.yield_as(pass, hold, State::DataWait),
+        None => {
+            idle.close(hold.component());
+            table.yield_as(pass, hold, State::DataWait);
+        }
+    }
+}
+
+// When a component that has fetched a tuple has nothing more to do: at once, where its buffer keeps
+// no other one and its output triggers none; when its output was sent; or when it fetches in vain.
+#[derive(Clone, Copy)]
+enum End {
+    Fetch,
+    Call,
+    Vain,
+}
+
+fn end_of(component: u32, wiring: &Wiring) -> End {
+    match wiring.plans.as_slice().get(component as usize) {
+        Some(plan) if plan.queue == 1 => {
+            if triggered_by(plan.out, wiring) == 0 {
+                End::Fetch
+            } else {
+                End::Call
+            }
+        }
+        _ => End::Vain,
+    }
+}
+
+// A component has nothing more to do, if it has ended.
+fn close_if(ended: bool, component: u32, idle: &Idle) {
+    if ended {
+        idle.close(component);
     }
 }
 
@@ -115,7 +151,18 @@ fn follow<R: Wait>(
     ensures done { IsInPhase table.now Done pass.new hold.new }
 {
     send_out(rt, table, pass, hold, outcome, idle, wiring);
+    sleep_after(outcome, hold.component(), idle);
     table.yield_as(pass, hold, state_of(outcome));
+}
+
+// A component that holds its output sleeps until the clock is past that time, and one that has ended
+// for ever.
+fn sleep_after(outcome: &Outcome, component: u32, idle: &Idle) {
+    match *outcome {
+        Outcome::Emit(_) => {}
+        Outcome::Hold { until, .. } => idle.sleep(component, until.saturating_add(1)),
+        Outcome::Last(_) => idle.sleep(component, u64::MAX),
+    }
 }
 
 // Sends the output of the call, where there is one that isn't held back.

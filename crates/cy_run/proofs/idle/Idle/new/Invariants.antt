@@ -2,4 +2,4 @@ use Rattle.std.proofs.Common.{◌≡◌, ◌≤◌, vec_len, vec_capacity}
 use Rattle.cy_run.proofs.idle.Idle.new.Given as goal
 
 abbrev pub invariant-loop : goal.invariant-loop
-invariant-loop l = (vec_len l.parkers ≡ l.counter) × (l.processors ≤ vec_capacity l.parkers)
+invariant-loop l = (vec_len l.places ≡ l.counter) × (l.processors ≤ vec_capacity l.places)
