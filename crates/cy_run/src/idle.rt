@@ -84,16 +84,17 @@ impl Idle {
         self.news.load(SeqCst)
     }
 
-    // Components have something to do, which is said before they are looked at: so one that has done
-    // it by then is resumed once more, and closed.
+    // Components have something to do, which is said when they were filled and before they are
+    // looked at: so one that has done it by then is resumed once more, and closed.
     pub(crate) fn open(&self, components: u64) {
         if components != 0 {
             self.pace.open(components);
         }
     }
 
-    // There is news for components, which were looked at: a processor that is awake scans them again
-    // before it rests, since it compares the news, and where none is awake one that rests is called.
+    // There is news for components, which were looked at: a processor that is awake scans them
+    // again before it rests, since it compares the news; where none is awake one that rests is
+    // called.
     pub(crate) fn tell<R: Wait>(&self, rt: &R, components: u64) {
         if components != 0 {
             self.news.fetch_add(1, SeqCst);
@@ -129,8 +130,8 @@ impl Idle {
         self.tell(rt, due);
     }
 
-    // The player has set the run closing: all processors are to find that. None waits for the player
-    // from now on, so one is called for each component that has news.
+    // The player has set the run closing: all processors are to find that. It doesn't wait for
+    // them any more, so one is called for each component that has news.
     pub(crate) fn tell_closing<R: Wait>(&self, rt: &R) {
         self.resting.store(true, SeqCst);
         self.news.fetch_add(1, SeqCst);
@@ -222,8 +223,9 @@ impl Idle {
         self.pace.due(clock) != 0
     }
 
-    // By how many messages the player is ahead after one message more, which triggers a component or
-    // wakes one: by this one, where none is busy. Where it is ahead by the lead it waits for that.
+    // By how many messages the player is ahead after one message more, which triggers a component
+    // or wakes one: by this one, where none is busy. Where it is ahead by the lead it waits for
+    // that.
     pub(crate) fn keep_pace<R: Wait>(&self, rt: &R, ahead: u32, lead: u32) -> u32 {
         if self.pace.busy() == 0 {
             return 1;

@@ -70,8 +70,8 @@ impl Pace {
         self.asleep.fetch_and(!bit_of(component as usize), SeqCst);
     }
 
-    // The clock was set. The components whose sleep that ended, which are open from now on. One that
-    // was woken meanwhile may have done all by now, so it isn't opened: nobody would close it.
+    // The clock was set. The components whose sleep that ended, which are open from now on. One
+    // that was woken meanwhile may have done all by now, so it isn't opened: nobody would close it.
     pub(crate) fn tick(&self, clock: u64) -> u64 {
         self.clock.store(clock, SeqCst);
         let due = self.due(clock);

@@ -8,8 +8,9 @@ pub(crate) const LOOKS: u32 = 10_000;
 
 const LEFT_OUT: u64 = 7;
 
-// A sleep and a wake take longer than most calls, so a thread looks first. Where other programs keep
-// the machine busy, or calls are long, looks are in vain, and in the way of those that are waited for.
+// A sleep and a wake take longer than most calls, so a thread looks first. Where other programs
+// keep the machine busy, or calls are long, looks are in vain, and in the way of those that are
+// waited for.
 #[derive(Drop)]
 pub(crate) struct Patience {
     left_out: AtomicU64,

@@ -53,7 +53,7 @@ fn least_queue(wiring: &Wiring) -> u32 {
 }
 
 // By how many messages the player is ahead of the components once it has played this one, before
-// which it waits for them where it must. A message that triggers none and wakes none may come early.
+// which it waits for them where it must. One that triggers none and wakes none may come early.
 fn keep_pace<R: Wait>(
     rt: &R,
     token: &Token,

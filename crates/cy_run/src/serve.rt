@@ -155,8 +155,8 @@ fn follow<R: Wait>(
     table.yield_as(pass, hold, state_of(outcome));
 }
 
-// A component that holds its output sleeps until the clock is past that time, and one that has ended
-// for ever.
+// A component that holds its output sleeps until the clock is past that time, and one that has
+// ended for ever.
 fn sleep_after(outcome: &Outcome, component: u32, idle: &Idle) {
     match *outcome {
         Outcome::Emit(_) => {}
