@@ -1,5 +1,5 @@
 -- How `make` ends, at each place where it may.
-use Rattle.std.proofs.Common.{ℕ, true, ◌≡◌, ◌<◌, List, [], ◌∷◌, ◌++◌, Option, Some, None, Result, Ok, Err, IsErrOf, IfSome, codes, refl, sym, ap, subst, ◌∙◌, inl, inr, arith, append_assoc}
+use Rattle.std.proofs.Common.{ℕ, true, ◌≡◌, ◌<◌, List, ◌++◌, Option, Some, Err, IsErrOf, IfSome, codes, refl, sym, ap, subst, ◌∙◌, inl, inr, arith, append_assoc}
 use Rattle.std.specs.Option.{option_map}
 use Rattle.std.specs.FinMap.{empty}
 use Rattle.cy_store.specs.Files.{Files}

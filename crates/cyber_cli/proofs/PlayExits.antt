@@ -1,5 +1,5 @@
 -- How `play` ends, at each place where it may.
-use Rattle.std.proofs.Common.{ℕ, ◌≡◌, List, [], ◌∷◌, Option, IfSome, Result, Ok, Err, IsErrOf, refl, sym, ap, subst, ◌∙◌, inl, inr, arith}
+use Rattle.std.proofs.Common.{ℕ, ◌≡◌, List, [], ◌∷◌, Option, IfSome, Ok, Err, IsErrOf, refl, sym, ap, subst, ◌∙◌, inl, inr, arith}
 use Rattle.std.specs.Option.{option_map}
 use Rattle.std.specs.FinMap.{insert}
 use Rattle.cy_store.specs.Files.{Files}
@@ -13,10 +13,9 @@ use Rattle.wake_core.specs.Rest.{run_shown}
 use Rattle.cy_replay.specs.declared.error.SetupError.{SetupError}
 use Rattle.cy_replay.specs.declared.error.SetupError.TheVariants as setup
 use Rattle.cy_replay.specs.declared.setup.Replay.{Replay}
-use Rattle.cy_replay.specs.Comes.{ComesTo}
 use Rattle.cy_writer.specs.RecordWrites.{file_writes, record_puts}
 use Rattle.cy_replay.specs.Recording.{channels_of_tape, chunks_of_tape}
-use Rattle.cy_replay.specs.Setup.{IsAsked, IsSetUp, replayed}
+use Rattle.cy_replay.specs.Setup.{IsSetUp, replayed}
 use Rattle.cy_writer.proofs.RecordBytes.{after_record, after_file}
 use Rattle.cy_replay.proofs.TapeText.{record_text}
 use Rattle.cyber_cli.specs.declared.failure.File.{File}

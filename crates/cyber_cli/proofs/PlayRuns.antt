@@ -1,6 +1,5 @@
 -- A replay that was played, and what is told of it.
 use Rattle.std.proofs.Common.{ℕ, zero, suc, Bool, true, false, ◌+◌, ◌*◌, ◌≡◌, ◌≤◌, ◌<◌, List, [], ◌∷◌, length, drop, refl, sym, ap, subst, ◌∙◌, arith}
-use Rattle.std.proofs.lemmas.List.{drop_all}
 use Rattle.cy_msg.specs.Placement.{scan_of}
 use Rattle.cy_reader.specs.declared.filter.Filter.{Filter}
 use Rattle.cy_comp.specs.declared.plan.Plan.{Plan}
@@ -89,9 +88,3 @@ calls_more run plans component count here c inside is small =
     let next : component + 1 ≡ suc component = omega arith in
     let step = calls_step run plans component component inside ∙ ap (λ (n : ℕ). length (run.calls component) + calls_from run (component + 1) (drop n plans)) (sym next) in
     record { few = omega (arith, few, small); so_far = omega (arith, so_far, step, is) }
-
-pub all_calls : (run : Run) (plans : List Plan) (component count : ℕ) → CallsSoFar run plans component count → length plans ≤ component → count ≡ calls_from run 0 plans
-all_calls run plans component count c long =
-    let so_far = c.so_far in
-    let none : calls_from run component (drop component plans) ≡ 0 = ap (calls_from run component) (drop_all component plans long) in
-    omega (arith, so_far, none)

@@ -88,10 +88,6 @@ pub first_done : (w : PlayWords) (s : Source) (tape is : List Token) (old mid : 
     → mid.files ≡ option_map (after_writes (file_writes w.output (puts_of w s is))) old.files
 first_done w s tape is old mid same done = done ∙ ap (λ (t : List Token). option_map (after_writes (file_writes w.output (puts_of w s t))) old.files) same
 
--- and there is no memory for the trace or the line
-pub between_starves : (xs more : List Write) (old mid : StoreView) → mid.files ≡ option_map (after_writes xs) old.files → StopsBefore (xs ++ more) old.files mid.files
-between_starves xs more old mid done = record { before = xs; later = more; split = refl; left = done }
-
 -- and then those of the trace failed
 pub second_fails : (w : PlayWords) (xs : List Write) (text trace : List ℕ) (old mid new : StoreView) (error : WriteError) (found : Failure) → text ≡ trace → mid.files ≡ option_map (after_writes xs) old.files → Blames file.Trace error found
     → (IsErrOf {T = Unit {0}} (Err error) write_error.Broken → ⊥) → Makes {T = Unit {0}} (file_writes w.trace ((0, text) ∷ [])) mid new (Err error)

@@ -1,5 +1,5 @@
 -- What `make` makes.
-use Rattle.std.specs.Prelude.{ℕ, ◌≡◌, ◌++◌, true, codes, List, Some, None}
+use Rattle.std.specs.Prelude.{◌≡◌, ◌++◌, true, codes, Some, None}
 use Rattle.std.specs.FinMap.{empty}
 use Rattle.cy_store.specs.Files.{Files}
 use Rattle.cy_store.specs.Write.{after_writes}

@@ -1,5 +1,5 @@
 use Rattle.wake_core.specs.WorldOf.{plain_of}
-use Rattle.cyber_cli.specs.PlayViews.{play_words_of}
+use Rattle.cy_words.specs.PlayViews.{play_words_of}
 use Rattle.cyber_cli.proofs.PlayExits.{done, stopped}
 use Rattle.cyber_cli.proofs.commands.play.due_played.Goals as goal
 
