@@ -6,10 +6,12 @@ work=$(mktemp -d)
 trap 'rm -rf "$work"' EXIT
 . "$top/bench/measure.sh"
 
-"$top/cyber" make 1000000 "$work/m"
-"$top/cyber" info "$work/m.record"
+# The names are short, since `info` prints the one that it is given.
+cd "$work"
+"$top/cyber" make 1000000 m
+"$top/cyber" info m.record
 
-bytes=$(stat -c %s "$work/m.record")
+bytes=$(stat -c %s m.record)
 # The program itself, since the launcher first looks whether it is up to date.
-measure "cyber info" "$bytes" "$top/crates/cyber/out/cyber" info "$work/m.record"
-measure "cat of the record" "$bytes" cat "$work/m.record"
+measure "cyber info" "$bytes" "$top/crates/cyber/out/cyber" info m.record
+measure "cat of the record" "$bytes" cat m.record
