@@ -532,6 +532,19 @@ refuses_the_words check --dag a --dag b
 refuses_the_words check --dag a --sched b c
 refuses_the_words check -dag a
 refuses_the_words check --dag a --plan b
+# Words that parsers of command lines take.
+refuses_the_words --
+refuses_the_words --help
+refuses_the_words help
+refuses_the_words -V
+refuses_the_words check --help
+refuses_the_words check --dag=-x
+refuses_the_words check --da a
+refuses_the_words check --dag a --
+refuses_the_words check -- --dag a
+refuses_the_words info -h
+refuses_the_words info -- a
+refuses_the_words make -- 4 m
 
 # All four names that `play` needs, and words that are none of its form beside them.
 refuses_a_play() { # the words behind the four names
