@@ -2,16 +2,18 @@
 ghost use Rattle.std.specs.Prelude.{◌≡◌};
 ghost use Rattle.cy_table.specs.Hold.{outputs_in};
 
+use crate::pass::TableError;
 use cy_comp::{Call, Out, Outcome, Routine, State};
 use cy_fuse::Cursor;
 use cy_msg::Tuple;
+use std::alloc::Global;
 use std::marker::Model;
 
-/// The routine of a component, with how many outputs its calls have. Contracts see it as the
-/// `RoutineView` of its routine.
+/// The routine of a component, with how many outputs its calls have. It goes from thread to thread
+/// as a pointer. Contracts see it as the `RoutineView` of its routine.
 #[derive(Drop)]
 pub struct CountedRoutine {
-    routine: Routine,
+    routine: Box<Routine>,
     outputs: u32,
 }
 
@@ -22,32 +24,33 @@ impl Model for CountedRoutine {
 
     ghost Value = { RoutineView };
 
-    ghost view = { λ r. r.routine };
+    ghost view = { λ r. r.routine.value };
 
-    ghost invariant = { λ r. r.outputs ≡ outputs_in r.routine.calls };
+    ghost invariant = { λ r. r.outputs ≡ outputs_in r.routine.value.calls };
 }
 
 impl CountedRoutine {
-    ghost use Rattle.std.specs.Prelude.{◌≡◌, ◌≤◌, ◌<◌, length, None, IsSome};
+    ghost use Rattle.std.specs.Prelude.{◌≡◌, ◌≤◌, ◌<◌, length, None, IsSome, IfOk};
     ghost use Rattle.cy_comp.specs.declared.state.State.TheVariants as states;
     ghost use Rattle.cy_comp.specs.Calls.{cursor_after};
     ghost use Rattle.cy_comp.specs.Routine.{MayTake, answer_to, taken as after_call};
     ghost use Rattle.wake_core.specs.declared.entries.TheConstants.{MOST_PLANNED};
 
-    // A routine, whose outputs are counted once.
-    pub(crate) fn new(routine: Routine) -> Self
+    // A routine, whose outputs are counted once. Its only error is `Memory`.
+    pub(crate) fn new(alloc: Global, routine: Routine) -> Result<Self, TableError>
         requires { length routine.calls ≤ MOST_PLANNED }
-        ensures { result ≡ routine }
+        ensures { IfOk result (λ r. r ≡ routine) }
     {
         let outputs = count(routine.calls()) as u32;
-        CountedRoutine { routine, outputs }
+        let routine = Box::new(alloc, routine)?;
+        Ok(CountedRoutine { routine, outputs })
     }
 
     // The routine alone.
     pub(crate) fn into_routine(self) -> Routine
         ensures { result ≡ self }
     {
-        self.routine
+        Box::into_inner(self.routine)
     }
 
     pub(crate) fn state(&self) -> State

@@ -7,6 +7,7 @@
 //! each step is one event of that world, or none; they are the contracts of [`laws`].
 #![tactic(auto)]
 
+mod boxed_visitor;
 mod counted_routine;
 mod hold;
 pub mod laws;

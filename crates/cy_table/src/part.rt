@@ -1,10 +1,10 @@
 // What the slots of the table hold.
+use crate::boxed_visitor::BoxedVisitor;
 use crate::counted_routine::CountedRoutine;
-use cy_fuse::Visitor;
 use cy_msg::Token;
 use std::marker::Model;
 
-/// What a slot holds.
+/// What a slot holds. It is exchanged whole, so what is long in it is behind a pointer.
 #[derive(Drop)]
 pub enum Part {
     /// What belongs here is with the thread that took it.
@@ -12,7 +12,7 @@ pub enum Part {
     /// The routine of a component.
     Routine(CountedRoutine),
     /// The visitor of a component.
-    Visitor(Visitor),
+    Visitor(BoxedVisitor),
     /// The messages that were sent.
     Tape(Tape),
 }

@@ -4,7 +4,7 @@ ghost use Rattle.std.specs.Prelude.{◌≡◌};
 use crate::part::Part;
 use crate::view::View;
 use atomic_table::Seat;
-use std::alloc::AllocError;
+use std::alloc::{AllocError, AllocFailed};
 use thiserror::Error;
 use wake_core::CoreError;
 
@@ -39,6 +39,12 @@ pub enum TableError {
 
 impl From<AllocError> for TableError {
     fn from(_: AllocError) -> Self {
+        TableError::Memory
+    }
+}
+
+impl<T: Drop> From<AllocFailed<T>> for TableError {
+    fn from(_: AllocFailed<T>) -> Self {
         TableError::Memory
     }
 }

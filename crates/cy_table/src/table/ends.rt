@@ -6,6 +6,7 @@ ghost use Rattle.cy_table.specs.Layout.{yes_or_no};
 ghost use Rattle.cy_table.specs.Ends.{AreWords, HaveFewCalls, laid};
 
 use super::hold::number_of;
+use crate::boxed_visitor::BoxedVisitor;
 use crate::counted_routine::CountedRoutine;
 use crate::laws;
 use crate::part::{Part, Tape};
@@ -93,7 +94,8 @@ impl FlagTable {
             };
             let kept = routine.into_routine();
             taken.routines.push_reserved(kept);
-            taken.visitors.push_reserved(visitor);
+            let unboxed = visitor.into_visitor();
+            taken.visitors.push_reserved(unboxed);
             taken.spent.push_reserved(closed.word(4 * c + 6) == 1);
         }
         let clock = closed.word(1);
@@ -182,8 +184,10 @@ fn slots_of(
         let Some(visitor) = visitors.next() else {
             unreachable!()
         };
-        slots.push_reserved(Part::Routine(CountedRoutine::new(routine)));
-        slots.push_reserved(Part::Visitor(visitor));
+        let counted = CountedRoutine::new(alloc, routine)?;
+        let boxed = BoxedVisitor::new(alloc, visitor)?;
+        slots.push_reserved(Part::Routine(counted));
+        slots.push_reserved(Part::Visitor(boxed));
     }
     Ok(slots)
 }

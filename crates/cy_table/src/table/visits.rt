@@ -2,6 +2,7 @@
 ghost use Rattle.std.specs.Prelude.{◌≡◌, option_map};
 ghost use Rattle.cy_table.specs.Hold.{as_found};
 
+use crate::boxed_visitor::BoxedVisitor;
 use crate::hold::{Found, Hold};
 use crate::laws;
 use crate::part::Part;
@@ -9,7 +10,6 @@ use crate::pass::Pass;
 use crate::rule::{Fill, Find, Visit};
 use crate::table::FlagTable;
 use crossbeam_utils::Backoff;
-use cy_fuse::Visitor;
 use cy_msg::{Token, Tuple};
 use std::sync::Wait;
 
@@ -65,7 +65,7 @@ impl FlagTable {
     }
 
     // Takes a visitor, by swaps of its door until one finds it open.
-    fn visit_at_last<R: Wait>(&self, rt: &R, pass: &mut Pass, component: u32) -> Visitor
+    fn visit_at_last<R: Wait>(&self, rt: &R, pass: &mut Pass, component: u32) -> BoxedVisitor
         requires { CanVisit self.now pass.old component }
         ensures same { Stays self.now pass.old pass.new }
         ensures visiting { Visiting pass.old component result pass.new }
@@ -81,7 +81,7 @@ impl FlagTable {
     }
 
     // Takes a visitor, by one swap of its door, where no other thread is behind it.
-    fn visit(&self, pass: &mut Pass, component: u32) -> Option<Visitor>
+    fn visit(&self, pass: &mut Pass, component: u32) -> Option<BoxedVisitor>
         requires { CanVisit self.now pass.old component }
         ensures same { Stays self.now pass.old pass.new }
         ensures visiting { IfSome result (λ x. Visiting pass.old component x pass.new) }

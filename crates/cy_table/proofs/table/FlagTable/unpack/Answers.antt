@@ -4,6 +4,7 @@ use mathlib.Core.Option.{some}
 use lib.ListN.{get_elem?}
 use Rattle.std.specs.Mem.Slots.{slots_items, slots_len, slots_filled}
 use Rattle.cy_msg.specs.declared.token.Token.{Token}
+use Rattle.cy_fuse.specs.Visitor.{VisitorView}
 use Rattle.cy_comp.specs.Routine.{RoutineView}
 use Rattle.wake_core.specs.declared.parts.Parts.{Parts}
 use Rattle.wake_core.specs.Run.{played_of}
@@ -63,8 +64,8 @@ loop-c-preserved c =
     let within : 2 * k + 2 < n = omega (arith, c.loop-c-test.true, c.slot_count-count.ensures, c.take.ensures.others.2, c.close_with-closed.ensures.counts.1, c.args.self.slots) in
     let at_routine : get_elem? first (2 * k + 1) ≡ some (part.Routine c.into_routine-kept.result) =
     ap (λ (l : List Part). get_elem? l (2 * k + 1)) (sym i.same) ∙ a.value ∙ ap (λ (y : Part). some y) (c.in-Routine.is ∙ ap (λ (r : RoutineView). part.Routine r) (sym c.into_routine-kept.ensures)) in
-    let at_visitor : get_elem? first (2 * k + 2) ≡ some (part.Visitor c.in-Visitor.visitor) =
-    ap (λ (l : List Part). get_elem? l (2 * k + 2)) (sym (a.others.0 ∙ i.same)) ∙ b.value ∙ ap (λ (y : Part). some y) c.in-Visitor.is in
+    let at_visitor : get_elem? first (2 * k + 2) ≡ some (part.Visitor c.into_visitor-unboxed.result) =
+    ap (λ (l : List Part). get_elem? l (2 * k + 2)) (sym (a.others.0 ∙ i.same)) ∙ b.value ∙ ap (λ (y : Part). some y) (c.in-Visitor.is ∙ ap (λ (v : VisitorView). part.Visitor v) (sym c.into_visitor-unboxed.ensures)) in
     let at_flag : (c.word.result == 1) ≡ (slice_index (slots_items c.take.new.self.words) (4 * k + 6) == 1) =
     ap (λ m. m == 1) (sym (index_of (slots_items c.take.new.self.words) (4 * k + 6) c.word.result (ap (λ (l : List ℕ). get_elem? l (4 * k + 6)) (sym words) ∙ c.word.ensures))) in
     record {
@@ -74,7 +75,7 @@ loop-c-preserved c =
       full = subst (λ (fs : List Bool). IsFrom (2 * (k + 1) + 1) fs n) (sym (b.others.1 ∙ ap (λ (fs : List Bool). set fs (2 * k + 2) false) a.others.1))
           (from_more (2 * k + 2) (2 * (k + 1) + 1) n _ (omega arith) within (from_more (2 * k + 1) (2 * k + 2) n (slots_filled c.loop-c.closed.slots) (omega arith) (omega (arith, within)) i.full));
       taken = taken_as refl refl refl c.push_reserved.ensures.items c.push_reserved-in-loop-c.ensures.items c.push_reserved-in-loop-c-2.ensures.items
-          (taken_more c.into_routine-kept.result c.in-Visitor.visitor (c.word.result == 1) i.taken at_routine at_visitor at_flag);
+          (taken_more c.into_routine-kept.result c.into_visitor-unboxed.result (c.word.result == 1) i.taken at_routine at_visitor at_flag);
       routines_room = omega (arith, i.routines_room, c.push_reserved.ensures.capacity);
       visitors_room = omega (arith, i.visitors_room, c.push_reserved-in-loop-c.ensures.capacity);
       spent_room = omega (arith, i.spent_room, c.push_reserved-in-loop-c-2.ensures.capacity);
