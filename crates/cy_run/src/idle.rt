@@ -4,6 +4,7 @@ use crate::RunError;
 use crate::pace::{Pace, bits_of, lowest};
 use crate::patience::{LOOKS, Patience};
 use crate::place::{ASLEEP, AWAKE, AWAY, LOOKING, Place};
+use crossbeam_utils::CachePadded;
 use std::alloc::Global;
 use std::marker::Model;
 use std::sync::atomic::Ordering::SeqCst;
@@ -18,24 +19,30 @@ const PAUSE: u64 = 10;
 
 const PAUSES: u32 = 100;
 
+// How many looks are one try of the player. Calls that take longer are long ones.
+const PLAYER_LOOKS: u32 = 5_000;
+
 /// The places of the processors of a run. Contracts see it as their number.
 ///
-/// A processor that finds nothing to do rests until it is called: by a message that triggers a
-/// component of its context while no other processor of that context is awake, or by the end of the
-/// play. When the play has ended, processors go as soon as all that came rest, so none goes while
-/// another one may still send to it.
+/// A processor that finds nothing to do looks for news, if no other one of its context is awake,
+/// and else rests until it is called: by a message that triggers a component of its context while
+/// no other processor of that context is awake, or by the end of the play. Where calls take long, a
+/// message calls one for each component that it triggers. When the play has ended, processors go as
+/// soon as all that came rest, so none goes while another one may still send to it.
 ///
 /// The player begins when all have come, for which it waits a bounded time, since there may be no
-/// thread to be had. Where it is ahead of them by some messages it rests until the components have
-/// fetched what came to them, a second at most, so that they skip little.
+/// thread to be had. Where it is ahead of them by some messages it waits until the components have
+/// fetched what came to them, a second at most, so that they skip little: it looks for that, or
+/// rests at once where calls take long.
 #[derive(Drop)]
 pub struct Idle {
     places: Vec<Place>,
     door: Mutex<()>,
-    news: AtomicU64,
+    news: CachePadded<AtomicU64>,
     pace: Pace,
     player: Parker,
     resting: AtomicBool,
+    is_due: AtomicBool,
     patience: Patience,
 }
 
@@ -61,10 +68,11 @@ impl Idle {
         Ok(Idle {
             places,
             door: Mutex::new(()),
-            news: AtomicU64::new(0),
+            news: CachePadded::new(AtomicU64::new(0)),
             pace: Pace::new(alloc)?,
             player: Parker::new(),
             resting: AtomicBool::new(false),
+            is_due: AtomicBool::new(false),
             patience: Patience::new(),
         })
     }
@@ -120,6 +128,7 @@ impl Idle {
 
     fn tell_player(&self) {
         if self.resting.load(SeqCst) && self.pace.busy() == 0 {
+            self.is_due.store(true, SeqCst);
             self.player.unpark();
         }
     }
@@ -133,7 +142,7 @@ impl Idle {
     // The player has set the run closing: all processors are to find that. It doesn't wait for
     // them any more, so one is called for each component that has news.
     pub(crate) fn tell_closing<R: Wait>(&self, rt: &R) {
-        self.resting.store(true, SeqCst);
+        self.patience.give_up();
         self.news.fetch_add(1, SeqCst);
         let _door = self.door.lock(rt);
         self.call_all(AWAKE);
@@ -155,10 +164,10 @@ impl Idle {
         }
     }
 
-    // Calls processors that rest for components: one for each context that has nobody awake. Where
-    // the player rests too, calls take long enough for one to be called for each component.
+    // Calls processors that rest for components: one for each context that has nobody awake; or,
+    // where calls take long, one for each component.
     fn call_for<R: Wait>(&self, rt: &R, components: u64) {
-        let each = self.resting.load(SeqCst);
+        let each = self.patience.is_lost();
         if self.left_to_resting(components, each) == 0 {
             return;
         }
@@ -227,6 +236,9 @@ impl Idle {
     // or wakes one: by this one, where none is busy. Where it is ahead by the lead it waits for
     // that.
     pub(crate) fn keep_pace<R: Wait>(&self, rt: &R, ahead: u32, lead: u32) -> u32 {
+        if self.is_due.load(SeqCst) {
+            self.is_due.store(false, SeqCst);
+        }
         if self.pace.busy() == 0 {
             return 1;
         }
@@ -242,8 +254,9 @@ impl Idle {
     // Whether no component is busy any more while the player looks.
     fn ends_soon(&self) -> bool {
         if self.patience.may_look() {
-            for _ in 0..LOOKS {
+            for _ in 0..PLAYER_LOOKS {
                 if self.pace.busy() == 0 {
+                    self.patience.win();
                     return true;
                 }
             }
@@ -267,16 +280,22 @@ impl Idle {
         self.resting.store(false, SeqCst);
     }
 
-    // A processor that scanned in vain rests until it is called, and then stays. It goes, which is
-    // true, where all that came rest and it found the play closing.
+    // A processor that scanned in vain looks for news, or rests until it is called, and then stays.
+    // It goes, which is true, where all that came rest and it found the play closing.
     pub(crate) fn rest<R: Wait>(&self, rt: &R, me: u32, seen: u64, closing: bool) -> bool
         requires { me < self.now }
     {
         let place = &self.places[me as usize];
+        if !closing
+            && self.is_last_awake(place)
+            && place.hears_soon(&self.news, seen, &self.is_due)
+        {
+            return false;
+        }
         if !self.comes_to_rest(rt, place, seen, closing) {
             return false;
         }
-        place.await_call(rt);
+        place.await_call(rt, &self.is_due);
         if place.is(AWAKE) {
             return false;
         }
@@ -284,6 +303,18 @@ impl Idle {
             place.begin(AWAKE);
         }
         closing
+    }
+
+    // Whether no other processor that serves components of this one is awake.
+    fn is_last_awake(&self, place: &Place) -> bool {
+        let serves = place.serves(u64::MAX);
+        let mut awake = 0u32;
+        for other in &self.places {
+            if other.serves(serves) != 0 && other.is(AWAKE) {
+                awake = awake.saturating_add(1);
+            }
+        }
+        awake <= 1
     }
 
     // One processor more rests, where there is no news that it has not seen. It says so before it

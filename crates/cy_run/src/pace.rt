@@ -1,6 +1,7 @@
 // Which components have something to do, so that the player keeps pace with them. No clause rests
 // on it.
 use crate::RunError;
+use crossbeam_utils::CachePadded;
 use std::alloc::Global;
 use std::sync::atomic::AtomicU64;
 use std::sync::atomic::Ordering::SeqCst;
@@ -16,7 +17,7 @@ const BITS: usize = 64;
 // all that its buffer keeps and what it put out of that has opened others.
 #[derive(Drop)]
 pub(crate) struct Pace {
-    open: AtomicU64,
+    open: CachePadded<AtomicU64>,
     served: AtomicU64,
     asleep: AtomicU64,
     wakes: Vec<AtomicU64>,
@@ -31,7 +32,7 @@ impl Pace {
             wakes.push_reserved(AtomicU64::new(0));
         }
         Ok(Pace {
-            open: AtomicU64::new(0),
+            open: CachePadded::new(AtomicU64::new(0)),
             served: AtomicU64::new(0),
             asleep: AtomicU64::new(0),
             wakes,

@@ -1,29 +1,34 @@
 // How long a thread looks for what it waits for before it sleeps. No clause rests on it.
-use std::sync::atomic::AtomicU64;
 use std::sync::atomic::Ordering::SeqCst;
+use std::sync::atomic::{AtomicBool, AtomicU64};
+use std::thread;
 
-// How many looks are one try, which is some microseconds; and how many tries are left out after one
-// in vain.
+// How many looks are one try of a processor, which is some microseconds; after how many each time it
+// is asked whether the player is to run; and how many tries are left out at most after one in vain.
 pub(crate) const LOOKS: u32 = 10_000;
 
-const LEFT_OUT: u64 = 7;
+const TURN: u32 = 100;
+
+const MOST_LEFT_OUT: u64 = 15;
 
 // A sleep and a wake take longer than most calls, so a thread looks first. Where other programs
 // keep the machine busy, or calls are long, looks are in vain, and in the way of those that are
-// waited for.
+// waited for: so one try is left out after one in vain, and more each time if the next one is too.
 #[derive(Drop)]
 pub(crate) struct Patience {
     left_out: AtomicU64,
+    span: AtomicU64,
 }
 
 impl Patience {
     pub(crate) const fn new() -> Self {
         Patience {
             left_out: AtomicU64::new(0),
+            span: AtomicU64::new(0),
         }
     }
 
-    // Whether to look this time. One thread alone asks.
+    // Whether to look this time. One thread alone asks, and says how it ended.
     pub(crate) fn may_look(&self) -> bool {
         let left = self.left_out.load(SeqCst);
         if left > 0 {
@@ -32,8 +37,41 @@ impl Patience {
         left == 0
     }
 
+    // It found what it looked for.
+    pub(crate) fn win(&self) {
+        if self.span.load(SeqCst) > 0 {
+            self.span.store(0, SeqCst);
+        }
+    }
+
     // It looked in vain.
     pub(crate) fn lose(&self) {
-        self.left_out.store(LEFT_OUT, SeqCst);
+        let span = self.span.load(SeqCst);
+        self.leave_out(span.saturating_mul(2).saturating_add(1).min(MOST_LEFT_OUT));
+    }
+
+    // It won't look any more, or hardly.
+    pub(crate) fn give_up(&self) {
+        self.leave_out(MOST_LEFT_OUT);
+    }
+
+    fn leave_out(&self, span: u64) {
+        self.span.store(span, SeqCst);
+        self.left_out.store(span, SeqCst);
+    }
+
+    // Whether its last tries were in vain, more than one.
+    pub(crate) fn is_lost(&self) -> bool {
+        self.span.load(SeqCst) > 1
+    }
+}
+
+// After a look of a processor, by its number. A player that was called may have to run where this
+// processor does, since there may be more threads than the machine has processors, so it is let go
+// first. Else no turn is given away: where other programs keep the machine busy, each may take
+// milliseconds.
+pub(crate) fn after_look(look: u32, player_is_due: &AtomicBool) {
+    if look % TURN == TURN - 1 && player_is_due.load(SeqCst) {
+        thread::yield_now();
     }
 }

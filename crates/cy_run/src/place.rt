@@ -1,8 +1,8 @@
 // The place of one processor among those that rest and work. No clause rests on it.
-use crate::patience::{LOOKS, Patience};
+use crate::patience::{LOOKS, Patience, after_look};
 use std::sync::Wait;
-use std::sync::atomic::AtomicU64;
 use std::sync::atomic::Ordering::SeqCst;
+use std::sync::atomic::{AtomicBool, AtomicU64};
 use std::thread::Parker;
 
 // What a processor does: it is away (it has not come, or has gone), or awake, or rests, and then it
@@ -67,8 +67,8 @@ impl Place {
     }
 
     // Its processor, which rests, waits until it is called.
-    pub(crate) fn await_call<R: Wait>(&self, rt: &R) {
-        if self.is_called_soon() {
+    pub(crate) fn await_call<R: Wait>(&self, rt: &R, player_is_due: &AtomicBool) {
+        if self.is_called_soon(player_is_due) {
             return;
         }
         let _called = self
@@ -85,12 +85,34 @@ impl Place {
     }
 
     // Whether its processor is called while it looks.
-    fn is_called_soon(&self) -> bool {
+    fn is_called_soon(&self, player_is_due: &AtomicBool) -> bool {
         if self.patience.may_look() {
-            for _ in 0..LOOKS {
+            for look in 0..LOOKS {
                 if !self.rests() {
+                    self.patience.win();
                     return true;
                 }
+                after_look(look, player_is_due);
+            }
+            self.patience.lose();
+        }
+        false
+    }
+
+    // Whether there is news, other than was seen, while its processor looks, which stays awake.
+    pub(crate) fn hears_soon(
+        &self,
+        news: &AtomicU64,
+        seen: u64,
+        player_is_due: &AtomicBool,
+    ) -> bool {
+        if self.patience.may_look() {
+            for look in 0..LOOKS {
+                if news.load(SeqCst) != seen {
+                    self.patience.win();
+                    return true;
+                }
+                after_look(look, player_is_due);
             }
             self.patience.lose();
         }
