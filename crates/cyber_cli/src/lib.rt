@@ -1,9 +1,9 @@
 //! The calls of the program `cyber`, for other programs too: they play recorded messages through
 //! components.
 //!
-//! `specs/Due` says what they answer, `specs/Command` which commands there are and which words ask
-//! for them, `specs/Outcome` what the files are to each: by `specs/PlayWork`,
-//! `specs/MakeWork`, `specs/Check` and `specs/Info`.
+//! `specs/Due` says what they answer, `specs/Outcome` what the files are to each command: by
+//! `specs/PlayWork`, `specs/MakeWork`, `specs/Check` and `specs/Info`. Which words ask for which
+//! command says `cy_words`.
 #![tactic(auto)]
 
 mod commands;
