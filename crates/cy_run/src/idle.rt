@@ -42,7 +42,7 @@ pub struct Idle {
     pace: Pace,
     player: Parker,
     resting: AtomicBool,
-    is_due: AtomicBool,
+    player_is_due: AtomicBool,
     patience: Patience,
 }
 
@@ -72,7 +72,7 @@ impl Idle {
             pace: Pace::new(alloc)?,
             player: Parker::new(),
             resting: AtomicBool::new(false),
-            is_due: AtomicBool::new(false),
+            player_is_due: AtomicBool::new(false),
             patience: Patience::new(),
         })
     }
@@ -128,7 +128,7 @@ impl Idle {
 
     fn tell_player(&self) {
         if self.resting.load(SeqCst) && self.pace.busy() == 0 {
-            self.is_due.store(true, SeqCst);
+            self.player_is_due.store(true, SeqCst);
             self.player.unpark();
         }
     }
@@ -236,8 +236,8 @@ impl Idle {
     // or wakes one: by this one, where none is busy. Where it is ahead by the lead it waits for
     // that.
     pub(crate) fn keep_pace<R: Wait>(&self, rt: &R, ahead: u32, lead: u32) -> u32 {
-        if self.is_due.load(SeqCst) {
-            self.is_due.store(false, SeqCst);
+        if self.player_is_due.load(SeqCst) {
+            self.player_is_due.store(false, SeqCst);
         }
         if self.pace.busy() == 0 {
             return 1;
@@ -288,14 +288,14 @@ impl Idle {
         let place = &self.places[me as usize];
         if !closing
             && self.is_last_awake(place)
-            && place.hears_soon(&self.news, seen, &self.is_due)
+            && place.hears_soon(&self.news, seen, &self.player_is_due)
         {
             return false;
         }
         if !self.comes_to_rest(rt, place, seen, closing) {
             return false;
         }
-        place.await_call(rt, &self.is_due);
+        place.await_call(rt, &self.player_is_due);
         if place.is(AWAKE) {
             return false;
         }

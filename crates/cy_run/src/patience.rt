@@ -3,13 +3,17 @@ use std::sync::atomic::Ordering::SeqCst;
 use std::sync::atomic::{AtomicBool, AtomicU64};
 use std::thread;
 
-// How many looks are one try of a processor, which is some microseconds; after how many each time it
-// is asked whether the player is to run; and how many tries are left out at most after one in vain.
+// How many looks are one try of a processor, which is some microseconds.
 pub(crate) const LOOKS: u32 = 10_000;
 
+// After how many looks each time it is asked whether the player is to run.
 const TURN: u32 = 100;
 
+// How many tries are left out at most after one in vain.
 const MOST_LEFT_OUT: u64 = 15;
+
+// As many are left out after three in vain; where more are, calls count as long.
+const LOST_BEYOND: u64 = 7;
 
 // A sleep and a wake take longer than most calls, so a thread looks first. Where other programs
 // keep the machine busy, or calls are long, looks are in vain, and in the way of those that are
@@ -60,9 +64,10 @@ impl Patience {
         self.left_out.store(span, SeqCst);
     }
 
-    // Whether its last tries were in vain, more than one.
+    // Whether its last tries were in vain, four at least: a hiccup of the machine makes one or two
+    // fail where calls are short.
     pub(crate) fn is_lost(&self) -> bool {
-        self.span.load(SeqCst) > 1
+        self.span.load(SeqCst) > LOST_BEYOND
     }
 }
 
