@@ -1,6 +1,6 @@
 -- One component file more.
 use Rattle.std.proofs.Common.{ℕ, zero, suc, ◌≡◌, ◌+◌, ◌<◌, ◌⊎◌, List, [], ◌∷◌, ◌++◌, length, take, get_or, slice_get, Some, refl, sym, ap, ◌∙◌, inl, inr, arith}
-use Rattle.std.proofs.lemmas.List.{take_more, length-take-le, length_push}
+use Rattle.std.proofs.lemmas.List.{take_more, length_push}
 use Rattle.std.proofs.lemmas.Option.{same_Some, none-some, slice_get_within}
 use Rattle.cy_dag.specs.Wiring.{AreConfigs, IsOfClass}
 use Rattle.cy_dag.specs.declared.config.Config.{Config}

@@ -1,7 +1,7 @@
 -- Messages of a play list, one more at a time, and their numbers on channels.
 use Rattle.std.proofs.Common.{ℕ, zero, suc, ◌≡◌, ◌==◌, ◌+◌, ◌≤◌, ◌<◌, ◌⊎◌, refl, sym, ap, subst, ◌∙◌, inl, inr, arith, List, [], ◌∷◌, ◌++◌, length, take, slice_get, slice_index, get_or, Some, cond}
 use Rattle.std.proofs.lemmas.Bool.Decides.{eqb_tells}
-use Rattle.std.proofs.lemmas.Option.{none-some, slice_get_within}
+use Rattle.std.proofs.lemmas.Option.{slice_get_within}
 use Rattle.std.proofs.lemmas.List.{take-append-le}
 use Rattle.std.proofs.Math.Seq.{take-append_seam}
 use Rattle.std.proofs.lemmas.List.Filters.{length-filter_more}
@@ -10,13 +10,6 @@ use Rattle.cy_msg.proofs.OnceSteps.{slice_get-push_cases}
 use Rattle.cy_msg.specs.declared.token.Token.{Token}
 use Rattle.cy_msg.specs.Tokens.{on_channel}
 use Rattle.cy_core_tests.specs.Lists.{AreCounts, AreTokens, IsNext}
-
-pub tokens_none : (inputs : ℕ) → AreTokens inputs []
-tokens_none inputs = record {
-  known = λ n t at. absurd (none-some t at);
-  numbered = λ n t at. absurd (none-some t at);
-  timed = λ n s t p q. absurd (none-some s p);
-}
 
 pub tokens_more : (inputs : ℕ) (tokens : List Token) (t : Token) → AreTokens inputs tokens → IsNext inputs tokens t → AreTokens inputs (tokens ++ t ∷ [])
 tokens_more inputs tokens t are is = record {
@@ -48,13 +41,6 @@ pub count_more : (tokens : List Token) (channel i : ℕ) (d : Token) → i < len
 count_more tokens channel i d inside is = elim (eqb_tells (get_or tokens i d).channel channel) [
   | inl h ↦ sym (length-filter_more (λ (t : Token). t.channel == channel) tokens i d inside ∙ ap (λ b. length (on_channel channel (take i tokens)) + cond b 1 0) h.0)
   | inr h ↦ absurd (h.1 is)
-]
-
-pub count_same : (tokens : List Token) (channel i : ℕ) (d : Token) → i < length tokens → ((get_or tokens i d).channel ≡ channel → ⊥)
-    → length (on_channel channel (take i tokens)) ≡ length (on_channel channel (take (i + 1) tokens))
-count_same tokens channel i d inside other = elim (eqb_tells (get_or tokens i d).channel channel) [
-  | inl h ↦ absurd (other h.1)
-  | inr h ↦ sym (length-filter_more (λ (t : Token). t.channel == channel) tokens i d inside ∙ ap (λ b. length (on_channel channel (take i tokens)) + cond b 1 0) h.0 ∙ omega arith)
 ]
 
 -- No message stands on a channel above those that have any.

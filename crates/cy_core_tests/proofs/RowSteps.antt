@@ -8,15 +8,12 @@ use Rattle.cy_msg.specs.Once.{IsOnce}
 use Rattle.cy_msg.proofs.OnceSteps.{slice_get-push_cases}
 use Rattle.cy_comp.specs.declared.plan.Plan.{Plan}
 use Rattle.cy_comp.specs.Wiring.{IsWiring, writer_from, writer_of, trigger_of, trigger_after}
-use Rattle.cy_core_tests.specs.Rows.{AreReaders, IsRow, AreRows}
+use Rattle.cy_core_tests.specs.Rows.{IsRow, AreRows}
 
 -- Channels that are read, so far: each once, and each below a number.
 pub record Rises (least : ℕ) (readers : List ℕ) : Type 0 where
   pub own : IsOnce readers
   pub below : (j r : ℕ) → slice_get readers j ≡ Some r → r < least
-
-pub rises_none : (least : ℕ) → Rises least []
-rises_none least = record { own = λ m n x p q. absurd (none-some x p); below = λ j r at. absurd (none-some r at) }
 
 pub rises_more : (least r : ℕ) (readers : List ℕ) → least ≤ r → Rises least readers → Rises (r + 1) (readers ++ r ∷ [])
 rises_more least r readers above h = record {
@@ -29,13 +26,6 @@ rises_more least r readers above h = record {
 
 pub rises_at : (readers : List ℕ) (i least : ℕ) → i < length readers → least ≤ get_or readers i 0 → Rises least (take i readers) → Rises (get_or readers i 0 + 1) (take (i + 1) readers)
 rises_at readers i least inside above h = rw (take_more readers i 0 inside) (rises_more least (get_or readers i 0) (take i readers) above h)
-
-pub rises_to : (least out : ℕ) (readers : List ℕ) → 1 ≤ length readers → length readers ≤ 4 → least ≤ out → Rises least readers → AreReaders out readers
-rises_to least out readers some few under h = record { some = some; few = few; own = h.own; below = λ j r at. omega (arith, h.below j r at, under) }
-
--- Rows, one more at a time.
-pub rows_none : (inputs : ℕ) → AreRows inputs []
-rows_none inputs = record { each = λ row p at. absurd (none-some p at) }
 
 pub rows_more : (inputs row : ℕ) (plans : List Plan) (p : Plan) → AreRows inputs plans → row ≡ length plans → IsRow inputs row p → AreRows inputs (plans ++ p ∷ [])
 rows_more inputs row plans p rows size is = record {

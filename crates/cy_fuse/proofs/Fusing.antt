@@ -43,9 +43,6 @@ pub fused-few : (arrivals : List Arrival) (readers : ℕ) → length (fused arri
 unfolding fused
 fused-few arrivals readers = fused_after-few readers [] arrivals
 
-later_or-none : (o : Option Token) → later_or None o ≡ o
-later_or-none o = refl
-
 -- the message of the last arrival of a role, after one more arrival
 pub latest-push : (role : ℕ) (arrivals : List Arrival) (a : Arrival) → latest role (arrivals ++ a ∷ []) ≡ (if a.0 == role then Some a.1 else latest role arrivals)
 latest-push role [] a = elim (a.0 == role) as (λ b. later_or None (if b then Some a.1 else None) ≡ (if b then Some a.1 else None)) [ true ↦ refl | false ↦ refl ]

@@ -15,14 +15,14 @@ use Rattle.cy_writer.specs.Writes.{Makes, StopsAt, StopsBefore}
 use Rattle.cy_section.specs.declared.types.BodyMessage.{BodyMessage}
 use Rattle.cy_writer.specs.Record.{messages_on}
 use Rattle.cy_writer.specs.RecordWrites.{file_writes, record_puts, chunks_given}
-use Rattle.cy_writer.proofs.Puts.{file_named, map-after_writes, StopsAt-first, StopsAt-then, StopsBefore-first, StopsBefore-then, causes_same, causes_then, causes_none, makes_nothing, untold_map}
+use Rattle.cy_writer.proofs.Puts.{file_named, map-after_writes, StopsAt-first, StopsAt-then, StopsBefore-first, StopsBefore-then, causes_same, causes_then, causes_none, untold_map}
 use Rattle.cy_make.specs.declared.error.MakeError.{MakeError}
 use Rattle.cy_make.specs.declared.error.MakeError.TheVariants as make_error
 use Rattle.cy_make.specs.declared.config.Config.{Config}
 use Rattle.cy_make.specs.Messages.{channels_of, messages_to}
 use Rattle.cy_make.specs.Steps.{given_after}
 use Rattle.cy_make.specs.Texts.{suffix_of, text_of}
-use Rattle.cy_make.specs.Inputs.{record_name, config_writes, made_record_writes, FailsIn, Stops, IsAtFile, MakesFiles}
+use Rattle.cy_make.specs.Inputs.{record_name, config_writes, made_record_writes, Stops, IsAtFile, MakesFiles}
 use Rattle.cy_make.proofs.RecordText.{messages_shown}
 
 -- the file that an answer names

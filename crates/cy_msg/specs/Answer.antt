@@ -18,8 +18,8 @@ abbrev pub FailsWith : {B F : Type 0} → Option F → Result B F → Type 0
 FailsWith None due = Unit {0}
 FailsWith (Some fault) due = due ≡ Err fault
 
--- As `AnswersOr`, where errors wrap the faults that may be due: a function takes the fault out of an
--- error, and none out of the want of memory.
+-- As `AnswersOr`, where errors wrap the faults that may be due: a function takes the fault out of
+-- an error, and none out of the want of memory.
 abbrev pub AnswersFault : {A B E F : Type 0} → (E → Option F) → (A → B) → Result A E → Result B F
     → Type 0
 AnswersFault fault_in view (Ok value) due = due ≡ Ok (view value)

@@ -11,10 +11,6 @@ use Rattle.cy_reader.specs.Sections.{WholeSection, Sections, section_at, section
 use Rattle.cy_reader.specs.Record.{◌>>=◌, fault_of, Met, channel_given, channel_met, message_met, messages_met, section_met, sections_met}
 use Rattle.cy_reader.specs.Loading.{Leads, Kept}
 
-bind_again : {A B C : Type 0} (r : Result A LoadError) (f : A → Result B LoadError) (g : B → Result C LoadError) → (r >>= f) >>= g ≡ r >>= λ x. f x >>= g
-bind_again (Ok x) f g = refl
-bind_again (Err e) f g = refl
-
 messages_met-append : (xs ys : List PlacedMessage) (c : Met) → messages_met (xs ++ ys) c ≡ messages_met xs c >>= messages_met ys
 messages_met-append [] ys c = refl
 messages_met-append (m ∷ xs) ys c = over (message_met m c) (messages_met-append xs ys)
@@ -48,11 +44,6 @@ met_more (Err d) (Err e) front m start old now (inl memory) kept =
 met_more (Err d) (Err e) front m start old now (inr passed) kept =
     let same : d ≡ e = cc in
     inr (λ rest. ap (λ (ms : List PlacedMessage). messages_met ms start) (append_assoc front (m ∷ []) rest) ∙ passed (m ∷ rest) ∙ ap (λ (x : LoadError). Err x) same)
-
-pub met_all : (result : Result (Unit {0}) LoadError) (front : List PlacedMessage) (start now : Met) → IsMet result front start now → Leads result now (messages_met front start)
-met_all (Ok x) front start now met = met
-met_all (Err e) front start now (inl memory) = inl memory
-met_all (Err e) front start now (inr passed) = inr (ap (λ (ms : List PlacedMessage). messages_met ms start) (sym (append-nil front)) ∙ passed [])
 
 -- what the sections that are left come to
 abbrev pub finish : Met → Sections → Result Met LoadError

@@ -54,8 +54,8 @@ shadowed_by uses f whole places = length (filter (is_shadowed_by uses f whole) p
 
 -- These are the places of those that are played, of some that were looked at, and so many of them
 -- are shadowed.
-pub record ArePassed (uses : List ChannelUse) (f : Filter) (whole : Contents) (looked found : List ℕ)
-    (count : ℕ) : Type 0 where
+pub record ArePassed (uses : List ChannelUse) (f : Filter) (whole : Contents)
+    (looked found : List ℕ) (count : ℕ) : Type 0 where
   pub places : found ≡ played_by uses f whole looked
   pub shadowed : count ≡ shadowed_by uses f whole looked
 

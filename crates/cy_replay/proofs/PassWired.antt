@@ -12,7 +12,7 @@ use Rattle.cy_dag.specs.declared.error.DagError.TheVariants.{TooManyChannels}
 use Rattle.cy_replay.specs.declared.error.Fault.TheVariants as fault
 use Rattle.cy_replay.specs.declared.error.Refusal.{Refusal}
 use Rattle.cy_replay.specs.Faults.{in_file, unless}
-use Rattle.cy_replay.specs.Passing.{PassIsWired, pass_component, pass_config, pass_wired, pass_wiring}
+use Rattle.cy_replay.specs.Passing.{PassIsWired, pass_component, pass_config, pass_wired}
 use Rattle.cy_replay.specs.Wiring.{Wired}
 
 -- it doesn't trigger itself

@@ -1,7 +1,7 @@
 -- A message goes to its readers, one after another.
-use Rattle.std.proofs.Common.{ℕ, ◌+◌, ◌≡◌, ◌≤◌, ◌<◌, ◌==◌, ◌∙◌, cond, Bool, true, false, List, [], ◌∷◌, ◌++◌, refl, sym, ap, subst, arith, append_assoc, length, drop, get_or, Option, Some, None, zero, suc}
+use Rattle.std.proofs.Common.{ℕ, ◌+◌, ◌≡◌, ◌≤◌, ◌<◌, ◌==◌, ◌∙◌, cond, Bool, true, false, List, [], ◌∷◌, ◌++◌, refl, sym, ap, arith, append_assoc, length, drop, get_or, Option, Some, None, zero, suc}
 use Rattle.std.proofs.lemmas.Bool.Decides.{nat_tests}
-use Rattle.std.proofs.lemmas.List.{drop_more, drop_all}
+use Rattle.std.proofs.lemmas.List.{drop_more}
 use Rattle.std.specs.Prelude.{slice_get}
 use Rattle.wake_core.specs.declared.route.Route.{Route}
 use Rattle.wake_core.specs.Run.{readers_from, roles_of}
@@ -18,14 +18,6 @@ role_filled routes ch c j readers lt is =
     the_same : (x y : ℕ) → x ≡ y → (x == y) ≡ true
     the_same x y e = grind (arith, nat_tests, e)
 
-pub role_passed : (routes : List Route) (ch c j : ℕ) (readers : List ℕ) → j < length readers → (get_or readers j 0 == ch) ≡ false → fills_in routes ch c j readers ≡ fills_in routes ch c (j + 1) readers
-role_passed routes ch c j readers lt is =
-    ap (λ l. roles_of ch c j l ++ fills_at routes ch (c + 1)) (drop_more readers j 0 lt)
-    ∙ ap (λ b. cond b ((c, j) ∷ roles_of ch c (j + 1) (drop (j + 1) readers)) (roles_of ch c (j + 1) (drop (j + 1) readers)) ++ fills_at routes ch (c + 1)) is
-
-pub roles_over : (routes : List Route) (ch c j : ℕ) (readers : List ℕ) → length readers ≤ j → fills_in routes ch c j readers ≡ fills_at routes ch (c + 1)
-roles_over routes ch c j readers le = ap (λ l. roles_of ch c j l ++ fills_at routes ch (c + 1)) (drop_all j readers le)
-
 -- The readers from one component on.
 rest_is : (routes : List Route) (c : ℕ) (x : Route) → slice_get routes c ≡ Some x → drop c routes ≡ x ∷ drop (c + 1) routes
 rest_is [] c x at = cc
@@ -40,9 +32,6 @@ rest_is (y ∷ routes) (suc c) x at = rest_is routes c x at ∙ ap (λ n. x ∷ 
 
 pub component_begun : (routes : List Route) (ch c : ℕ) (x : Route) → slice_get routes c ≡ Some x → fills_at routes ch c ≡ fills_in routes ch c 0 x.readers
 component_begun routes ch c x at = ap (readers_from ch c) (rest_is routes c x at)
-
-pub components_over : (routes : List Route) (ch c : ℕ) → length routes ≤ c → fills_at routes ch c ≡ []
-components_over routes ch c le = ap (readers_from ch c) (drop_all c routes le)
 
 -- The components that are triggered from one on.
 none_later : (ch c j : ℕ) (readers : List ℕ) (rest : List (ℕ × ℕ)) → (j == 0) ≡ false → triggered (roles_of ch c j readers ++ rest) ≡ triggered rest
@@ -66,9 +55,6 @@ news_of ch c (r ∷ readers) rest = by (r == ch)
 
 pub news_begun : (routes : List Route) (ch c : ℕ) (x : Route) → slice_get routes c ≡ Some x → news_at routes ch c ≡ cond (is_first ch x.readers) (c ∷ news_at routes ch (c + 1)) (news_at routes ch (c + 1))
 news_begun routes ch c x at = ap triggered (component_begun routes ch c x at) ∙ news_of ch c x.readers (fills_at routes ch (c + 1))
-
-pub news_over : (routes : List Route) (ch c : ℕ) → length routes ≤ c → news_at routes ch c ≡ []
-news_over routes ch c le = ap triggered (components_over routes ch c le)
 
 -- When all readers were filled, the components that are triggered are news; and once they were
 -- looked at, the message was delivered.

@@ -7,7 +7,6 @@ use Rattle.wake_core.specs.declared.route.Route.{Route}
 use Rattle.cy_table.specs.declared.pass.Pass.{Pass}
 use Rattle.cy_table.specs.declared.table.FlagTable.{FlagTable}
 use Rattle.cy_table.specs.Seats.{Seat}
-use Rattle.cy_table.specs.Steps.{filling}
 use Rattle.cy_table.specs.Plays.{Thread, later_fills, but_first}
 use Rattle.cy_table.specs.Calls.{made_of, seat_of, thread_of, knowing, Stays, CanFill, CanLook, after_look}
 use Rattle.cy_comp.specs.declared.plan.Plan.{Plan}
@@ -41,39 +40,6 @@ can_fill t token p c j readers f r lt is fills = record {
   reader = subst (λ (o : Option Route). j < option_map_or (λ (x : Route). length x.readers) o 0) (sym (ap (λ (l : List Route). slice_get l c) f.seated.routes ∙ r.at)) (subst (λ l. j < length l) (sym r.readers_are) lt);
 }
 
--- One reader more was filled.
-pub fills_more : (t : FlagTable) (token : Token) (p q u : Pass) (c j : ℕ) (rest : List (ℕ × ℕ)) → FillsOn t token p q → Stays t q u → (seat_of q).fills ≡ (c, j) ∷ rest
-    → thread_of u ≡ knowing q (filling (seat_of q) c j (later_fills (seat_of q).fills)) → FillsOn t token p u × ((seat_of u).fills ≡ rest)
-fills_more t token p q u c j rest f s fills told =
-    let first = first_is (seat_of q).fills rest (c, j) fills in
-    let seat : seat_of u ≡ filling (seat_of q) c j (later_fills (seat_of q).fills) = ap (λ (m : Thread). m.0) told in (
-      record {
-        stays = record { at = s.at; number = s.number ∙ f.stays.number };
-        fills = record {
-          seated = record {
-            at = s.at;
-            here = ap (λ (v : Seat). v.live) seat ∙ f.fills.seated.here;
-            routes = ap (λ (v : Seat). v.routes) seat ∙ f.fills.seated.routes;
-            counts = ap (λ (v : Seat). v.counts) seat ∙ f.fills.seated.counts;
-            visit = ap (λ (v : Seat). v.visit) seat;
-            tape = ap (λ (v : Seat). v.tape) seat ∙ f.fills.seated.tape;
-          };
-          message = ap (λ (v : Seat). v.token) seat ∙ f.fills.message;
-        };
-        out = ap (λ (m : Thread). m.1) told ∙ f.out;
-        onward = ap (λ (v : Seat). filled_all v.fills v) seat ∙ (sym (ap (λ l. filled_all l (seat_of q)) first.0) ∙ f.onward);
-      },
-      ap (λ (v : Seat). v.fills) seat ∙ first.1,
-    )
-
-pub fills_join : (t : FlagTable) (token : Token) (p q u : Pass) → FillsOn t token p q → FillsOn t token q u → FillsOn t token p u
-fills_join t token p q u f g = record {
-  stays = record { at = g.stays.at; number = g.stays.number ∙ f.stays.number };
-  fills = record { seated = g.fills.seated; message = g.fills.message };
-  out = g.out ∙ f.out;
-  onward = g.onward ∙ f.onward;
-}
-
 -- All were filled: what is news then.
 pub all_filled : (t : FlagTable) (token : Token) (p q : Pass) → Owes t token p → FillsOn t token p q → (seat_of q).fills ≡ [] → (seat_of q).news ≡ news_at (made_of t).routes token.channel 0
 all_filled t token p q o f none =
@@ -86,10 +52,6 @@ all_told t token p q u o f none g quiet =
     let now : record (seat_of q) { news = (seat_of u).news } ≡ delivered (seat_of p) =
     ap (λ l. record (seat_of q) { news = l }) quiet ∙ (ap (λ (v : Seat). record v { news = [] }) seat ∙ filled_is (seat_of p).fills (seat_of p) o.seated.visit refl) in
     g.thread ∙ (ap (λ (v : Seat). knowing q v) now ∙ ap (λ l. (delivered (seat_of p), l)) f.out)
-
--- One component more was looked at.
-pub tells_begin : (t : FlagTable) (p : Pass) → Tells t p → TellsOn t p p
-tells_begin t p f = record { stays = record { at = f.seated.at; number = refl }; thread = refl }
 
 pub can_look : (t : FlagTable) (p : Pass) (c : ℕ) (rest : List ℕ) (x : Route) → Tells t p → slice_get (made_of t).routes c ≡ Some x → (seat_of p).news ≡ c ∷ rest → CanLook t p c
 can_look t p c rest x f at news = record {

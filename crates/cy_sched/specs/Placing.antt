@@ -1,6 +1,7 @@
 -- Where a scheduler places the components of a run.
 use Rattle.std.specs.Prelude.{ℕ, zero, suc, ℤ, pos, negsuc, ◌≡◌, ◌+◌, ◌==◌, nat_lt, nat_le, min}
-use Rattle.std.specs.Prelude.{◌&&◌, ◌||◌, not, Bool, true, false, if◌then◌else◌, List, [], ◌∷◌, ◌++◌, map}
+use Rattle.std.specs.Prelude.{◌&&◌, ◌||◌, not, Bool, true, false, if◌then◌else◌}
+use Rattle.std.specs.Prelude.{List, [], ◌∷◌, ◌++◌, map}
 use Rattle.std.specs.Prelude.{length, codes, slice_get, Option, Some, None, unwrap_or, option_map}
 use Rattle.std.specs.Prelude.{option_and_then}
 use Rattle.std.specs.Fmt.{decimal}

@@ -1,12 +1,11 @@
 -- The messages of fields, one field after another.
-use Rattle.std.proofs.Common.{◌≡◌, ℕ, List, [], ◌∷◌, ◌++◌, refl, sym, ap, ◌∙◌, append_assoc, append-nil, Option, Some, None}
+use Rattle.std.proofs.Common.{◌≡◌, ℕ, List, [], ◌∷◌, ◌++◌, refl, sym, ap, ◌∙◌, append_assoc, Option, Some, None}
 use Rattle.std.specs.Option.{option_map, option_or}
 use Rattle.cy_wire.specs.declared.error.WireError.{WireError}
 use Rattle.cy_wire.specs.declared.field.Span.{Span}
 use Rattle.cy_wire.specs.Field.{WireField, Fields, no_fields, faulty, with_field}
 use Rattle.cy_wire.specs.Message.{WireSpan, span_in, seen_span, last_span}
 use Rattle.cy_wire.proofs.Lasts.{last_span-more}
-use Rattle.cy_section.specs.declared.error.SectionError.{SectionError}
 use Rattle.cy_section.specs.Reading.{fault_of, PlacedMessage, Messages, no_message, with_message, and_those_behind, message_at, messages_of}
 
 pub messages_of-other : (field : WireField) (rest : Fields) → span_in 1 field ≡ None → messages_of (with_field field rest) ≡ messages_of rest
@@ -41,9 +40,3 @@ pub message_read : (front : List PlacedMessage) (left next all : Messages) (mess
     → left ≡ with_message message next → (front ++ message ∷ []) ++ next.messages ≡ all.messages
 message_read front left next all message so_far e =
     append_assoc front (message ∷ []) next.messages ∙ ap (λ (l : Messages). front ++ l.messages) (sym e) ∙ so_far
-
--- none is left
-pub messages_end : (front : List PlacedMessage) (left all : Messages) (fault : Option SectionError) → front ++ left.messages ≡ all.messages → left.fault ≡ all.fault
-    → left ≡ no_message fault → (all.messages ≡ front) × (all.fault ≡ fault)
-messages_end front left all fault so_far ended e =
-    (sym so_far ∙ ap (λ (l : Messages). front ++ l.messages) e ∙ append-nil front, sym ended ∙ ap (λ (l : Messages). l.fault) e)

@@ -16,7 +16,8 @@ use Rattle.cy_section.specs.Section.{header_body, chunk_header_body, chunk_body,
 use Rattle.cy_section.specs.Section.{head_bytes, optional_field, channel_cache_body}
 use Rattle.cy_section.specs.Section.{chunk_header_cache_body, chunk_body_cache_body, index_body}
 use Rattle.cy_section.specs.Head.{head_at}
-use Rattle.cy_section.specs.Reading.{header_at, chunk_header_at, chunk_body_at, channel_at, index_at}
+use Rattle.cy_section.specs.Reading.{header_at, chunk_header_at, chunk_body_at}
+use Rattle.cy_section.specs.Reading.{channel_at, index_at}
 
 -- Numbers of 32 bits, and of 64.
 pub record HeaderFits (h : Header) : Type 0 where

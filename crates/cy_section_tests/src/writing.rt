@@ -120,7 +120,8 @@ fn writes_each_section_of_a_small_record(rt: HostRuntime) -> Result<(), Fail> {
         (
             SectionKind::Header,
             b"\0\0\0\0\0\0\0\0\x27\0\0\0\0\0\0\0\
-              \x08\x01\x10\0\x18\0\x20\x80\x90\xdf\xc0\x4a\x28\0\x30\x86\x11\x38\x01\x40\x02\x48\x64\x50\x64\
+              \x08\x01\x10\0\x18\0\x20\x80\x90\xdf\xc0\x4a\x28\0\x30\x86\x11\x38\x01\x40\x02\x48\
+              \x64\x50\x64\
               \x58\x02\x60\xdf\x11\x68\x01\x70\x80\x84\xaf\x5f\x78\0"
                 .as_slice(),
             2009,
@@ -138,7 +139,8 @@ fn writes_each_section_of_a_small_record(rt: HostRuntime) -> Result<(), Fail> {
         (
             SectionKind::ChunkBody,
             b"\x02\0\0\0\0\0\0\0\x1b\0\0\0\0\0\0\0\
-              \x0a\x0b\x0a\x03/in\x10\x64\x1a\x02\x08\x0e\x0a\x0c\x0a\x04/out\x10\x64\x1a\x02\x08\x0e"
+              \x0a\x0b\x0a\x03/in\x10\x64\x1a\x02\x08\x0e\x0a\x0c\x0a\x04/out\x10\x64\x1a\x02\
+              \x08\x0e"
                 .as_slice(),
             0,
         ),

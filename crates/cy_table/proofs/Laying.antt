@@ -2,7 +2,6 @@
 use Rattle.std.proofs.Common.{ℕ, zero, suc, ◌+◌, ◌-◌, ◌*◌, ◌≡◌, ◌≢◌, ◌≤◌, ◌<◌, ◌⊎◌, true, refl, sym, ◌∙◌, ap, ap₂, subst, inl, inr, List, [], ◌∷◌, ◌++◌, length, map, set, replicate, slice_index, slice_get, get_or, get_or-set_same, get_or-set_other, length-set, option_map, Option, Some, None, vec_capacity, arith}
 use Rattle.std.specs.Option.{option_map_or}
 use Rattle.std.proofs.Math.Seq.{take-length}
-use Rattle.std.proofs.lemmas.List.{length-replicate}
 use Rattle.std.proofs.lemmas.Option.{slice_get_within}
 use mathlib.Core.Option.{some, some-ne-none}
 use lib.ListN.{get_elem?}
@@ -116,22 +115,6 @@ equal_at : (n k d : ℕ) → get_or (replicate n d) k d ≡ d
 equal_at zero k d = refl
 equal_at (suc n) zero d = refl
 equal_at (suc n) (suc k) d = equal_at n k d
-
--- .. of none yet.
-pub words_first : {n x y : ℕ} {p : Parts} {ws : List ℕ} → ws ≡ replicate (4 * n + 4) 0 → x ≡ p.clock → y ≡ yes_or_no p.closing → WordsTo 0 n p (set (set ws 1 x) 2 y)
-words_first {n} {x} {y} {p} {ws} is clock_is closing_is =
-    let wide : length ws ≡ 4 * n + 4 = ap length is ∙ length-replicate (4 * n + 4) 0 in
-    let zeros : (k : ℕ) → get_or ws k 0 ≡ 0 = λ k. ap (λ (l : List ℕ). get_or l k 0) is ∙ equal_at (4 * n + 4) k 0 in
-    record {
-      wide = both_length ws 1 2 x y ∙ wide;
-      clock_is = both_first ws 1 2 x y (omega (arith, wide)) (λ e. omega arith) ∙ clock_is;
-      closing_is = both_second ws 1 2 x y (omega (arith, wide)) ∙ closing_is;
-      tape_free = both_other ws 1 2 x y 3 (λ e. omega arith) (λ e. omega arith) ∙ zeros 3;
-      state = λ c less. absurd (omega (arith, less));
-      flag = λ c less. absurd (omega (arith, less));
-      free = λ c less. both_other ws 1 2 x y (4 * c + 4) (λ e. omega arith) (λ e. omega arith) ∙ zeros (4 * c + 4);
-      visitor_free = λ c less. both_other ws 1 2 x y (4 * c + 7) (λ e. omega arith) (λ e. omega arith) ∙ zeros (4 * c + 7);
-    }
 
 -- .. of all.
 pub words_done : {k n : ℕ} {p : Parts} {ws : List ℕ} → WordsTo k n p ws → n ≤ k → n ≡ length (routes_in p.fixed) → AreWords (shown_by p) ws

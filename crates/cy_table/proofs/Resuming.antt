@@ -45,10 +45,6 @@ pub fits_then : (r x : RoutineView) (o : Option (Tuple × ℕ × ℕ)) → r ≡
 fits_then r x None same fits = λ f e. absurd (none-some f e)
 fits_then r x (Some f) same fits = λ k e. subst (λ (y : Found). MayTake x y.tuple y.position) (some_is (as_found f) k e) (subst (λ (y : RoutineView). MayTake y f.0 f.1) same (fits f refl))
 
-pub to_step_then : (o : Option (Tuple × ℕ × ℕ)) → option_map (λ (f : Found). f.tuple) (option_map as_found o) ≡ option_map (λ (f : Tuple × ℕ × ℕ). f.0) o
-to_step_then None = refl
-to_step_then (Some f) = refl
-
 -- What the store after a fetch tells, of a thread that took the visitor x.
 pub record IsFetched (g : Grip) (x : VisitorView) (r : RoutineView) (o : Option (Tuple × ℕ × ℕ)) (v : Seat) (out : List (ℕ × Part)) (n : Thread) : Type 0 where
   pub thread : n ≡ (fetching v g x o, out)

@@ -33,10 +33,6 @@ pub exchanged : (n k : Thread) (v : Seat) (slot : ℕ) (y z x : Part) (more : Li
 exchanged n k v slot y z x more is front after =
     (ap (λ (o : Thread). part_or part.Away o.1) (sym is) ∙ ap (part_or part.Away) front, after ∙ (λ i. ((is i).0, (slot, x) ∷ rest (is i).1)))
 
--- The same of a slot that is known to be out with the thread.
-pub out_front : (m : Thread) (slot : ℕ) (y : Part) (more : List (ℕ × Part)) → m.1 ≡ (slot, y) ∷ more → (old : Part) × (m.1 ≡ (slot, old) ∷ rest m.1)
-out_front m slot y more out = (y, out ∙ ap (λ l. (slot, y) ∷ rest l) (sym out))
-
 pub put_back : (m k : Thread) (slot : ℕ) (y z x : Part) (more : List (ℕ × Part)) → m.1 ≡ (slot, y) ∷ more → m.1 ≡ (slot, z) ∷ rest m.1 → k ≡ (m.0, (slot, x) ∷ rest m.1)
     → (y ≡ z) × (k ≡ (m.0, (slot, x) ∷ more))
 put_back m k slot y z x more out front after =

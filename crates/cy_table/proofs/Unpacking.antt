@@ -119,16 +119,6 @@ last_or zero (suc k) l = inr (omega arith)
 last_or (suc c) zero l = absurd (omega (arith, l))
 last_or (suc c) (suc k) l = elim (last_or c k (omega (arith, l))) [ inl e ↦ inl (ap suc e) | inr less ↦ inr (omega (arith, less)) ]
 
-pub taken_none : {words : List ℕ} {slots : List Part} {rs : List RoutineView} {vs : List VisitorView} {bs : List Bool} → rs ≡ [] → vs ≡ [] → bs ≡ [] → TakenOut words slots 0 rs vs bs
-taken_none a b d = record {
-  routines_many = ap length a;
-  visitors_many = ap length b;
-  spent_many = ap length d;
-  routine = λ c less. absurd (omega (arith, less));
-  visitor = λ c less. absurd (omega (arith, less));
-  flag = λ c less. absurd (omega (arith, less));
-}
-
 pub taken_more : {words : List ℕ} {slots : List Part} {k : ℕ} {rs : List RoutineView} {vs : List VisitorView} {bs : List Bool} (r : RoutineView) (v : VisitorView) (b : Bool) → TakenOut words slots k rs vs bs
     → get_elem? slots (2 * k + 1) ≡ some (part.Routine r) → get_elem? slots (2 * k + 2) ≡ some (part.Visitor v) → b ≡ (slice_index words (4 * k + 6) == 1)
     → TakenOut words slots (k + 1) (rs ++ r ∷ []) (vs ++ v ∷ []) (bs ++ b ∷ [])
@@ -174,9 +164,6 @@ filled_within : (fs : List Bool) (k : ℕ) → get_or fs k false ≡ true → k 
 filled_within [] k e = absurd (false≢true e)
 filled_within (x ∷ xs) zero e = omega arith
 filled_within (x ∷ xs) (suc k) e = let h = filled_within xs k e in omega (arith, h)
-
-pub from_first : (n : ℕ) (fs : List Bool) → ((k : ℕ) → 0 ≤ k → k < n → get_or fs k false ≡ true) → IsFrom 0 fs n
-from_first n fs all = record { gone = λ i less. absurd (omega (arith, less)); left = all }
 
 pub from_more : (k k' n : ℕ) (fs : List Bool) → k' ≡ k + 1 → k < n → IsFrom k fs n → IsFrom k' (set fs k false) n
 from_more k k' n fs next less f = record {

@@ -21,9 +21,6 @@ use Rattle.cy_text.proofs.PrefixSteps.{quote_placed, step_prefix}
 use Rattle.cy_text.specs.Cuts.{IsCut}
 use Rattle.cy_text.proofs.CutText.{read_is_cut}
 
-abbrev whole_form : Fields → Result Fields Fault
-whole_form fields = Ok fields
-
 module _ (ts : List Lexeme) (at : ℕ) (all : Fields) where
   closed_form : (frames : List Frame) (fields : Fields) → Inside frames fields ts → all_closed (record { frames = frames; fields = fields }) at ≡ Ok all → IsFields ts all
   unfolding all_closed

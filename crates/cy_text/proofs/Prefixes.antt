@@ -1,7 +1,7 @@
 -- Tokens that were read, by what may follow them.
 use Rattle.std.proofs.Common.{ℕ, ◌≡◌, List, [], ◌∷◌, ◌++◌, Bool, true, false, refl, ap, subst, ◌∙◌, append_assoc}
 use Rattle.cy_text.specs.Fields.{Fields, Held, And, Quote, Message}
-use Rattle.cy_text.specs.Form.{Building, Reading, reading, begun, placed}
+use Rattle.cy_text.specs.Form.{Building, Reading, placed}
 use Rattle.cy_text.specs.Form as form
 use Rattle.cy_text.specs.Grammar.{on, end_of, start_of, IsSeparator, IsLabel, IsStrings, IsPlain, IsFields, field, separated, IsField, single, empty, list, IsItems, IsValue}
 use Rattle.cy_text.specs.declared.token.Token.{Token}

@@ -9,7 +9,7 @@ use Rattle.std.specs.List.{flat_map, AllByRecursion}
 use Rattle.cy_msg.specs.Quoted.{octal, escaped, quoted}
 use Rattle.cy_text.specs.Letters.{is_octal, digit_of}
 use Rattle.cy_text.specs.Numbers.{value_of}
-use Rattle.cy_text.specs.Strings.{simple_escape, one_byte, octal_escape, escape_at, with_escape, string_from, string_at, and_then}
+use Rattle.cy_text.specs.Strings.{simple_escape, octal_escape, escape_at, string_from, string_at}
 use Rattle.cy_text.specs.Strings as strings
 
 -- A piece of a string in quotes stands for a byte.

@@ -23,10 +23,6 @@ abbrev pub run : Reading → List Lexeme → Result Reading Fault
 run r [] = Ok r
 run r (t ∷ ts) = and_then (step r t) (λ n. run n ts)
 
-then_then : {A B C : Type 0} (r : Result A Fault) (f : A → Result B Fault) (g : B → Result C Fault) → and_then (and_then r f) g ≡ and_then r (λ x. and_then (f x) g)
-then_then (Ok x) f g = refl
-then_then (Err e) f g = refl
-
 pub run_append : (r : Reading) (ts us : List Lexeme) → run r (ts ++ us) ≡ and_then (run r ts) (λ n. run n us)
 run_append r [] us = refl
 run_append r (t ∷ ts) us = elim (step r t) as (λ o. and_then o (λ n. run n (ts ++ us)) ≡ and_then (and_then o (λ n. run n ts)) (λ n. run n us)) [

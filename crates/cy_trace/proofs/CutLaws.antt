@@ -122,10 +122,6 @@ cut_last_at mark k xs there is after =
     sym (take-append-drop k xs) ∙ ap (λ (ys : List ℕ). take k xs ++ ys) (drop_more xs k 0 there ∙ ap (λ (b : ℕ). b ∷ drop (k + 1) xs) is) in
     sym (ap (cut_last mark) whole ∙ cut_last_finds mark (take k xs) (drop (k + 1) xs) after)
 
-pub lacks_before : (mark k : ℕ) (xs : List ℕ) → k < length xs → (get_or xs k 0 ≡ mark → ⊥) → lacks mark (drop (k + 1) xs) ≡ true → lacks mark (drop k xs) ≡ true
-lacks_before mark k xs there other after =
-    rw (drop_more xs k 0 there) (and_from (not (get_or xs k 0 == mark)) (lacks mark (drop (k + 1) xs)) (ap not (ne_eqb (get_or xs k 0) mark other)) after)
-
 -- a prefix that is compared byte by byte
 pub behind_same : (prefix bytes : List ℕ) → true ≡ pointwise nat_eq (take (length prefix) bytes) prefix → Some (drop (length prefix) bytes) ≡ behind prefix bytes
 behind_same prefix bytes h =

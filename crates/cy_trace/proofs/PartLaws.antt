@@ -74,9 +74,6 @@ unfolding signed
 signed_spells [] z h = absurd (none-some z h)
 signed_spells (b ∷ bs) z h = signed_by (b == 45) b bs z (eqb-true b 45) h
 
-pub signed_reader : IsReader signed_decimal IsLongSigned signed
-signed_reader = record { sound = signed_spells; complete = signed_finds }
-
 -- a time, and a value where there is one
 timed_finds : (n : ℕ) (o : Option ℤ) → IsLong n → IsValue o → timed (decimal n ++ value_text o) ≡ Some (n, o)
 unfolding timed

@@ -71,9 +71,6 @@ pub record Reached (bytes rest : List ℕ) (b : Building) (line : ℕ) : Type 0 
   pub count : line ≡ length (lines_so_far b) + 1
   pub room : line + length rest ≤ length bytes + 1
 
-pub reached_start : (bytes : List ℕ) → Reached bytes bytes Start 1
-reached_start bytes = record { text = refl; fits = tt; reached = refl; count = omega arith; room = omega arith }
-
 split_and_then : {A B : Type 0} (f : A → Option B) (o : Option A) (y : B) → option_and_then f o ≡ Some y → (x : A) × (o ≡ Some x) × (f x ≡ Some y)
 split_and_then f None y h = absurd (none-some y h)
 split_and_then f (Some x) y h = (x, refl, h)

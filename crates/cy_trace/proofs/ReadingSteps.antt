@@ -1,10 +1,9 @@
 -- Lists of numbers, one by one.
-use Rattle.std.proofs.Common.{ℕ, ◌≡◌, ◌+◌, ◌<◌, ◌≤◌, ◌==◌, ◌&&◌, not, Bool, true, false, cond, List, [], ◌∷◌, ◌++◌, length, drop, get_or, Option, Some, None, option_map, refl, ap, sym, ◌∙◌, arith, append_assoc}
+use Rattle.std.proofs.Common.{ℕ, ◌≡◌, ◌+◌, ◌<◌, ◌≤◌, ◌==◌, ◌&&◌, not, Bool, true, false, cond, List, [], ◌∷◌, ◌++◌, length, drop, get_or, Option, Some, None, option_map, refl, ap, sym, ◌∙◌, append_assoc}
 use Rattle.std.proofs.lemmas.Bool.{and_parts, not-true, false_from_ne_true}
 use Rattle.std.proofs.lemmas.List.{append-nil, drop_more, drop_all}
 use Rattle.std.proofs.lemmas.List.Splits.{slice_split-cons_yes, slice_split-cons_no}
 use Rattle.std.proofs.lemmas.Str.{is_utf8-from_IsUtf8, IsUtf8-from_is_utf8}
-use Rattle.std.specs.Option.{IfSome}
 use Rattle.std.specs.Borrow.{Bor}
 use Rattle.std.specs.List.{slice_split, onto_first}
 use Rattle.std.specs.Str.{IsUtf8, is_utf8, bytes_eq}
@@ -91,7 +90,3 @@ module _ (prefix : List ℕ) (whole : Option (List ℕ)) where
 abbrev pub bytes_left : Option (Bor (List ℕ)) → ℕ
 bytes_left None = 0
 bytes_left (Some words) = length words.now + 1
-
-pub fewer_left : (rest more : Option (Bor (List ℕ))) (words : Bor (List ℕ)) → rest ≡ Some words → IfSome more (λ w. length w.now < length words.now) → bytes_left more < bytes_left rest
-fewer_left rest None words is h = rw is (omega arith)
-fewer_left rest (Some w) words is h = rw is (omega arith)

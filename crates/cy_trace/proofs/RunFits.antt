@@ -1,9 +1,8 @@
 -- The numbers of a sound world fit those of a trace.
-use Rattle.std.proofs.Common.{ℕ, zero, suc, ◌≡◌, ◌+◌, ◌-◌, ◌≤◌, ◌<◌, ◌==◌, Bool, cond, is_some, List, [], ◌∷◌, ◌++◌, length, map, take, get_or, slice_get, Option, Some, None, option_map, true, false, refl, sym, ap, subst, ◌∙◌, arith}
+use Rattle.std.proofs.Common.{ℕ, zero, suc, ◌≡◌, ◌+◌, ◌-◌, ◌≤◌, ◌<◌, ◌==◌, Bool, cond, is_some, List, [], ◌∷◌, ◌++◌, length, map, get_or, slice_get, Option, Some, None, option_map, true, false, refl, sym, ap, subst, ◌∙◌, arith}
 use Rattle.std.specs.Prelude.{option_and_then, unwrap_or}
 use Rattle.std.specs.List.{flat_map}
 use Rattle.std.specs.Str.{IsUtf8}
-use Rattle.std.proofs.lemmas.List.{take_more, take_all, length-take-le}
 use Rattle.std.proofs.lemmas.List.Filters.{length-filter_both}
 use Rattle.std.proofs.lemmas.Option.{same_Some, none-some, slice_get_within, slice_get-map, slice_get-get_or}
 use Rattle.std.specs.Prelude.{not}
@@ -18,10 +17,10 @@ use Rattle.cy_comp.specs.declared.plan.Plan.{Plan}
 use Rattle.cy_comp.specs.Calls.{cursor_after, last_outcome, is_last}
 use Rattle.wake_core.specs.declared.route.Route.{Route}
 use Rattle.wake_core.specs.Run.{route_of, routes_of, played_of, writes_from}
-use Rattle.wake_core.specs.Plain.{Plain, blank}
-use Rattle.wake_core.specs.Planned.{planned, counts_from}
+use Rattle.wake_core.specs.Plain.{Plain}
+use Rattle.wake_core.specs.Planned.{planned}
 use Rattle.wake_core.specs.Rest.{run_shown}
-use Rattle.wake_core.specs.Sound.{Sound, Room, StandsOn}
+use Rattle.wake_core.specs.Sound.{Sound, StandsOn}
 use Rattle.wake_core.specs.Bounds.{PlaceLaws, BoundLaws}
 use Rattle.cy_trace.specs.TraceForm.{Each, IsLine, IsLong, IsOutput, IsSeqs, IsShort, IsTrace, IsValue, AreLines, lines_of_component}
 use Rattle.cy_trace.specs.TraceOfRun.{output_of_call, trace_call, trace_calls, trace_component, trace_components, tape_entry, trace_of_run}
@@ -30,11 +29,6 @@ use Rattle.cy_trace.specs.declared.line.Line.TheVariants as line
 use Rattle.cy_trace.proofs.Order.{are_lines-append}
 use Rattle.cy_trace.proofs.OutSuits.{outs_suit}
 use Rattle.cy_trace.proofs.StepSuits.{SuitsOut}
-
--- What holds of each place of a list holds of each of its numbers.
-each_of : (P : ℕ → Type 0) (xs : List ℕ) → ((n x : ℕ) → slice_get xs n ≡ Some x → P x) → Each P xs
-each_of P [] all = tt
-each_of P (x ∷ xs) all = (all 0 x refl, each_of P xs (λ n. all (suc n)))
 
 mapped_each : {X : Type 0} (P : ℕ → Type 0) (f : X → ℕ) (xs : List X) → ((n : ℕ) (x : X) → slice_get xs n ≡ Some x → P (f x)) → Each P (map f xs)
 mapped_each P f [] all = tt

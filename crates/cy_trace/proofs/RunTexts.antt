@@ -1,5 +1,5 @@
 -- What is written of a run, line by line.
-use Rattle.std.proofs.Common.{ℕ, ◌≡◌, ◌+◌, Bool, true, cond, List, [], ◌∷◌, ◌++◌, length, map, codes, is_some, Option, Some, None, refl, ap, sym, ◌∙◌, append_assoc}
+use Rattle.std.proofs.Common.{ℕ, ◌≡◌, ◌+◌, true, cond, List, [], ◌∷◌, ◌++◌, length, map, codes, is_some, Option, Some, None, refl, ap, sym, ◌∙◌, append_assoc}
 use Rattle.std.proofs.lemmas.List.{append-nil}
 use Rattle.std.proofs.lemmas.List.Concat.{flat_map-append}
 use Rattle.std.specs.List.{flat_map}
@@ -45,10 +45,6 @@ calls_same before [] = refl
 calls_same before (x ∷ rest) =
     ap (λ (xs : List ℕ). xs ++ call_lines (before + cond (is_some x.out) 1 0) rest) (call_same before x)
     ∙ ap (λ (xs : List ℕ). whole_line (line.Call (trace_call before x)) ++ xs) (calls_same (before + cond (is_some x.out) 1 0) rest)
-
-end_same : (finished : Bool) (next : ℕ) → end_line finished next ≡ whole_line (line.End finished next)
-unfolding line_text
-end_same finished next = refl
 
 joined_component : (prefix name newline middle roles calls end : List ℕ)
     → prefix ++ name ++ newline ++ middle ++ roles ++ newline ++ calls ++ end ≡ (prefix ++ name ++ newline) ++ ((middle ++ roles ++ newline) ++ (calls ++ end))

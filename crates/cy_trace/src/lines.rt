@@ -1,5 +1,6 @@
 // The lines of a trace, each added to a text.
-ghost use Rattle.std.specs.Prelude.{◌≡◌, ◌<◌, ◌≤◌, ◌+◌, ◌++◌, ◌^◌, ℕ, [], length, map, slice_get, Some};
+ghost use Rattle.std.specs.Prelude.{◌≡◌, ◌<◌, ◌≤◌, ◌+◌, ◌++◌, ◌^◌, ℕ};
+ghost use Rattle.std.specs.Prelude.{[], length, map, slice_get, Some};
 ghost use Rattle.std.specs.Prelude.{IfOk, OnOk, codes};
 ghost use Rattle.std.specs.List.{flat_map};
 ghost use Rattle.std.specs.Fmt.{decimal};

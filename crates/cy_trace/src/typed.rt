@@ -54,8 +54,8 @@ fn messages_suit(messages: &[Token])
     }
 }
 
-/// What `trace_text` writes of a world is the text of a trace, where no more is planned than a world
-/// keeps. Proved here, and nothing to run.
+/// What `trace_text` writes of a world is the text of a trace, where no more is planned than a
+/// world keeps. Proved here, and nothing to run.
 #[tactic(auto, using(crate::proofs::TextRead::text_is_read))]
 pub fn trace_is_read_back(world: &World, wiring: &Wiring, shadowed: u32)
     requires routes { (plain_of world.now).routes ≡ routes_of wiring.now.plans }

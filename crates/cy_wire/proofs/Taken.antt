@@ -1,8 +1,8 @@
 -- How many bytes a varint, a value and a field take, and the fields behind one.
-use Rattle.std.proofs.Common.{◌≡◌, ℕ, zero, suc, ◌+◌, ◌-◌, ◌%◌, ◌/◌, ◌<◌, ◌≤◌, List, [], ◌∷◌, length, take, drop, refl, ap, sym, ◌∙◌, arith, inl, inr, length-drop, length-take, Result, Ok, Err, Bool, true, false, if◌then◌else◌, nat_lt, ◌==◌, ltb-false}
+use Rattle.std.proofs.Common.{◌≡◌, ℕ, zero, suc, ◌+◌, ◌-◌, ◌%◌, ◌/◌, ◌<◌, ◌≤◌, List, [], ◌∷◌, length, take, drop, refl, ap, sym, ◌∙◌, arith, inl, inr, length-drop, Result, Ok, Err, Bool, true, false, if◌then◌else◌, nat_lt, ◌==◌, ltb-false}
 use Rattle.std.proofs.lemmas.List.{take_all}
 use Rattle.std.proofs.lemmas.Grind.{common_steps}
-use Rattle.std.proofs.lemmas.Bool.{cases_lt, le-ltb}
+use Rattle.std.proofs.lemmas.Bool.{cases_lt}
 use Rattle.byteorder.specs.Endian.{little_number}
 use Rattle.cy_wire.specs.declared.error.WireError.{WireError}
 use Rattle.cy_wire.specs.declared.error.WireError.TheVariants.{Cut}
@@ -169,14 +169,3 @@ rest_is n bytes = take_all (length bytes - n) (drop n bytes) (omega (arith, leng
 pub fields_of-taken : (at : ℕ) (bytes : List ℕ) (x : WireField × ℕ) → 0 < length bytes → field_at at bytes ≡ Ok x
     → fields_of at bytes ≡ with_field x.0 (fields_of (at + x.1) (take (length bytes - x.1) (drop x.1 bytes)))
 fields_of-taken at bytes x some e = rw (rest_is x.1 bytes) (fields_of-field at bytes x some e)
-
--- a length, and as many bytes
-pub bytes_at-found : (at : ℕ) (bytes : List ℕ) (size taken : ℕ) → varint_at at bytes ≡ Ok (size, taken) → size ≤ length bytes - taken
-    → let rest = take (length bytes - taken) (drop taken bytes) in
-    bytes_at at bytes ≡ Ok (Bytes (at + taken) (take size rest), taken + length (take size rest))
-unfolding bytes_at
-bytes_at-found at bytes size taken e few =
-    let whole = rest_is taken bytes in
-    let some : nat_lt (length bytes - taken) size ≡ false = le-ltb _ _ few in
-    let all : length (take size (drop taken bytes)) ≡ size = omega (arith, length-drop taken bytes, length-take size (drop taken bytes)) in
-    rw (e, some, whole, all) refl

@@ -2,7 +2,7 @@
 use Rattle.std.proofs.Common.{◌≡◌, ◌==◌, ◌&&◌, ◌||◌, ℕ, List, [], ◌∷◌, ◌++◌, Bool, true, false, not, Option, Some, None, is_some, if◌then◌else◌, refl, sym, ap, ◌∙◌, subst, true≢false}
 use Rattle.std.proofs.Common.{length, flat_map, codes, option_map, option_to_list, bytes_eq, append_assoc}
 use Rattle.std.specs.Prelude.{option_and_then}
-use Rattle.std.specs.List.{find, fold, list_any, list_all}
+use Rattle.std.specs.List.{fold}
 use Rattle.std.specs.Option.{option_map_or}
 use Rattle.clap.specs.Lexer.{long_of, short_of, long_of_rest, short_of_rest, strip_byte}
 use Rattle.clap.specs.Walk.{Held, Row, Rule, Text, Walk, after_flag, after_step, arg_by_id, arg_by_long, has_row, idle, long_met, long_or_other, option, option_word, plain_word, reacted, settled, short_or_plain, subcommand_met, subcommand_or_other, next, trailing, used_by_id, walk_from, walked, word_met, Waiting}

@@ -343,10 +343,6 @@ all_read (word ∷ words) e =
       asked = λ name is. ap (λ (n : Bor Text). asked_in n.now r.rows) is ∙ r.asked;
     }
 
-pub some_words : (words : List (Bor Text)) → is_some (command_of (texts words)) ≡ true → 0 < length words
-some_words [] e = absurd (true≢false (sym e))
-some_words (word ∷ words) e = omega arith
-
 pub then_asked : (words : List (Bor Text)) (r : ReadAll words) (name : Bor Text) (rows : List Row) (found : Option Command) → name ≡ get_or words 0 name
     → found ≡ asked_in name.now rows → rows ≡ r.rows → found ≡ command_of (texts words)
 then_asked words r name rows found first is same = is ∙ (ap (asked_in name.now) same ∙ r.asked name first)

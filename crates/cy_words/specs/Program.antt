@@ -1,12 +1,14 @@
 -- How the program's commands are told to `clap`.
-use Rattle.std.specs.Prelude.{ℕ, ◌≡◌, true, false, List, [], ◌∷◌, ◌++◌, codes, drop, fold, map, Some}
+use Rattle.std.specs.Prelude.{ℕ, ◌≡◌, true, false, List, [], ◌∷◌, ◌++◌, codes}
+use Rattle.std.specs.Prelude.{drop, fold, map, Some}
 use Rattle.clap.specs.Walk.{Rule}
 use Rattle.clap.specs.Words.{app_of}
 use Rattle.clap.specs.declared.builder.command.Command.TheViews.{out-Command}
 use Rattle.clap.specs.declared.builder.command.Command.{Command}
 use Rattle.clap.specs.Simple.{App, new_app, new_rule, on_top, with_rule, with_subcommand}
 use Rattle.clap.specs.declared.builder.action.ArgAction.TheVariants.{SetTrue}
-use Rattle.cy_words.specs.Options.{Key, called, Dag, Sched, Input, Output, Trace, Only, Drop, Begin, End}
+use Rattle.cy_words.specs.Options.{Key, called}
+use Rattle.cy_words.specs.Options.{Dag, Sched, Input, Output, Trace, Only, Drop, Begin, End}
 
 -- The name of an option without its hyphens.
 abbrev pub named : Key → List ℕ

@@ -1,5 +1,5 @@
--- Which message a chunk takes, and what it is with one more.
-use Rattle.std.proofs.Common.{◌≡◌, ℕ, suc, ◌+◌, ◌≤◌, ◌<◌, ◌==◌, Bool, true, false, ◌&&◌, List, [], ◌∷◌, ◌++◌, length, drop, get_or, min, max, refl, ap, sym, ◌∙◌, arith, length-append}
+-- What a chunk is with one message more, and whether there is room for it.
+use Rattle.std.proofs.Common.{◌≡◌, ℕ, suc, ◌+◌, ◌≤◌, ◌<◌, ◌==◌, false, ◌&&◌, List, [], ◌∷◌, ◌++◌, length, drop, get_or, min, max, refl, ap, sym, ◌∙◌, arith, length-append}
 use Rattle.std.specs.Prelude.{nat_le, if◌then◌else◌, ◌-◌, ◌^◌}
 use Rattle.std.proofs.lemmas.Bool.Decides.{nat_tests}
 use Rattle.std.proofs.lemmas.Bool.{lt-leb, leb-false}
@@ -8,7 +8,7 @@ use Rattle.std.proofs.lemmas.List.Sums.{sum-map, sum_by_push}
 use Rattle.cy_section.specs.declared.types.ChunkHeader.{ChunkHeader}
 use Rattle.cy_section.specs.declared.types.BodyMessage.{BodyMessage}
 use Rattle.cy_section.specs.Section.{chunk_body, message_field}
-use Rattle.cy_section.specs.Chunks.{takes, chunk_raw_size, chunk_interval}
+use Rattle.cy_section.specs.Chunks.{chunk_raw_size}
 use Rattle.cy_section.specs.RecordText.{least_time, greatest_time, raw_size, chunk_header_of}
 use Rattle.cy_section.proofs.Lengths.{length-section, length-of-message_field, length-message_fields, length-chunk_body-more}
 use Rattle.cy_section.specs.declared.types.SectionKind.{SectionKind}
@@ -106,37 +106,6 @@ still_first c (first ∷ rest) m held some = λ n later e. held.first first rest
 pub no_first : (c : Chunk) (messages : List BodyMessage) → IsChunkOf c messages → c.header.message_number ≡ 0 → messages ≡ []
 no_first c [] held none = refl
 no_first c (first ∷ rest) held none = absurd (omega (arith, none, ap (λ (h : ChunkHeader). h.message_number) held.header))
-
-pub begins_with : (time : ℕ) (messages : List BodyMessage) (m : BodyMessage) → messages ≡ [] → m.time ≡ time → BeginsAt time (messages ++ m ∷ [])
-begins_with time [] m e t = λ n later h. sym t ∙ ap (λ (x : BodyMessage). x.time) (head_of m [] n later h)
-begins_with time (first ∷ rest) m e t = absurd (no_cons first rest e)
-
--- an empty chunk stays one, whatever its first time is
-pub empty_again : (old new : Chunk) (messages : List BodyMessage) → IsChunkOf old messages → old.header.message_number ≡ 0 → new.header ≡ old.header
-    → drop 16 new.section ≡ [] → IsChunkOf new messages
-empty_again old new [] held none header section = record { header = header ∙ held.header; first = λ n later h. absurd (no_cons n later (sym h)); body = section }
-empty_again old new (first ∷ rest) held none header section = absurd (no_cons first rest (no_first old (first ∷ rest) held none))
-
--- which message is taken
-pub takes_first : (c : Chunk) (messages : List BodyMessage) (m : BodyMessage) → IsChunkOf c messages → c.header.message_number ≡ 0 → true ≡ takes messages m
-takes_first c messages m held none = ap (λ (ms : List BodyMessage). takes ms m) (sym (no_first c messages held none))
-
-pub takes_full : (c : Chunk) (messages : List BodyMessage) (m : BodyMessage) → IsChunkOf c messages → (c.header.message_number ≡ 0 → ⊥)
-    → nat_le (length (chunk_body (messages ++ m ∷ []))) chunk_raw_size ≡ false → false ≡ takes messages m
-takes_full c [] m held some full = absurd (some (ap (λ (h : ChunkHeader). h.message_number) held.header))
-takes_full c (first ∷ rest) m held some full = ap (λ (b : Bool). b && nat_le m.time (first.time + chunk_interval)) (sym full)
-
-pub takes_near : (c : Chunk) (messages : List BodyMessage) (m : BodyMessage) (latest : ℕ) → IsChunkOf c messages → (c.header.message_number ≡ 0 → ⊥)
-    → nat_le (length (chunk_body (messages ++ m ∷ []))) chunk_raw_size ≡ true → latest ≡ min (c.first_time + chunk_interval) (2 ^ 64 - 1) → m.time < 2 ^ 64
-    → nat_le m.time latest ≡ takes messages m
-takes_near c [] m latest held some room e fits = absurd (some (ap (λ (h : ChunkHeader). h.message_number) held.header))
-takes_near c (first ∷ rest) m latest held some room e fits =
-    let begun = held.first first rest refl in
-    near_test m.time latest (first.time + chunk_interval) (λ h. omega (arith, begun, e, fits, h)) (λ h. omega (arith, begun, e, fits, h))
-    ∙ ap (λ (b : Bool). b && nat_le m.time (first.time + chunk_interval)) (sym room)
-  where
-    near_test : (t a b : ℕ) → (t ≤ a → t ≤ b) → (t ≤ b → t ≤ a) → nat_le t a ≡ nat_le t b
-    near_test t a b there back = grind (arith, nat_tests)
 
 -- the body stands behind the head
 behind_head : (bytes : List ℕ) → drop 16 (section kind.ChunkBody bytes) ≡ bytes

@@ -1,5 +1,5 @@
 -- A file into which pieces are put, one by one.
-use Rattle.std.proofs.Common.{◌≡◌, ℕ, ◌+◌, ◌≤◌, Bool, cond, List, [], ◌∷◌, ◌++◌, length, drop, Option, Some, None, Result, Ok, Err, IsErrOf, IfSome, refl, sym, ap, ◌∙◌, subst, inl, inr, arith, length-append, append-nil, append_assoc}
+use Rattle.std.proofs.Common.{◌≡◌, ℕ, ◌+◌, ◌≤◌, Bool, cond, List, [], ◌∷◌, ◌++◌, length, drop, Option, Some, None, Result, Ok, Err, IsErrOf, refl, sym, ap, ◌∙◌, subst, inl, inr, arith, length-append, append-nil, append_assoc}
 use Rattle.std.specs.Prelude.{IsSomeAnd, OnOk, OnErr}
 use Rattle.std.specs.Option.{option_map, unwrap_or}
 use Rattle.std.proofs.lemmas.List.{take_all, drop_all, length-take, length-drop}
@@ -81,16 +81,6 @@ holds-after name puts P Q (Some m) new step e h =
 nothing : (files : Option Files) → files ≡ option_map (after_writes []) files
 nothing None = refl
 nothing (Some m) = refl
-
--- its place is there
-pub put_fits : (files : Option Files) (name : List ℕ) (at : ℕ) → Holds files name (λ bytes. at ≤ length bytes)
-    → IfSome files (λ m. IfSome (get m name) (λ before. at ≤ length before))
-put_fits None name at h = tt
-put_fits (Some m) name at h = some (get m name) h
-  where
-    some : (o : Option (List ℕ)) → IsSomeAnd o (λ bytes. at ≤ length bytes) → IfSome o (λ before. at ≤ length before)
-    some None h = absurd h
-    some (Some bytes) h = h
 
 -- what it makes of the store
 pub makes_put : {T U : Type 0} {r : Result T StoreError} (answer : Result U WriteError) (w : Write) (old new : StoreView)

@@ -22,9 +22,6 @@ use Rattle.cy_writer.proofs.FrontPuts.{front-channel, front-message, closing, re
 
 -- What a writer stands for tells of it.
 
-there_is : (o : Option Writing) (x : Writing) (P : Writing → Type 0) → o ≡ Some x → IfSome o P → P x
-there_is o x P e h = subst (λ (p : Option Writing). IfSome p P) e h
-
 is_there : (o : Option Writing) (x : Writing) (P : Writing → Type 0) → o ≡ Some x → P x → IfSome o P
 is_there o x P e h = subst (λ (p : Option Writing). IfSome p P) (sym e) h
 

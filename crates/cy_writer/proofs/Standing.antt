@@ -324,19 +324,6 @@ name_at at ms [] i c d here = absurd (none-some c here)
 name_at at ms (first ∷ rest) zero c d here = ap (λ (x : Channel). x.name) (same_Some first c here)
 name_at at ms (first ∷ rest) (suc i) c d here = name_at (at + length (section kind.Channel (channel_body first))) ms rest i c d here
 
--- nothing that counts is changed
-pub stands_unchanged : (old new : Writing) (g : Given) → StandsFor old g → new.name ≡ old.name → new.channels.items ≡ old.channels.items
-    → new.chunks.items ≡ old.chunks.items → new.place ≡ old.place → IsChunkOf new.chunk g.gathered → new.counted ≡ old.counted → StandsFor new g
-stands_unchanged old new g held name channels chunks at chunk counted = record {
-  name = name ∙ held.name;
-  own_names = held.own_names;
-  channels = channels ∙ held.channels;
-  chunks = chunks ∙ held.chunks;
-  place = at ∙ held.place;
-  chunk = chunk;
-  counted = counted ∙ held.counted;
-}
-
 -- the chunk's answer, asked by the kept name, is that for the channel
 pub named_takes : (o : Writing) (g : Given) (i : ℕ) (c : Channel) (kept : KeptChannel) (name : List ℕ) (time : ℕ) (content : List ℕ) (answer : Bool)
     → StandsFor o g → slice_get g.channels i ≡ Some c → kept ≡ get_or o.channels.items i kept → name ≡ kept.cache.name

@@ -1,5 +1,5 @@
 -- A whole record, written by one call.
-use Rattle.std.specs.Prelude.{ℕ, ◌≡◌, ◌<◌, List, [], length, map, Some, slice_get, Result, IfOk}
+use Rattle.std.specs.Prelude.{ℕ, ◌≡◌, ◌<◌, List, [], length, map, Some, slice_get, Result}
 use Rattle.std.specs.Prelude.{IsErrOf, unwrap_or}
 use Rattle.cy_store.specs.Store.{StoreView, HasWriteCauses}
 use Rattle.cy_section.specs.declared.types.BodyMessage.{BodyMessage}

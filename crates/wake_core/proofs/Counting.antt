@@ -33,16 +33,6 @@ pub sum_added : {X : Type 0} (f : X → ℕ) (xs : List X) (i : ℕ) (x : X) (so
     → so_far + more + sum (map f (drop (i + 1) xs)) ≡ sum (map f xs)
 sum_added f xs i x so_far more at is h = let next = sum_next f xs i x at in omega (arith, next, is, h)
 
--- At the end nothing is left.
-pub sum_ended : {X : Type 0} (f : X → ℕ) (xs : List X) (i so_far : ℕ) → length xs ≤ i → so_far + sum (map f (drop i xs)) ≡ sum (map f xs) → so_far ≡ sum (map f xs)
-sum_ended f xs i so_far past h = let none : sum (map f (drop i xs)) ≡ 0 = rw (drop_past xs i past) refl in omega (arith, none, h)
-  where
-    drop_past : {X : Type 0} (xs : List X) (i : ℕ) → length xs ≤ i → drop i xs ≡ []
-    drop_past [] zero l = refl
-    drop_past [] (suc i) l = refl
-    drop_past (x ∷ xs) zero l = absurd (omega (arith, l))
-    drop_past (x ∷ xs) (suc i) l = drop_past xs i (omega (arith, l))
-
 -- The writer of a channel is the first component that writes it.
 place_of_writer : (plans : List Plan) (first channel : ℕ) → writer_from (λ (p : Plan). p.out) first plans channel ≡ option_map (λ n. first + n) (position (λ (p : Plan). p.out == channel) plans)
 place_of_writer [] first channel = refl

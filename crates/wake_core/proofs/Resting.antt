@@ -115,10 +115,6 @@ module _ (p c : ℕ) (first w v : Plain) (e : Tells p c w v) where
     clearing = e.clearing ∙ h.clearing;
   }
 
--- Then nothing is to be filled or cleared still.
-pub looks_filled : (p : ℕ) (first w : Plain) → first.fills p ≡ [] → LooksOn p first w → w.fills p ≡ []
-looks_filled p first w none h = ap (λ (x : Plain). x.fills p) h.same ∙ none
-
 pub looks_cleared : (p : ℕ) (first w : Plain) → LooksOn p first w → w.clearing p ≡ []
 looks_cleared p first w h = ap (λ (f : ℕ → List ℕ). f p) h.clearing ∙ set_at_same p [] first.clearing
 

@@ -1,7 +1,6 @@
 -- A scan of orders, one croutine after another.
 use Rattle.std.proofs.Common.{ℕ, zero, suc, ◌+◌, ◌≡◌, ◌≢◌, ◌≤◌, ◌<◌, Bool, true, false, refl, sym, ◌∙◌, ap, subst, inr, arith, List, [], ◌∷◌, ◌++◌, length, take, drop, Option, Some, None, slice_get, get_or, append_assoc, append-nil, is_some}
 use Rattle.std.proofs.lemmas.Option.{slice_get-get_or}
-use Rattle.std.proofs.lemmas.List.{take_all}
 use Rattle.cy_msg.specs.declared.placement.ContextPlan.{ContextPlan}
 use Rattle.cy_msg.specs.Placement.{scan_of}
 use Rattle.wake_core.specs.Run.{Route}
@@ -74,9 +73,6 @@ module _ (order : List ℕ) (i : ℕ) (first w m : Plain) (inside : i < length o
       pub order_passes : Passes (take (i + 1) order) first v
       order_passes = subst (λ l. Passes l first v) (sym (take_next order i (get_or order i 0) at_it)) (passes_more (take i order) (get_or order i 0 ∷ []) first w v p one_passed)
 
-pub order_ends : (order : List ℕ) (i : ℕ) (first w : Plain) → length order ≤ i → Passes (take i order) first w → Passes order first w
-order_ends order i first w past p = subst (λ l. Passes l first w) (take_all i order past) p
-
 scan_append : (xs ys : List ContextPlan) → scan_of (xs ++ ys) ≡ scan_of xs ++ scan_of ys
 scan_append [] ys = refl
 scan_append (x ∷ xs) ys = ap (λ l. x.order ++ l) (scan_append xs ys) ∙ sym (append_assoc x.order (scan_of xs) (scan_of ys))
@@ -104,9 +100,6 @@ module _ (contexts : List ContextPlan) (i : ℕ) (x : ContextPlan) (first w : Pl
   pub context_passes : (v : Plain) → Passes x.order w v → Passes (scan_of (take (i + 1) contexts)) first v
   context_passes v q = subst (λ l. Passes l first v) (sym (ap scan_of (take_next contexts i x at) ∙ scan_append (take i contexts) (x ∷ []) ∙ ap (λ l. scan_of (take i contexts) ++ l) (scan_one x)))
       (passes_more (scan_of (take i contexts)) x.order first w v p q)
-
-pub contexts_end : (contexts : List ContextPlan) (i : ℕ) (first w : Plain) → length contexts ≤ i → Passes (scan_of (take i contexts)) first w → Passes (scan_of contexts) first w
-contexts_end contexts i first w past p = subst (λ l. Passes (scan_of l) first w) (take_all i contexts past) p
 
 pub none_of : (o : Option ℕ) (answer : Bool) → answer ≡ is_some o → answer ≡ false → o ≡ None
 none_of None answer says e = refl

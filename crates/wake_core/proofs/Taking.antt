@@ -10,10 +10,6 @@ use Rattle.wake_core.proofs.Places.{place, set_at_same, set_at_other, set_at_aga
 use Rattle.wake_core.proofs.Listing.{lists-append, lists_snoc, either}
 use Rattle.wake_core.proofs.Playing.{idle_by}
 
--- A world with other hands, states and flags.
-with_three : Plain → (ℕ → Option Hand) → (ℕ → State) → (ℕ → Bool) → Plain
-with_three w h s b = record w { hands = h; states = s; spent = b }
-
 takes_is : (c : ℕ) (w v : Plain) (s : State) (b : Bool) → c < length w.routes → v ≡ record w { hands = set_at 0 (hand c Known) w.hands; states = set_at c s w.states; spent = set_at c b w.spent }
     → (w.spent c ≡ true → b ≡ true) → (s ≡ Ready → (IsDue (w.states c) w.clock → ⊥) → (w.states c ≡ Ready) ⊎ (w.spent c ≡ false)) → ((IsDue (w.states c) w.clock → ⊥) → b ≡ true) → (s ≢ Ready → (b ≡ true) × (s ≡ w.states c) × (IsDue s w.clock → ⊥)) → Takes c w v
 takes_is c w v s b known e spends woken fresh parked =
@@ -108,9 +104,6 @@ takes_hand c w v rest t = record {
 pub passes_rest : (order : List ℕ) (w v : Plain) → IsAtRest w → Passes order w v → IsAtRest v
 passes_rest order w v rest t q = idle_by q w v
     (ap (λ (x : Plain). x.hands q) t.effect) (ap (λ (x : Plain). x.fills q) t.effect) (ap (λ (x : Plain). x.news q) t.effect) (ap (λ (x : Plain). x.clearing q) t.effect) (rest q)
-
-pub passes_begin : (w : Plain) → Passes [] w w
-passes_begin w = record { effect = refl; spends = λ c e. e; parked = λ c e. cc }
 
 -- One more that isn't READY is given back.
 pub passes_one : (c : ℕ) (w m v : Plain) → IsAtRest w → Takes c w m → m.states c ≢ Ready → Releases 0 c m v → Passes (c ∷ []) w v
