@@ -66,8 +66,10 @@ impl Context {
     }
 }
 
-// Acquires and updates a croutine, and gives it back where it is not READY then.
-fn take(table: &FlagTable, pass: &mut Pass, component: u32) -> Option<Hold>
+/// Acquires and updates the croutine of one component, and answers it, in hand, where it is READY
+/// then. None comes exactly where another thread held it, or where it was not READY after its
+/// update; then it was given back.
+pub fn take(table: &FlagTable, pass: &mut Pass, component: u32) -> Option<Hold>
     requires { MayScan table.now (component ∷ []) pass.old }
     ensures same { Stays table.now pass.old pass.new }
     ensures none { IfNone result (Passes (component ∷ []) pass.old pass.new) }

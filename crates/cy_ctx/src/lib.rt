@@ -8,5 +8,5 @@
 mod context;
 mod error;
 
-pub use context::Context;
+pub use context::{Context, take};
 pub use error::CtxError;

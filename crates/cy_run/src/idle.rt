@@ -24,11 +24,12 @@ const PLAYER_LOOKS: u32 = 5_000;
 
 /// The places of the processors of a run. Contracts see it as their number.
 ///
-/// A processor that finds nothing to do looks for news, if no other one of its context is awake,
-/// and else rests until it is called: by a message that triggers a component of its context while
-/// no other processor of that context is awake, or by the end of the play. Where calls take long, a
-/// message calls one for each component that it triggers. When the play has ended, processors go as
-/// soon as all that came rest, so none goes while another one may still send to it.
+/// A processor that has nothing to do any more looks for news, if no other one of its context is
+/// awake, and else rests until it is called: by a message that triggers a component of its context
+/// while no other processor of that context is awake, or by the end of the play. Where calls take
+/// long, a message calls one for each component that it triggers. When the play has ended,
+/// processors go as soon as all that came rest, so none goes while another one may still send to
+/// it.
 ///
 /// The player begins when all have come, for which it waits a bounded time, since there may be no
 /// thread to be had. Where it is ahead of them by some messages it waits until the components have
@@ -280,18 +281,26 @@ impl Idle {
         self.resting.store(false, SeqCst);
     }
 
-    // A processor that scanned in vain looks for news, or rests until it is called, and then stays.
-    // It goes, which is true, where all that came rest and it found the play closing.
+    // The components that have something to do, as a mask.
+    pub(crate) fn busy(&self) -> u64 {
+        self.pace.busy()
+    }
+
+    // Whether there is news while a processor, which has nothing to do any more, looks for it. It
+    // does so where no other one that serves components of this one is awake.
+    pub(crate) fn hears_soon(&self, me: u32, seen: u64) -> bool
+        requires { me < self.now }
+    {
+        let place = &self.places[me as usize];
+        self.is_last_awake(place) && place.hears_soon(&self.news, seen, &self.player_is_due)
+    }
+
+    // A processor that scanned in vain rests until it is called, and then stays. It goes, which is
+    // true, where all that came rest and it found the play closing.
     pub(crate) fn rest<R: Wait>(&self, rt: &R, me: u32, seen: u64, closing: bool) -> bool
         requires { me < self.now }
     {
         let place = &self.places[me as usize];
-        if !closing
-            && self.is_last_awake(place)
-            && place.hears_soon(&self.news, seen, &self.player_is_due)
-        {
-            return false;
-        }
         if !self.comes_to_rest(rt, place, seen, closing) {
             return false;
         }

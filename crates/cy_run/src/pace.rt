@@ -1,13 +1,13 @@
-// Which components have something to do, so that the player keeps pace with them. No clause rests
-// on it.
+// Which components have something to do, by which the player keeps pace with them and processors
+// find them. It is a hint: it may be behind. No clause rests on it.
 use crate::RunError;
 use crossbeam_utils::CachePadded;
 use std::alloc::Global;
 use std::sync::atomic::AtomicU64;
 use std::sync::atomic::Ordering::SeqCst;
 
-// A mask has a bit for each component, by its number. There are at most 64; if there were more, the
-// player would take several for one.
+// A mask has a bit for each component, by its number. There are at most 64; if there were more,
+// several would be taken for one.
 const BITS: usize = 64;
 
 // The components that are open, those that some processor serves and those that sleep, as masks;
@@ -77,8 +77,8 @@ impl Pace {
         self.clock.store(clock, SeqCst);
         let due = self.due(clock);
         if due != 0 {
-            self.open(due);
-            let woken = due & !self.asleep.load(SeqCst);
+            let opened = due & !self.open.fetch_or(due, SeqCst);
+            let woken = opened & !self.asleep.load(SeqCst);
             if woken != 0 {
                 self.open.fetch_and(!woken, SeqCst);
             }

@@ -3,16 +3,16 @@ use std::sync::atomic::Ordering::SeqCst;
 use std::sync::atomic::{AtomicBool, AtomicU64};
 use std::thread;
 
-// How many looks are one try of a processor. They take some tens of microseconds, more than the next
-// message does to come where the player has to wait for a processor of the machine first.
+// How many looks are one try of a processor. They take some tens of microseconds, more than the
+// next message does to come where the player has to wait for a processor of the machine first.
 pub(crate) const LOOKS: u32 = 30_000;
 
 // After how many looks each time it is asked whether the player is to run.
 const TURN: u32 = 100;
 
 // How many tries are left out at most after one in vain. Where calls stay long, each try of the
-// player takes a processor of the machine from a call, and those that wait for that call fall asleep
-// meanwhile: so tries are to be seldom there.
+// player takes a processor of the machine from a call, and those that wait for that call fall
+// asleep meanwhile: so tries are to be seldom there.
 const MOST_LEFT_OUT: u64 = 1_023;
 
 // As many are left out after three in vain; where more are, calls count as long.
