@@ -173,13 +173,32 @@ impl Driven {
         }
     }
 
+    /// The first reader that a thread still has to fill: the component and the number of its reader.
+    fn first_fill(&self, thread: u32) -> Option<(u32, u8)> {
+        let owed = &self.world.owed[thread as usize];
+        if owed.fills == 0 {
+            return None;
+        }
+        let readers = self.world.fixed.readers(owed.token.channel);
+        Some(readers[readers.len() - owed.fills])
+    }
+
+    /// The first of a thread's news.
+    fn first_news(&self, thread: u32) -> Option<u32> {
+        let owed = &self.world.owed[thread as usize];
+        if owed.looked == owed.news.len() {
+            return None;
+        }
+        Some(owed.news[owed.looked])
+    }
+
     /// The events by which a thread gets done with what it has in hand and owes.
     pub(crate) fn push_left(&self, thread: u32, events: &mut Vec<Event>) -> Result<(), Fail> {
         self.push_in_hand(thread, events)?;
-        if let Some((component, role)) = self.world.first_fill(thread) {
+        if let Some((component, role)) = self.first_fill(thread) {
             let token = self.world.owed[thread as usize].token;
             events.push(Event::Fill(component, role, token))?;
-        } else if let Some(component) = self.world.first_news(thread) {
+        } else if let Some(component) = self.first_news(thread) {
             events.push(Event::Look(component))?;
         }
         for component in self.world.owed[thread as usize].clearing.iter() {

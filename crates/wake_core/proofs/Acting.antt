@@ -1,18 +1,19 @@
 -- What the calls on a croutine in hand need and give, where thread 0 alone does anything.
-use Rattle.std.proofs.Common.{ℕ, ◌≡◌, ◌≢◌, Bool, true, false, refl, sym, ◌∙◌, ap, subst, inl, inr, List, [], Option, Some, None, option_map, arith}
+use Rattle.std.proofs.Common.{ℕ, ◌≡◌, ◌≢◌, Bool, true, false, refl, sym, ◌∙◌, ap, subst, inl, inr, List, [], Option, Some, None, is_some, option_map, arith, ◌<◌, ◌∷◌, ◌++◌, length, slice_get}
 use Rattle.cy_msg.specs.declared.token.Token.{Token}
 use Rattle.cy_msg.specs.declared.token.Tuple.{Tuple}
 use Rattle.cy_comp.specs.declared.call.Call.{Call}
 use Rattle.cy_comp.specs.declared.call.Outcome.{Outcome}
 use Rattle.cy_comp.specs.Calls.{held_until}
-use Rattle.wake_core.specs.Run.{set_at, writes_from}
-use Rattle.wake_core.specs.Plain.{Plain, hand, State, Ready, DataWait, Phase, Known, Asked, Empty, Running, Sending, last_of, unsent_of}
-use Rattle.wake_core.specs.Events.{Ticks, Tapes, Sends, Asks, Fetches, Yields, Releases, IsNext, OwesNothing, next_call, state_after, after_tape, after_send, after_ask, after_call, after_none, after_fetch, after_yield}
+use Rattle.wake_core.specs.Run.{writes_from, readers_of}
+use Rattle.wake_core.specs.Plain.{Plain, hand, State, Ready, DataWait, Phase, Known, Empty, Running, Sending, last_of, unsent_of}
+use Rattle.wake_core.specs.Events.{Ticks, Tapes, Sends, Yields, Releases, IsNext, OwesNothing, next_call, state_after, after_tape, after_send, after_ask, after_none, after_fetch, after_yield}
 use Rattle.wake_core.specs.Sound.{Sound}
-use Rattle.wake_core.specs.WorldCalls.{in_hand, phase_sent, MayTape, Taped, MayAsk, MayFetch, MayStep, IsStepped}
+use Rattle.wake_core.specs.WorldCalls.{in_hand, phase_sent, MayTape, Taped, IsStepped}
 use Rattle.wake_core.specs.Rest.{IsAtRest}
-use Rattle.wake_core.specs.Turns.{Delivers, Delivered, Plays, IsInHand, IsCalled, IsCalledFrom, MaySendOut, MayGiveBack, GivesBack, SendsOut, Resumes, Finds, is_held}
-use Rattle.wake_core.proofs.Places.{set_at_same, set_at_there}
+use Rattle.wake_core.specs.Turns.{Delivers, Delivered, Plays, IsInHand, Calls, IsCalledFrom, MaySendOut, MayGiveBack, GivesBack, SendsOut, Resumes, Finds, is_held}
+use Rattle.wake_core.proofs.Places.{set_at_same}
+use Rattle.wake_core.proofs.Listing.{get_last}
 use Rattle.wake_core.proofs.Playing.{plays_by}
 use Rattle.wake_core.proofs.Taping.{send_written}
 use Rattle.wake_core.proofs.Sending.{delivered_by}
@@ -20,6 +21,10 @@ use Rattle.wake_core.proofs.Resuming.{held_resumes, none_resumes}
 use Rattle.wake_core.proofs.Called.{called_by, called_quiet, called_sent}
 use Rattle.wake_core.proofs.Taking.{takes_hand, passes_rest}
 use Rattle.wake_core.proofs.Handing.{in_hand_is}
+
+-- The channel of a message on the tape is known.
+tape_known : (t : Token) (tape : List Token) (n : Plain) → n.tape ≡ tape ++ t ∷ [] → Sound n → t.channel < length n.counts
+tape_known t tape n is s = s.consistent.room.channels (length tape) t (ap (λ l. slice_get l (length tape)) is ∙ get_last tape t)
 
 -- The next message may be played.
 module _ (t : Token) (w m : Plain) (rest : IsAtRest w) (next : IsNext t w) (tick : Ticks t.time w m) where
@@ -53,6 +58,13 @@ module _ (t : Token) (w m : Plain) (rest : IsAtRest w) (next : IsNext t w) (tick
     pub play_cleared : n.clearing 0 ≡ []
     play_cleared = ap (λ (x : Plain). x.clearing 0) play_taped.effect ∙ play_tapes.owes.cleared
 
+    pub play_all : n.fills 0 ≡ readers_of n.routes t.channel
+    play_all = ap (λ (x : Plain). x.fills 0) play_taped.effect ∙ set_at_same 0 (readers_of m.routes t.channel) m.fills
+        ∙ ap (λ (x : Plain). readers_of x.routes t.channel) (sym play_taped.effect)
+
+    pub play_known : Sound n → t.channel < length n.counts
+    play_known = tape_known t m.tape n (ap (λ (x : Plain). x.tape) play_taped.effect)
+
     pub play_plays : (v : Plain) → Delivers 0 n v → Plays t w v
     play_plays v d = plays_by t w m n v rest tick play_taped d
 
@@ -82,6 +94,13 @@ module _ (t : Token) (w : Plain) (may : MaySendOut t w) (s : Sound w) where
 
     pub send_cleared : m.clearing 0 ≡ []
     send_cleared = ap (λ (x : Plain). x.clearing 0) send_taped.effect ∙ send_taped.owes.cleared
+
+    pub send_all : m.fills 0 ≡ readers_of m.routes t.channel
+    send_all = ap (λ (x : Plain). x.fills 0) send_taped.effect ∙ set_at_same 0 (readers_of w.routes t.channel) w.fills
+        ∙ ap (λ (x : Plain). readers_of x.routes t.channel) (sym send_taped.effect)
+
+    pub send_known : Sound m → t.channel < length m.counts
+    send_known = tape_known t w.tape m (ap (λ (x : Plain). x.tape) send_taped.effect)
 
     pub send_delivered : (v : Plain) → Delivers 0 m v → Delivered (in_hand 0 w) (phase_sent (w.hands 0)) t w v
     send_delivered v d = delivered_by (in_hand 0 w) (phase_sent (w.hands 0)) t w m v may.alone s.consistent send_taped d
@@ -133,109 +152,65 @@ module _ (c : ℕ) (t : Token) (w : Plain) (h : IsInHand c Known w) (ready : w.s
         (subst (λ n. Yields 0 n Ready m g.between) sent_it g.yields)
         (subst (λ n. Releases 0 n g.between v) sent_it g.releases)
 
--- A fetch, and what it finds.
-module _ (c : ℕ) (w : Plain) (h : IsInHand c Known w) (ready : w.states c ≡ Ready) (none_held : unsent_of w c ≡ None) where
-  known_it : in_hand 0 w ≡ c
-  known_it = in_hand_is c Known w h.held
+-- A call whose fetch found nothing.
+module _ (c : ℕ) (w v : Plain) (h : IsInHand c Known w) (k : Calls c None w v) where
+  none_call : next_call k.between c ≡ None
+  none_call = by (next_call k.between c) k.found
+    where
+      by : (o : Option Call) → false ≡ is_some o → o ≡ None
+      by None e = refl
+      by (Some x) e = cc
 
-  pub call_may : MayAsk 0 w
-  call_may = subst (λ n. Asks 0 n w (after_ask 0 n w)) (sym known_it) record { held = h.held; ready = ready; none_held = none_held; effect = refl }
+  nothing_is : v ≡ after_none 0 c (after_ask 0 c w)
+  nothing_is = k.fetches.effect ∙ ap (λ (o : Option Call). after_fetch 0 c o k.between) none_call ∙ ap (after_none 0 c) k.asks.effect
 
-  module _ (m : Plain) (asks : Asks 0 (in_hand 0 w) w m) where
-    asked : Asks 0 c w m
-    asked = subst (λ n. Asks 0 n w m) known_it asks
+  nothing_held : v.hands 0 ≡ hand c Empty
+  nothing_held = ap (λ (x : Plain). x.hands 0) nothing_is ∙ set_at_same 0 (hand c Empty) (after_ask 0 c w).hands
 
-    asked_held : m.hands 0 ≡ hand c Asked
-    asked_held = ap (λ (x : Plain). x.hands 0) asked.effect ∙ set_at_same 0 (hand c Asked) w.hands
+  nothing_it : in_hand 0 v ≡ c
+  nothing_it = in_hand_is c Empty v nothing_held
 
-    asked_it : in_hand 0 m ≡ c
-    asked_it = in_hand_is c Asked m asked_held
+  pub nothing_may : MayGiveBack DataWait v
+  nothing_may = subst (λ n. Yields 0 n DataWait v (after_yield 0 n DataWait v)) (sym nothing_it) record {
+    owes = record {
+      filled = ap (λ (x : Plain). x.fills 0) nothing_is ∙ h.owes.filled;
+      looked = ap (λ (x : Plain). x.news 0) nothing_is ∙ h.owes.looked;
+      cleared = ap (λ (x : Plain). x.clearing 0) nothing_is ∙ h.owes.cleared;
+    };
+    held = inl (nothing_held, refl);
+    effect = refl;
+  }
 
-    pub fetch_may : MayFetch 0 m
-    fetch_may = asked_held ∙ ap (λ n. hand n Asked) (sym asked_it)
+  pub nothing_stepped : (to_step : ℕ → Option Tuple) → IsStepped 0 v to_step
+  nothing_stepped to_step = other_stepped c Empty v to_step nothing_held (λ e. cc)
 
-    module _ (n : Plain) (fetches : Fetches 0 (in_hand 0 m) m n) where
-      fetched : Fetches 0 c m n
-      fetched = subst (λ k. Fetches 0 k m n) asked_it fetches
+  pub nothing_resumes : (o : Plain) → GivesBack DataWait v o → Resumes c w o
+  nothing_resumes o g = none_resumes c w k.between v g.between o h k.asks k.fetches none_call
+      (subst (λ n. Yields 0 n DataWait v g.between) nothing_it g.yields)
+      (subst (λ n. Releases 0 n g.between o) nothing_it g.releases)
 
-      -- It found nothing.
-      module _ (answer : None ≡ option_map (λ (x : Call). x.tuple) (next_call m (in_hand 0 m))) where
-        none_call : next_call m c ≡ None
-        none_call = ap (next_call m) (sym asked_it) ∙ by (next_call m (in_hand 0 m)) answer
-          where
-            by : (o : Option Call) → None ≡ option_map (λ (x : Call). x.tuple) o → o ≡ None
-            by None e = refl
-            by (Some x) e = cc
+-- A call that was made.
+module _ (c : ℕ) (outcome : Outcome) (w v : Plain) (h : IsInHand c Known w) (ready : w.states c ≡ Ready) (s : Sound w) (k : Calls c (Some outcome) w v) where
+  pub some_call : (x : Call) × (next_call k.between c ≡ Some x)
+  some_call = by (next_call k.between c) k.found refl
+    where
+      by : (o : Option Call) → true ≡ is_some o → next_call k.between c ≡ o → (x : Call) × (next_call k.between c ≡ Some x)
+      by None e is = cc
+      by (Some x) e is = (x, is)
 
-        nothing_is : n ≡ after_none 0 c m
-        nothing_is = fetched.effect ∙ ap (λ (o : Option Call). after_fetch 0 c o m) none_call
+  pub made_called : IsCalledFrom c some_call.0 w v
+  made_called = record {
+    before = h;
+    sound = s;
+    ready = ready;
+    called = called_by c some_call.0 w k.between v h k.asks k.fetches some_call.1;
+  }
 
-        nothing_held : n.hands 0 ≡ hand c Empty
-        nothing_held = ap (λ (x : Plain). x.hands 0) nothing_is ∙ set_at_same 0 (hand c Empty) m.hands
+  pub made_in_hand : IsInHand c Running v
+  made_in_hand = made_called.called.in_hand
 
-        nothing_it : in_hand 0 n ≡ c
-        nothing_it = in_hand_is c Empty n nothing_held
-
-        pub nothing_may : MayGiveBack DataWait n
-        nothing_may = subst (λ k. Yields 0 k DataWait n (after_yield 0 k DataWait n)) (sym nothing_it) record {
-          owes = record {
-            filled = ap (λ (x : Plain). x.fills 0) (nothing_is ∙ ap (after_none 0 c) asked.effect) ∙ h.owes.filled;
-            looked = ap (λ (x : Plain). x.news 0) (nothing_is ∙ ap (after_none 0 c) asked.effect) ∙ h.owes.looked;
-            cleared = ap (λ (x : Plain). x.clearing 0) (nothing_is ∙ ap (after_none 0 c) asked.effect) ∙ h.owes.cleared;
-          };
-          held = inl (nothing_held, refl);
-          effect = refl;
-        }
-
-        pub nothing_stepped : (to_step : ℕ → Option Tuple) → IsStepped 0 n to_step
-        nothing_stepped to_step = other_stepped c Empty n to_step nothing_held (λ e. cc)
-
-        pub nothing_resumes : (v : Plain) → GivesBack DataWait n v → Resumes c w v
-        nothing_resumes v g = none_resumes c w m n g.between v h asked fetched none_call
-            (subst (λ k. Yields 0 k DataWait n g.between) nothing_it g.yields)
-            (subst (λ k. Releases 0 k g.between v) nothing_it g.releases)
-
-      -- It found a tuple.
-      module _ (tuple : Tuple) (answer : Some tuple ≡ option_map (λ (x : Call). x.tuple) (next_call m (in_hand 0 m))) where
-        pub some_call : (x : Call) × (next_call m c ≡ Some x)
-        some_call = by (next_call m (in_hand 0 m)) answer (ap (next_call m) (sym asked_it))
-          where
-            by : (o : Option Call) → Some tuple ≡ option_map (λ (x : Call). x.tuple) o → next_call m c ≡ o → (x : Call) × (next_call m c ≡ Some x)
-            by None e is = cc
-            by (Some x) e is = (x, is)
-
-        made_is : n ≡ after_call 0 c some_call.0 m
-        made_is = fetched.effect ∙ ap (λ (o : Option Call). after_fetch 0 c o m) some_call.1
-
-        made_held : n.hands 0 ≡ hand c Running
-        made_held = ap (λ (x : Plain). x.hands 0) made_is ∙ set_at_same 0 (hand c Running) m.hands
-
-        made_it : in_hand 0 n ≡ c
-        made_it = in_hand_is c Running n made_held
-
-        pub step_may : (before after : ℕ → Option Tuple) → after ≡ set_at (in_hand 0 m) (Some tuple) before → MayStep 0 tuple n after
-        step_may before after e = record {
-          held = made_held ∙ ap (λ k. hand k Running) (sym made_it);
-          given = ap (λ (f : ℕ → Option Tuple). f (in_hand 0 n)) e ∙ set_at_there (in_hand 0 m) (Some tuple) before (in_hand 0 n) (made_it ∙ sym asked_it);
-        }
-
-        pub step_stepped : (before after : ℕ → Option Tuple) → after ≡ set_at (in_hand 0 n) None before → after c ≡ None
-        step_stepped before after e = ap (λ (f : ℕ → Option Tuple). f c) e ∙ set_at_there (in_hand 0 n) None before c (sym made_it)
-
-        module _ (s : Sound w) (o : Plain) (same : o ≡ n) where
-          pub made_called : IsCalledFrom c some_call.0 w o
-          made_called = record {
-            before = h;
-            sound = s;
-            ready = ready;
-            called = subst (λ (x : Plain). IsCalled c some_call.0 w x) (sym same) (called_by c some_call.0 w m n h asked fetched some_call.1);
-          }
-
-          pub made_in_hand : IsInHand c Running o
-          made_in_hand = made_called.called.in_hand
-
-          pub made_last : (outcome : Outcome) → last_of n.routes n.calls (in_hand 0 n) ≡ Some outcome → last_of o.routes o.calls c ≡ Some outcome
-          made_last outcome e = ap (λ (x : Plain). last_of x.routes x.calls c) same ∙ ap (last_of n.routes n.calls) (sym made_it) ∙ e
+  pub made_last : last_of v.routes v.calls c ≡ Some outcome
+  made_last = k.outcome outcome refl
 
 -- What follows a call.
 module _ (c : ℕ) (w : Plain) (h : IsInHand c Running w) (outcome : Outcome) (last : last_of w.routes w.calls c ≡ Some outcome) where

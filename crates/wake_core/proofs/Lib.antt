@@ -18,6 +18,8 @@ pub mod Waking
 pub mod Timing
 pub mod HeldSends
 pub mod Sounding
+pub mod Telling
+pub mod Spreading
 pub mod Runs
 pub mod Totals
 pub mod WorkedRuns
@@ -48,7 +50,6 @@ pub mod Counting
 pub mod Tabled
 pub mod Beginning
 pub mod Showing
-pub mod Resting
 pub mod Playing
 pub mod Taking
 pub mod Parking
@@ -60,7 +61,9 @@ pub mod Turning
 pub mod Ending
 pub mod Listed
 pub mod Handing
+pub mod Taken
 pub mod Scanning
 pub mod Acting
 pub mod Parting
 pub mod Outside
+pub mod CalledWorld

@@ -1,18 +1,15 @@
 -- A scan of orders, one croutine after another.
-use Rattle.std.proofs.Common.{ℕ, zero, suc, ◌+◌, ◌≡◌, ◌≢◌, ◌≤◌, ◌<◌, Bool, true, false, refl, sym, ◌∙◌, ap, subst, inr, arith, List, [], ◌∷◌, ◌++◌, length, take, drop, Option, Some, None, slice_get, get_or, append_assoc, append-nil, is_some}
+use Rattle.std.proofs.Common.{ℕ, zero, suc, ◌+◌, ◌≡◌, ◌<◌, Bool, true, false, refl, sym, ◌∙◌, ap, subst, arith, List, [], ◌∷◌, ◌++◌, length, take, drop, Option, Some, None, slice_get, get_or, append_assoc, append-nil, is_some}
 use Rattle.std.proofs.lemmas.Option.{slice_get-get_or}
 use Rattle.cy_msg.specs.declared.placement.ContextPlan.{ContextPlan}
 use Rattle.cy_msg.specs.Placement.{scan_of}
 use Rattle.wake_core.specs.Run.{Route}
-use Rattle.wake_core.specs.Plain.{Plain, hand, State, Ready, DataWait, Sleep, Finished, Known, lists}
-use Rattle.wake_core.specs.Events.{Releases}
-use Rattle.wake_core.specs.WorldCalls.{in_hand, MayRelease}
+use Rattle.wake_core.specs.Plain.{Plain, lists}
 use Rattle.wake_core.specs.Sound.{Sound}
 use Rattle.wake_core.specs.Rest.{IsAtRest}
-use Rattle.wake_core.specs.Turns.{Takes, Passes, Finds, is_ready}
+use Rattle.wake_core.specs.Turns.{Passes, Finds, IsTaken}
 use Rattle.wake_core.proofs.Listing.{take_next, lists_first, lists_rest, lists_left}
-use Rattle.wake_core.proofs.Taking.{takes_hand, passes_rest, passes_one, passes_more, finds_here, finds_later, finds_first}
-use Rattle.wake_core.proofs.Handing.{in_hand_is}
+use Rattle.wake_core.proofs.Taking.{passes_more, finds_here, finds_later, finds_first}
 
 pub lists_get : (xs : List ℕ) (i x : ℕ) → slice_get xs i ≡ Some x → lists x xs ≡ true
 lists_get [] i x e = cc
@@ -24,18 +21,6 @@ parts_at [] i x e = cc
 parts_at (y ∷ xs) zero x e = let same : y ≡ x = cc in ap (λ z. z ∷ xs) (sym same)
 parts_at (y ∷ xs) (suc i) x e = let more : suc i + 1 ≡ suc (i + 1) = omega arith in ap (λ k. y ∷ take i xs ++ x ∷ drop k (y ∷ xs)) more ∙ ap (λ l. y ∷ l) (parts_at xs i x e)
 
-ready_is : (s : State) → is_ready s ≡ true → s ≡ Ready
-ready_is Ready e = refl
-ready_is DataWait e = cc
-ready_is (Sleep until) e = cc
-ready_is Finished e = cc
-
-other_is : (s : State) → is_ready s ≡ false → s ≢ Ready
-other_is s e is = true_false (sym (ap is_ready is) ∙ e)
-  where
-    true_false : true ≡ false → ⊥
-    true_false e = cc
-
 -- A croutine of an order, behind those that were passed.
 module _ (order : List ℕ) (i : ℕ) (first w m : Plain) (inside : i < length order) (rest : IsAtRest w) (p : Passes (take i order) first w) where
   at_it : slice_get order i ≡ Some (get_or order i 0)
@@ -44,34 +29,17 @@ module _ (order : List ℕ) (i : ℕ) (first w m : Plain) (inside : i < length o
   pub order_known : ((c : ℕ) → lists c order ≡ true → c < length first.routes) → get_or order i 0 < length w.routes
   order_known all = subst (λ (x : List Route). get_or order i 0 < length x) (sym (ap (λ (x : Plain). x.routes) p.effect)) (all (get_or order i 0) (lists_get order i (get_or order i 0) at_it))
 
-  module _ (answer : Bool) (t : Takes (get_or order i 0) w m) (says : answer ≡ is_ready (m.states (get_or order i 0))) where
-    -- It is the first that is READY.
-    pub order_finds : answer ≡ true → Sound w → (c : ℕ) → Some (get_or order i 0) ≡ Some c → Finds order c first m
-    order_finds is s c e =
-        let same : get_or order i 0 ≡ c = cc in
-        subst (λ k. Finds order k first m) same
-        (subst (λ l. Finds l (get_or order i 0) first m) (parts_at order i (get_or order i 0) at_it)
-        (finds_here (take i order) (drop (i + 1) order) (get_or order i 0) first w m p s t (ready_is (m.states (get_or order i 0)) (sym says ∙ is))))
+  -- It is the first that is READY.
+  pub order_finds : IsTaken (get_or order i 0) w m → Sound w → (c : ℕ) → Some (get_or order i 0) ≡ Some c → Finds order c first m
+  order_finds t s c e =
+      let same : get_or order i 0 ≡ c = cc in
+      subst (λ k. Finds order k first m) same
+      (subst (λ l. Finds l (get_or order i 0) first m) (parts_at order i (get_or order i 0) at_it)
+      (finds_here (take i order) (drop (i + 1) order) (get_or order i 0) first w m p s t.takes t.ready))
 
-    it_held : m.hands 0 ≡ hand (get_or order i 0) Known
-    it_held = (takes_hand (get_or order i 0) w m rest t).held
-
-    it_in : in_hand 0 m ≡ get_or order i 0
-    it_in = in_hand_is (get_or order i 0) Known m it_held
-
-    -- It isn't, and is given back.
-    pub order_may : MayRelease 0 m
-    order_may = inr (it_held ∙ ap (λ n. hand n Known) (sym it_in))
-
-    module _ (v : Plain) (isnt : answer ≡ false) (r : Releases 0 (in_hand 0 m) m v) where
-      one_passed : Passes (get_or order i 0 ∷ []) w v
-      one_passed = passes_one (get_or order i 0) w m v rest t (other_is (m.states (get_or order i 0)) (sym says ∙ isnt)) (subst (λ n. Releases 0 n m v) it_in r)
-
-      pub order_rest : IsAtRest v
-      order_rest = passes_rest (get_or order i 0 ∷ []) w v rest one_passed
-
-      pub order_passes : Passes (take (i + 1) order) first v
-      order_passes = subst (λ l. Passes l first v) (sym (take_next order i (get_or order i 0) at_it)) (passes_more (take i order) (get_or order i 0 ∷ []) first w v p one_passed)
+  -- It isn't, and is passed by.
+  pub order_passes : Passes (get_or order i 0 ∷ []) w m → Passes (take (i + 1) order) first m
+  order_passes one = subst (λ l. Passes l first m) (sym (take_next order i (get_or order i 0) at_it)) (passes_more (take i order) (get_or order i 0 ∷ []) first w m p one)
 
 scan_append : (xs ys : List ContextPlan) → scan_of (xs ++ ys) ≡ scan_of xs ++ scan_of ys
 scan_append [] ys = refl

@@ -1,7 +1,7 @@
 -- What the fields show to readers.
-use Rattle.std.proofs.Common.{ℕ, true, ◌+◌, ◌-◌, ◌≡◌, ◌≢◌, ◌≤◌, ◌<◌, refl, sym, ◌∙◌, ap, arith, Option, Some, None, List, [], ◌∷◌, length, get_or, slice_get, option_map, option_and_then}
+use Rattle.std.proofs.Common.{ℕ, ◌+◌, ◌≡◌, ◌≢◌, ◌≤◌, ◌<◌, refl, sym, ◌∙◌, ap, arith, Option, Some, None, List, [], length, slice_get, option_map, option_and_then}
 use Rattle.std.specs.Option.{option_map_or}
-use Rattle.std.proofs.lemmas.Option.{slice_get_within, slice_get-get_or, slice_get_past}
+use Rattle.std.proofs.lemmas.Option.{slice_get_within}
 use Rattle.cy_msg.specs.declared.token.Token.{Token}
 use Rattle.cy_msg.specs.Tokens.{on_channel}
 use Rattle.cy_fuse.specs.Fusion.{Arrival}
@@ -10,17 +10,14 @@ use Rattle.cy_comp.specs.declared.call.Out.{Out}
 use Rattle.cy_comp.specs.Calls.{outs, output}
 use Rattle.cy_comp.specs.Routine.{RoutineView}
 use Rattle.wake_core.specs.declared.found.Found.{Found}
-use Rattle.wake_core.specs.declared.owed.Owed.{Owed}
 use Rattle.wake_core.specs.declared.entries.TheConstants.{MOST_PLANNED}
-use Rattle.wake_core.specs.Run.{Route, readers_of}
+use Rattle.wake_core.specs.Run.{Route}
 use Rattle.wake_core.specs.Planned.{planned}
-use Rattle.wake_core.specs.Plain.{Plain, outs_of, taped_of, reads, lists_reader}
+use Rattle.wake_core.specs.Plain.{Plain, outs_of, taped_of}
 use Rattle.wake_core.specs.Sound.{Sound}
 use Rattle.wake_core.specs.WorldCalls.{IsRoutineOf}
-use Rattle.wake_core.specs.Fields.{read, no_routine, shown_calls, calls_at, fills_of, IsFixed, IsWaiting}
-use Rattle.wake_core.proofs.Owing.{drop_first}
+use Rattle.wake_core.specs.Fields.{read, no_routine, shown_calls, calls_at, IsFixed, IsWaiting}
 use Rattle.wake_core.proofs.Listing.{get_in}
-use Rattle.wake_core.proofs.Readers.{reader_reads, lists_reader_first}
 use Rattle.wake_core.proofs.Limits.{count_limit}
 
 -- A component that is stepped shows the calls of its routine.
@@ -93,28 +90,3 @@ routine_of w {routines = routines} c r is state calls h = record {
   calls = sym (calls ∙ ap (λ (r : RoutineView). r.calls) is);
   pending = λ x at. unsent_is w.routes w.calls w.tape c x at calls h ∙ ap (λ (r : RoutineView). option_map (output x.out (taped_of w.routes w.tape c + 1)) r.pending) is;
 }
-
--- The first reader that is left.
-pub fills_none : (routes : List Route) (o : Owed) → o.fills ≡ 0 → None ≡ slice_get (fills_of routes o) 0
-fills_none routes o e =
-    let readers = readers_of routes o.token.channel in
-    sym (drop_first readers (length readers - o.fills) ∙ slice_get_past readers (length readers - o.fills) (omega (arith, e)))
-
-pub fills_some : (routes : List Route) (o : Owed) (readers : List (ℕ × ℕ)) (d : ℕ × ℕ) → readers ≡ readers_of routes o.token.channel → length readers - o.fills < length readers
-    → Some (get_or readers (length readers - o.fills) d) ≡ slice_get (fills_of routes o) 0
-fills_some routes o readers d is l =
-    sym (slice_get-get_or readers (length readers - o.fills) d l)
-    ∙ ap (λ (rs : List (ℕ × ℕ)). slice_get rs (length rs - o.fills)) is
-    ∙ sym (drop_first (readers_of routes o.token.channel) (length (readers_of routes o.token.channel) - o.fills))
-
--- A channel that is read is known.
-pub channel_known : (routes : List Route) (counts : List ℕ) (channel : ℕ) → 1 ≤ length (readers_of routes channel) → IsFixed routes counts → channel < length counts
-channel_known routes counts channel some fixed = by (readers_of routes channel) refl some (λ v j e. reader_reads routes channel v j e)
-  where
-    known : (v j : ℕ) (o : Option Route) → slice_get routes v ≡ o → option_and_then (λ (x : Route). slice_get x.readers j) o ≡ Some channel → channel < length counts
-    known v j None at e = cc
-    known v j (Some x) at e = fixed.known v x at j channel e
-
-    by : (rs : List (ℕ × ℕ)) → readers_of routes channel ≡ rs → 1 ≤ length rs → ((v j : ℕ) → lists_reader v j (readers_of routes channel) ≡ true → reads routes v j ≡ Some channel) → channel < length counts
-    by [] is some reader = absurd (omega (arith, some))
-    by (r ∷ rs) is some reader = known r.0 r.1 (slice_get routes r.0) refl (reader r.0 r.1 (ap (lists_reader r.0 r.1) is ∙ lists_reader_first r.0 r.1 rs))

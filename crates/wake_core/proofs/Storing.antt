@@ -169,3 +169,14 @@ release_flags {size} {held} {hands} p n f has one h = record {
 
     croutine_of : (c k : ℕ) (f g : Phase) → hand c f ≡ hand k g → c ≡ k
     croutine_of c k f g e = grind arith
+
+-- The world that shows a stored state, with other flags and hands.
+pub stored_parts : (w : Plain) (n : ℕ) (s : State) {st : ℕ → State} {cs : ℕ → List Call} {sp tp : ℕ → Bool} {hs gs : ℕ → Option Hand}
+    → st ≡ set_at n s w.states → sp ≡ tp → cs ≡ w.calls → hs ≡ gs
+    → record w { states = st; spent = sp; cursors = λ c. cursor_after (cs c); calls = cs; hands = hs }
+    ≡ record w { states = set_at n s w.states; spent = tp; cursors = λ c. cursor_after (w.calls c); hands = gs }
+stored_parts w n s {st = st} {cs = cs} {sp = sp} {tp = tp} {hs = hs} is_states is_spent is_calls is_hands =
+    ap (λ (x : ℕ → State). record w { states = x; spent = sp; cursors = λ c. cursor_after (cs c); calls = cs; hands = hs }) is_states
+    ∙ ap (λ (x : ℕ → Bool). record w { states = set_at n s w.states; spent = x; cursors = λ c. cursor_after (cs c); calls = cs; hands = hs }) is_spent
+    ∙ ap (λ (x : ℕ → List Call). record w { states = set_at n s w.states; spent = tp; cursors = λ c. cursor_after (x c); calls = x; hands = hs }) is_calls
+    ∙ ap (λ (x : ℕ → Option Hand). record w { states = set_at n s w.states; spent = tp; cursors = λ c. cursor_after (w.calls c); hands = x }) is_hands

@@ -13,6 +13,7 @@ pub mod Rest
 pub mod Turns
 pub mod Fields
 pub mod Owing
+pub mod Delivery
 pub mod Opening
 pub mod WorldCalls
 pub mod WorldOf

@@ -5,6 +5,7 @@ use Rattle.std.specs.Prelude.{None, if◌then◌else◌, nat_lt, is_some}
 use Rattle.std.specs.Option.{option_map_or}
 use Rattle.cy_msg.specs.declared.token.Token.{Token}
 use Rattle.cy_comp.specs.declared.call.Call.{Call}
+use Rattle.cy_comp.specs.declared.call.Outcome.{Outcome}
 use Rattle.cy_comp.specs.Calls.{held_until}
 use Rattle.wake_core.specs.Run.{Route, set_at, arrive, readers_of, played_of}
 use Rattle.wake_core.specs.Planned.{planned_count, first_reader, counts_from}
@@ -12,36 +13,16 @@ use Rattle.wake_core.specs.Settle.{Settles}
 use Rattle.wake_core.specs.Serial.{is_runnable, resume, play, next}
 use Rattle.wake_core.specs.Plain.{Plain, hand, State, Ready, DataWait, Sleep, Finished, Phase}
 use Rattle.wake_core.specs.Plain.{Known, Running, lists, last_of, unsent_of}
-use Rattle.wake_core.specs.Events.{OwesNothing, IsDue, Sends, Yields, Releases, next_call}
-use Rattle.wake_core.specs.Events.{after_send, after_yield}
+use Rattle.wake_core.specs.Events.{OwesNothing, IsDue, Asks, Fetches, Sends, Yields, Releases}
+use Rattle.wake_core.specs.Events.{next_call, after_send, after_yield, is_waiting}
 use Rattle.wake_core.specs.WorldCalls.{in_hand, phase_sent}
 use Rattle.wake_core.specs.Laws.{IsIdle}
 use Rattle.wake_core.specs.Sound.{Sound}
 use Rattle.wake_core.specs.Rest.{IsAtRest, run_shown, StaysFixed}
 
--- The thread's message arrives at each of the readers that it still has to fill.
-pub record FillsAll (p : ℕ) (w v : Plain) : Type 0 where
-  pub same : v ≡ record w { arrivals = v.arrivals; fills = v.fills; news = v.news }
-  pub arrivals : v.arrivals ≡ arrive (w.fills p) (w.tokens p) w.arrivals
-  pub fills : v.fills ≡ set_at p [] w.fills
-  pub news : v.news ≡ set_at p (v.news p) w.news
-
--- The thread looks at each of its news, and clears the flag of each that waits.
-pub record LooksAll (p : ℕ) (w v : Plain) : Type 0 where
-  pub same : v ≡ record w { spent = v.spent; news = v.news; clearing = v.clearing }
-  pub news : v.news ≡ set_at p [] w.news
-  pub clearing : v.clearing ≡ set_at p [] w.clearing
-
--- It looks at the first of its news, and clears its flag where it waits.
-pub record Tells (p c : ℕ) (w v : Plain) : Type 0 where
-  pub later : List ℕ
-  pub first : w.news p ≡ c ∷ later
-  pub same : v ≡ record w { spent = v.spent; news = v.news; clearing = v.clearing }
-  pub news : v.news ≡ set_at p later w.news
-  pub clearing : v.clearing ≡ w.clearing
-
--- It does both, filling and looking, and owes nothing then. Which flags were cleared isn't said:
--- that no croutine is lost is said of every world.
+-- The thread's message arrives at each of the readers that it still has to fill; it looks at its
+-- news, and clears the flags of those that wait. It owes nothing then. Which flags were cleared
+-- isn't said: that no croutine is lost is said of every world.
 pub record Delivers (p : ℕ) (w v : Plain) : Type 0 where
   pub same : v ≡ record w {
     arrivals = v.arrivals;
@@ -99,6 +80,11 @@ pub record Takes (c : ℕ) (w v : Plain) : Type 0 where
       → (w.states c ≡ Ready) ⊎ (w.spent c ≡ false)
   pub parked : v.states c ≢ Ready → IsParked c v × (v.states c ≡ w.states c)
 
+-- A croutine was taken, and is READY.
+pub record IsTaken (c : ℕ) (w v : Plain) : Type 0 where
+  pub takes : Takes c w v
+  pub ready : v.states c ≡ Ready
+
 -- Croutines are taken in turn and given back, since none is READY: each is parked.
 pub record Passes (order : List ℕ) (w v : Plain) : Type 0 where
   pub effect : v ≡ record w { spent = v.spent }
@@ -145,6 +131,17 @@ pub record IsCalled (c : ℕ) (call : Call) (w v : Plain) : Type 0 where
   pub in_hand : IsInHand c Running v
   pub found : next_call w c ≡ Some call
   pub none_held : unsent_of w c ≡ None
+
+-- It asked and fetched, and its component was called on what the fetch found, with this outcome; or
+-- the fetch found nothing.
+pub record Calls (c : ℕ) (answer : Option Outcome) (w v : Plain) : Type 0 where
+  -- The world in which it had asked.
+  pub between : Plain
+  pub asks : Asks 0 c w between
+  pub fetches : Fetches 0 c between v
+  -- There is an outcome exactly where something was found, and it is that of the last call then.
+  pub found : is_some answer ≡ is_some (next_call between c)
+  pub outcome : (o : Outcome) → answer ≡ Some o → last_of v.routes v.calls c ≡ Some o
 
 -- It was called from a world in which it was READY.
 pub record IsCalledFrom (c : ℕ) (call : Call) (w v : Plain) : Type 0 where
@@ -200,6 +197,10 @@ is_due Ready clock = false
 is_due DataWait clock = false
 is_due (Sleep until) clock = nat_lt until clock
 is_due Finished clock = false
+
+-- Whether a flag wakes a croutine: it waits, and its flag is clear.
+abbrev pub is_woken : State → (was_spent : Bool) → Bool
+is_woken state was_spent = is_waiting state && not was_spent
 
 -- Whether there is a time until which an output is held back.
 abbrev pub is_held : Option ℕ → Bool

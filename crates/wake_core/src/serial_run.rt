@@ -1,20 +1,18 @@
 // The serial run: what the events come to where one thread does them all.
-ghost use Rattle.std.specs.Prelude.{ℕ, ◌≡◌, ◌≤◌, ◌<◌, ◌&&◌, true, false, [], Some, None, length};
-ghost use Rattle.std.specs.Prelude.{slice_get};
+ghost use Rattle.std.specs.Prelude.{ℕ, ◌≡◌, ◌≤◌, ◌<◌, true, false, Some, None, length};
 ghost use Rattle.cy_msg.specs.Placement.{scan_of};
 ghost use Rattle.cy_comp.specs.declared.call.Call.{Call};
 ghost use Rattle.cy_comp.specs.Calls.{held_until};
 ghost use Rattle.wake_core.specs.Plain.{Plain, Ready, Known, Running, lists, last_of, unsent_of};
-ghost use Rattle.wake_core.specs.Events.{Ticks, IsNext, is_waiting, state_after};
+ghost use Rattle.wake_core.specs.Events.{Ticks, IsNext, state_after};
 ghost use Rattle.wake_core.specs.Settle.{Settles};
 ghost use Rattle.wake_core.specs.Serial.{SerialRun, last_clock, next};
 ghost use Rattle.wake_core.specs.LawfulRun.{Quiet, LawfulRun};
 ghost use Rattle.wake_core.specs.Rest.{IsAtRest, IsScanOf, MayPlay, MayFinish, StaysMade};
 ghost use Rattle.wake_core.specs.Rest.{StaysFixed, run_shown};
-ghost use Rattle.wake_core.specs.Turns.{FillsAll, LooksAll, Tells, Delivers, Plays, Takes, Passes};
-ghost use Rattle.wake_core.specs.Turns.{Finds, IsInHand, MaySendOut, Delivered, SendsOut};
-ghost use Rattle.wake_core.specs.Turns.{IsCalledFrom, MayGiveBack, GivesBack, Resumes, Turns};
-ghost use Rattle.wake_core.specs.Turns.{IsSettled, is_ready, is_due, is_held};
+ghost use Rattle.wake_core.specs.Turns.{Plays, Passes, Finds, IsInHand, MaySendOut, Delivered};
+ghost use Rattle.wake_core.specs.Turns.{SendsOut, IsCalledFrom, Resumes, Turns, IsSettled};
+ghost use Rattle.wake_core.specs.Turns.{is_held};
 ghost use Rattle.wake_core.specs.WorldOf.{plain_of, to_step};
 ghost use Rattle.wake_core.specs.WorldCalls.{in_hand, phase_sent, IsStepped};
 
@@ -71,55 +69,7 @@ fn play(world: &mut World, token: &Token)
 {
     world.tick(0, token.time);
     world.tape(0, *token);
-    deliver(world, *token);
-}
-
-// A message that was sent arrives at the readers of its channel, and those that wait are told.
-fn deliver(world: &mut World, token: Token)
-    requires token { (plain_of world.old).tokens 0 ≡ token }
-    requires looked { (plain_of world.old).news 0 ≡ [] }
-    requires cleared { (plain_of world.old).clearing 0 ≡ [] }
-    ensures delivers { Delivers 0 (plain_of world.old) (plain_of world.new) }
-    ensures steps { to_step world.new ≡ to_step world.old }
-{
-    fill_all(world, token);
-    tell_all(world);
-}
-
-// Fills the readers that are still to be filled.
-fn fill_all(world: &mut World, token: Token)
-    requires { (plain_of world.old).tokens 0 ≡ token }
-    ensures fills { FillsAll 0 (plain_of world.old) (plain_of world.new) }
-    ensures steps { to_step world.new ≡ to_step world.old }
-{
-    while let Some((component, role)) = world.first_fill(0) {
-        world.fill(0, component, role, token);
-    }
-}
-
-// Tells all that are in the news.
-fn tell_all(world: &mut World)
-    requires filled { (plain_of world.old).fills 0 ≡ [] }
-    requires cleared { (plain_of world.old).clearing 0 ≡ [] }
-    ensures looks { LooksAll 0 (plain_of world.old) (plain_of world.new) }
-    ensures steps { to_step world.new ≡ to_step world.old }
-{
-    while let Some(component) = world.first_news(0) {
-        tell(world, component);
-    }
-}
-
-// Looks at the first of the news, and clears its flag where it waits.
-fn tell(world: &mut World, component: u32)
-    requires filled { (plain_of world.old).fills 0 ≡ [] }
-    requires cleared { (plain_of world.old).clearing 0 ≡ [] }
-    requires first { slice_get ((plain_of world.old).news 0) 0 ≡ Some component }
-    ensures tells { Tells 0 component (plain_of world.old) (plain_of world.new) }
-    ensures steps { to_step world.new ≡ to_step world.old }
-{
-    if world.look(0, component) {
-        world.clear(0, component);
-    }
+    world.deliver(*token);
 }
 
 // Resumes croutines until none is READY.
@@ -178,56 +128,11 @@ fn first_ready(world: &mut World, order: &[u32]) -> Option<u32>
     ensures none { result ≡ None → Passes order.now (plain_of world.old) (plain_of world.new) }
 {
     for component in order {
-        if take(world, *component) {
+        if world.take(*component) {
             return Some(*component);
         }
-        world.release(0);
     }
     None
-}
-
-// Acquires and updates a croutine. Whether it is READY.
-fn take(world: &mut World, component: u32) -> bool
-    requires rest { IsAtRest (plain_of world.old) }
-    requires known { component < length (plain_of world.old).routes }
-    ensures takes { Takes component (plain_of world.old) (plain_of world.new) }
-    ensures ready { result ≡ is_ready ((plain_of world.new).states component) }
-{
-    world.acquire(0, component);
-    let state = world.state(component);
-    if due(state, world.clock()) {
-        world.ready(0);
-        return true;
-    }
-    if woken(state, world.spend(0)) {
-        world.ready(0);
-        return true;
-    }
-    ready(state)
-}
-
-// Whether a croutine is READY.
-fn ready(state: State) -> bool
-    ensures { result ≡ is_ready state }
-{
-    matches!(state, State::Ready)
-}
-
-// Whether a croutine is woken: it waits, and its flag was clear.
-fn woken(state: State, clear: bool) -> bool
-    ensures { result ≡ is_waiting state && clear }
-{
-    matches!(state, State::DataWait) && clear
-}
-
-// Whether a croutine is due.
-fn due(state: State, clock: u64) -> bool
-    ensures { result ≡ is_due state clock }
-{
-    match state {
-        State::Sleep { until } => until < clock,
-        _ => false,
-    }
 }
 
 // Resumes the READY croutine in hand, and gives it back.
@@ -251,7 +156,7 @@ fn send_held(world: &mut World, component: u32, token: Token)
     ensures { Resumes component (plain_of world.old) (plain_of world.new) }
 {
     send(world, token);
-    give_back(world, State::Ready);
+    world.give_back(State::Ready);
 }
 
 // Fetches for the READY croutine in hand, calls its component on what is found, and gives it back.
@@ -261,13 +166,9 @@ fn call(world: &mut World, component: u32)
     requires none_held { unsent_of (plain_of world.old) component ≡ None }
     ensures { Resumes component (plain_of world.old) (plain_of world.new) }
 {
-    world.ask(0);
-    match world.fetch(0) {
-        Some(tuple) => {
-            let outcome = world.step(0, &tuple);
-            follow(world, component, &outcome);
-        }
-        None => give_back(world, State::DataWait),
+    match world.call(component) {
+        Some(outcome) => follow(world, component, &outcome),
+        None => world.give_back(State::DataWait),
     }
 }
 
@@ -282,7 +183,7 @@ fn follow(world: &mut World, component: u32, outcome: &Outcome)
         → Resumes component w (plain_of world.new) }
 {
     send_out(world, component, outcome);
-    give_back(world, state_of(outcome));
+    world.give_back(state_of(outcome));
 }
 
 // Sends the output of the component that was called, where there is one that isn't held back.
@@ -312,17 +213,7 @@ fn send(world: &mut World, token: Token)
     ensures steps { to_step world.new ≡ to_step world.old }
 {
     world.tape(0, token);
-    deliver(world, token);
-}
-
-// Stores what the croutine in hand is to do next, and gives it back.
-fn give_back(world: &mut World, state: State)
-    requires may { MayGiveBack state (plain_of world.old) }
-    requires stepped { IsStepped 0 (plain_of world.old) (to_step world.old) }
-    ensures { GivesBack state (plain_of world.old) (plain_of world.new) }
-{
-    world.yield_as(0, state);
-    world.release(0);
+    world.deliver(token);
 }
 
 // Whether an outcome holds its output back.

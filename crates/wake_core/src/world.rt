@@ -15,8 +15,10 @@ use cy_comp::Routine;
 use cy_fuse::Visitor;
 use cy_msg::Token;
 
+mod alone;
 mod apart;
 mod clock;
+mod deliver;
 mod hold;
 mod opening;
 mod read;

@@ -3,11 +3,11 @@ ghost use Rattle.std.specs.Prelude.{◌≡◌};
 ghost use Rattle.cy_comp.specs.Calls.{output};
 
 use crate::World;
-use cy_comp::{Out, Routine, State};
+use cy_comp::{Out, Routine};
 use cy_msg::Token;
 
 impl World {
-    ghost use Rattle.std.specs.Prelude.{◌≡◌, ◌<◌, ◌≤◌, ℕ, Some, None, length, slice_get};
+    ghost use Rattle.std.specs.Prelude.{◌≡◌, ◌<◌, ℕ, Some, None, length, slice_get};
     ghost use Rattle.cy_msg.specs.declared.token.Token.{Token};
     ghost use Rattle.cy_fuse.specs.Fusion.{Arrival};
     ghost use Rattle.wake_core.specs.Plain.{played_count, unsent_of};
@@ -81,40 +81,6 @@ impl World {
         let index = component as usize;
         let out = self.routines[index].pending()?;
         Some(output_as(self.fixed.out(index), self.sent[index] + 1, out))
-    }
-
-    /// The state of a component.
-    pub(crate) fn state(&self, component: u32) -> State
-        requires { component < length (plain_of self.now).routes }
-        ensures { result ≡ (plain_of self.now).states component }
-    {
-        self.routines[component as usize].state()
-    }
-
-    /// The first reader that a thread still has to fill: the component and the number of its
-    /// reader.
-    pub(crate) fn first_fill(&self, thread: u32) -> Option<(u32, u8)>
-        requires { thread ≤ 64 }
-        ensures { result ≡ slice_get ((plain_of self.now).fills thread) 0 }
-    {
-        let owed = &self.owed[thread as usize];
-        if owed.fills == 0 {
-            return None;
-        }
-        let readers = self.fixed.readers(owed.token.channel);
-        Some(readers[readers.len() - owed.fills])
-    }
-
-    /// The first of a thread's news.
-    pub(crate) fn first_news(&self, thread: u32) -> Option<u32>
-        requires { thread ≤ 64 }
-        ensures { result ≡ slice_get ((plain_of self.now).news thread) 0 }
-    {
-        let owed = &self.owed[thread as usize];
-        if owed.looked == owed.news.len() {
-            return None;
-        }
-        Some(owed.news[owed.looked])
     }
 }
 

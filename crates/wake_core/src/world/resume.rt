@@ -8,11 +8,12 @@ impl World {
     ghost use Rattle.std.specs.Prelude.{◌≡◌, Some, None, option_map};
     ghost use Rattle.cy_comp.specs.declared.call.Call.{Call};
     ghost use Rattle.wake_core.specs.Run.{set_at};
-    ghost use Rattle.wake_core.specs.Plain.{last_of};
+    ghost use Rattle.wake_core.specs.Plain.{Ready, Known, last_of, unsent_of};
     ghost use Rattle.wake_core.specs.Events.{Asks, Fetches, Yields, next_call};
     ghost use Rattle.wake_core.specs.WorldOf.{plain_of, to_step};
     ghost use Rattle.wake_core.specs.WorldCalls.{in_hand, MayAsk, MayFetch, MayStep, MayYieldAs};
     ghost use Rattle.wake_core.specs.WorldCalls.{IsStepped};
+    ghost use Rattle.wake_core.specs.Turns.{IsInHand, Calls};
 
     /// Stores that the READY croutine in hand, which holds no output back, waits for a message
     /// again. Its fetch comes next.
@@ -85,6 +86,38 @@ impl World {
                 self.routines[croutine as usize].took(*tuple, found.position, found.tail)
             }
             None => unreachable!(),
+        }
+    }
+
+    /// Thread 0 asks and fetches for the croutine in hand, and steps its component at once on what
+    /// is found: `ask`, `fetch` and `step` in one, without keeping the tuple between them. None
+    /// comes exactly where the fetch finds nothing.
+    pub(crate) fn call(&mut self, component: u32) -> Option<Outcome>
+        requires held { IsInHand component Known (plain_of self.old) }
+        requires ready { (plain_of self.old).states component ≡ Ready }
+        requires none_held { unsent_of (plain_of self.old) component ≡ None }
+        ensures event { Calls component result (plain_of self.old) (plain_of self.new) }
+        ensures steps { to_step self.new ≡ to_step self.old }
+    {
+        let index = component as usize;
+        let routine = &mut self.routines[index];
+        let mut cursor = routine.cursor();
+        routine.ask();
+        match self.visitors[index].try_fetch(&mut cursor) {
+            Some((tuple, position, tail)) => {
+                self.hands[0] = Some(Hand {
+                    croutine: component,
+                    phase: Phase::Running,
+                });
+                Some(routine.took(tuple, position, tail))
+            }
+            None => {
+                self.hands[0] = Some(Hand {
+                    croutine: component,
+                    phase: Phase::Empty,
+                });
+                None
+            }
         }
     }
 

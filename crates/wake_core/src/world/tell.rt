@@ -36,7 +36,7 @@ impl World {
 }
 
 // Whether a state is DATA_WAIT.
-fn waits(state: State) -> bool
+pub(super) fn waits(state: State) -> bool
     ensures { result ≡ is_waiting state }
 {
     matches!(state, State::DataWait)

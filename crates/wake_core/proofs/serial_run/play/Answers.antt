@@ -1,5 +1,5 @@
 use Rattle.wake_core.specs.WorldOf.{plain_of, to_step}
-use Rattle.wake_core.proofs.Acting.{play_may, play_stepped, play_token, play_looked, play_cleared, play_plays}
+use Rattle.wake_core.proofs.Acting.{play_may, play_stepped, play_token, play_known, play_all, play_looked, play_cleared, play_plays}
 use Rattle.wake_core.proofs.serial_run.play.Goals as goal
 
 pub tape-requires-clause-event : goal.tape-requires-clause-event
@@ -11,6 +11,13 @@ tape-requires-clause-stepped c = play_stepped c.args.token.now (plain_of c.args.
 pub deliver-requires-clause-token : goal.deliver-requires-clause-token
 deliver-requires-clause-token c = play_token c.args.token.now (plain_of c.args.world.now) (plain_of c.tick.new.self) c.requires.rest c.requires.next c.tick.ensures.event (plain_of c.tape.new.self) c.tape.ensures.event
 
+pub deliver-requires-clause-known : goal.deliver-requires-clause-known
+unfolding plain_of
+deliver-requires-clause-known c = play_known c.args.token.now (plain_of c.args.world.now) (plain_of c.tick.new.self) c.requires.rest c.requires.next c.tick.ensures.event (plain_of c.tape.new.self) c.tape.ensures.event c.tape.new.self.sound
+
+pub deliver-requires-clause-all : goal.deliver-requires-clause-all
+deliver-requires-clause-all c = play_all c.args.token.now (plain_of c.args.world.now) (plain_of c.tick.new.self) c.requires.rest c.requires.next c.tick.ensures.event (plain_of c.tape.new.self) c.tape.ensures.event
+
 pub deliver-requires-clause-looked : goal.deliver-requires-clause-looked
 deliver-requires-clause-looked c = play_looked c.args.token.now (plain_of c.args.world.now) (plain_of c.tick.new.self) c.requires.rest c.requires.next c.tick.ensures.event (plain_of c.tape.new.self) c.tape.ensures.event
 
@@ -19,4 +26,4 @@ deliver-requires-clause-cleared c = play_cleared c.args.token.now (plain_of c.ar
 
 pub returns : goal.returns
 returns c = play_plays c.args.token.now (plain_of c.args.world.now) (plain_of c.tick.new.self) c.requires.rest c.requires.next c.tick.ensures.event (plain_of c.tape.new.self) c.tape.ensures.event
-    (plain_of c.deliver.new.world) c.deliver.ensures.delivers
+    (plain_of c.deliver.new.self) c.deliver.ensures.delivers

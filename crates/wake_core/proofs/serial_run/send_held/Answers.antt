@@ -18,4 +18,4 @@ give_back-requires-clause-stepped c = sent_stepped c.args.component c.args.token
 pub returns : goal.returns
 unfolding plain_of
 returns c = held_back_resumes c.args.component c.args.token (plain_of c.args.world.now) c.requires.held c.requires.ready c.requires.unsent (plain_of c.send.new.world) c.send.ensures.sends
-    (plain_of c.give_back.new.world) c.args.world.now.sound c.give_back.ensures
+    (plain_of c.give_back.new.self) c.args.world.now.sound c.give_back.ensures.event
