@@ -96,6 +96,7 @@ fn push_bytes(out: &mut Vec<u8>, bytes: &[u8])
 }
 
 /// Appends a field that holds bytes, for which there is room.
+#[inline(always)]
 fn push_field(out: &mut Vec<u8>, tag: u64, bytes: &[u8])
     requires { vec_len out.old + length bytes.now + 20 ≤ vec_capacity out.old }
     ensures items { out.new.items ≡ out.old.items

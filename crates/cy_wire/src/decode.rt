@@ -26,6 +26,7 @@ fn type_of(tag: u64, at: u64) -> Result<u64, WireError>
 
 // A length and that many bytes, and how many bytes both take.
 #[tactic(auto, unfolding(crate::specs::Field::bytes_at))]
+#[inline(always)]
 fn block_at<'a>(bytes: &'a [u8], at: u64) -> Result<(FieldValue<'a>, usize), WireError>
     requires { at + length bytes.now < 2 ^ 64 }
     ensures value { Answers (λ x. (seen_value x.0, x.1)) result (bytes_at at bytes.now) }
@@ -44,6 +45,7 @@ fn block_at<'a>(bytes: &'a [u8], at: u64) -> Result<(FieldValue<'a>, usize), Wir
 
 // The value at the front of bytes, and how many bytes it takes.
 #[tactic(auto, unfolding(crate::specs::Field::value_at, crate::specs::Field::number_at))]
+#[inline(always)]
 fn value_of<'a>(kind: u64, bytes: &'a [u8], at: u64) -> Result<(FieldValue<'a>, usize), WireError>
     requires { at + length bytes.now < 2 ^ 64 }
     ensures value { Answers (λ x. (seen_value x.0, x.1)) result (value_at kind at bytes.now) }
@@ -65,6 +67,7 @@ fn value_of<'a>(kind: u64, bytes: &'a [u8], at: u64) -> Result<(FieldValue<'a>, 
 
 // The field at the front of bytes that stand at a place, and how many bytes it takes.
 #[tactic(auto, unfolding(crate::specs::Field::field_at))]
+#[inline(always)]
 pub(crate) fn field_of<'a>(bytes: &'a [u8], at: u64) -> Result<(Field<'a>, usize), WireError>
     requires { at + length bytes.now < 2 ^ 64 }
     ensures field { Answers (λ x. (seen x.0, x.1)) result (field_at at bytes.now) }

@@ -38,6 +38,7 @@ impl<'a> Reader<'a> {
 
     /// The next field, or none at the end. After a fault it answers that fault again. It takes no
     /// memory.
+    #[inline(always)]
     pub fn next_field(&mut self) -> Result<Option<Field<'a>>, WireError>
         ensures field { TakesField result self.old self.new }
         ensures not_memory { IfErr result (λ e. e ≢ WireError.Memory) }

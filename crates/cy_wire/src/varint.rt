@@ -9,6 +9,7 @@ use crate::writer::LONGEST;
 // The number at the front of bytes that stand at a place, and how many bytes it takes. Most numbers
 // take one byte.
 #[tactic(auto, using(crate::proofs::VarintSteps::first_at))]
+#[inline(always)]
 pub(crate) fn varint_at(bytes: &[u8], at: u64) -> Result<(u64, usize), WireError>
     ensures number { result ≡ varint_at at bytes.now }
     ensures taken { IfOk result (λ x. TakesSome x.1 bytes.now) }

@@ -25,6 +25,7 @@ pub struct RecordWriter {
 
 impl RecordWriter {
     // An answer of the store's, which breaks the writer if it is `Failed`.
+    #[inline(always)]
     fn broken_by(&mut self, answer: Result<(), WriteError>) -> Result<(), WriteError>
         ensures answer { result ≡ answer }
         ensures failed { IsErrOf answer WriteError.Failed → IsBroken self.new }
@@ -84,6 +85,7 @@ impl RecordWriter {
     ///
     /// Want of memory leaves the message out, and the writer goes on; a chunk that was put stays
     /// put.
+    #[inline(always)]
     pub fn message<S: Store>(
         &mut self,
         alloc: Global,

@@ -206,6 +206,7 @@ impl Writing {
     }
 
     // Gathers a message, which the chunk takes.
+    #[inline(always)]
     fn gather(&mut self, channel: u32, time: u64, content: &[u8]) -> Result<(), WriteError>
         requires { channel < length self.old.channels.items }
         ensures { Gathers self.old self.new channel time content.now result }
@@ -221,6 +222,7 @@ impl Writing {
     }
 
     /// Takes a message of a channel.
+    #[inline(always)]
     pub fn message<S: Store>(
         &mut self,
         alloc: Global,

@@ -18,6 +18,7 @@ impl World {
     /// The message that thread 0 put on the tape arrives at its readers, and then those of which it
     /// is the first reader and that wait have their flags cleared: `fill`, `look` and `clear` for
     /// all of them, in one.
+    #[inline(always)]
     pub(crate) fn deliver(&mut self, token: Token)
         requires token { (plain_of self.old).tokens 0 ≡ token }
         requires known { token.channel < length (plain_of self.old).counts }

@@ -73,6 +73,7 @@ impl World {
 
     /// The output of a component that is still to be sent, as a message of its channel; none where
     /// all were sent.
+    #[inline(always)]
     pub(crate) fn unsent(&self, component: u32) -> Option<Token>
         requires component { component < length (plain_of self.now).routes }
         requires stepped { to_step self.now component ≡ None }

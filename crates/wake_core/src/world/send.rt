@@ -18,6 +18,7 @@ impl World {
     /// A message comes onto the tape: the next one of a channel that no component writes, by the
     /// player; or the output of the croutine in hand that is to be sent. The thread has to fill the
     /// readers of its channel then.
+    #[inline(always)]
     pub fn tape(&mut self, thread: u32, token: Token)
         requires event { MayTape thread token (plain_of self.old) }
         requires stepped { writes_from 0 (plain_of self.old).routes token.channel ≢ None
@@ -45,6 +46,7 @@ impl World {
     }
 
     // The output of the croutine in hand comes onto the tape.
+    #[inline(always)]
     fn send(&mut self, thread: u32, hand: Hand, token: Token)
         requires held { (plain_of self.old).hands thread ≡ Some hand }
         requires event { Sends thread hand.croutine (phase_sent (Some hand)) token
@@ -104,6 +106,7 @@ fn after_send(hand: Hand) -> Hand
 }
 
 // A message comes onto the tape, and a thread has to fill so many readers with it.
+#[inline(always)]
 fn put(tape: &mut Vec<Token>, owed: &mut Owed, token: Token, fills: usize)
     requires { vec_len tape.old < vec_capacity tape.old }
     ensures tape { tape.new.items ≡ tape.old.items ++ token ∷ [] }
