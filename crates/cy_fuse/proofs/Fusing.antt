@@ -1,10 +1,8 @@
 -- How one more arrival changes a fusion.
-use Rattle.std.proofs.Common.{ℕ, zero, suc, ◌+◌, ◌-◌, ◌≡◌, ◌≤◌, ◌<◌, ◌==◌, if◌then◌else◌, true, false, List, [], ◌∷◌, ◌++◌, length, slice_index_or, Option, Some, None, refl, sym, ap, ◌∙◌, arith, append_assoc, append-nil, length-append}
-use Rattle.std.specs.Prelude.{option_map, option_and_then, option_to_list}
-use Rattle.cy_msg.specs.declared.token.Token.{Token}
+use Rattle.std.proofs.Common.{ℕ, ◌-◌, ◌≡◌, ◌≤◌, ◌==◌, if◌then◌else◌, true, false, List, [], ◌∷◌, ◌++◌, length, Option, Some, None, refl, sym, ap, ◌∙◌, arith, append_assoc, append-nil, length-append}
+use Rattle.std.specs.Prelude.{option_map, option_to_list}
 use Rattle.cy_msg.specs.declared.token.Tuple.{Tuple}
 use Rattle.cy_fuse.specs.Fusion.{Arrival, later_or, latest, latest_of, joined, added, fused_after, fused}
-use Rattle.cy_fuse.specs.Visiting.{kept_of}
 
 fused_after-push : (readers : ℕ) (before arrivals : List Arrival) (a : Arrival)
     → fused_after readers before (arrivals ++ a ∷ []) ≡ fused_after readers before arrivals ++ added readers (before ++ arrivals) a
@@ -50,11 +48,3 @@ latest-push role (b ∷ rest) a =
     ap (λ l. later_or l (if b.0 == role then Some b.1 else None)) (latest-push role rest a)
     ∙ elim (a.0 == role) as (λ t. later_or (if t then Some a.1 else latest role rest) (if b.0 == role then Some b.1 else None)
     ≡ (if t then Some a.1 else later_or (latest role rest) (if b.0 == role then Some b.1 else None))) [ true ↦ refl | false ↦ refl ]
-
--- the kept messages of the other roles are the last of them
-pub kept_of-latest : (from count : ℕ) (arrivals : List Arrival) (last : List (Option Token)) → from + count ≤ 4
-    → ((role : ℕ) → role < 4 → slice_index_or last role None ≡ latest role arrivals) → kept_of from count last ≡ latest_of from count arrivals
-kept_of-latest from zero arrivals last few joins = refl
-kept_of-latest from (suc count) arrivals last few joins =
-    ap (λ o. option_and_then (λ t. option_map (λ ts. t ∷ ts) (kept_of (suc from) count last)) o) (joins from (omega arith))
-    ∙ ap (λ o. option_and_then (λ t. option_map (λ ts. t ∷ ts) o) (latest from arrivals)) (kept_of-latest (suc from) count arrivals last (omega arith) joins)

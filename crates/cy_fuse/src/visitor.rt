@@ -1,16 +1,28 @@
 // What arrives at a component, and the tuples that it makes.
-ghost use Rattle.std.specs.Prelude.{◌≡◌, ◌≤◌, ◌<◌, ◌-◌, ◌^◌, ◌↔◌, IfOk};
-ghost use Rattle.std.specs.Prelude.{IsNone};
+ghost use Rattle.std.specs.Prelude.{◌≡◌, ◌≤◌, ◌<◌, ◌-◌, ◌↔◌, ◌++◌, ◌∷◌, [], IfOk};
+ghost use Rattle.std.specs.Prelude.{IsNone, IsSome, is_some, Some, vec_len, vec_capacity};
 ghost use Rattle.cy_fuse.specs.Visitor.{prepared, arrived, visited, position_at, index_after};
-ghost use Rattle.cy_fuse.specs.Visiting.{made_by, filled_by};
+ghost use Rattle.cy_fuse.specs.Visiting.{message_at, tuple_at, JoinsLast};
 
-use crate::{CacheBuffer, Cursor, FuseError};
+use crate::{CacheBuffer, Cursor, FuseError, fetch_at};
 use cy_msg::{Token, Tuple};
 use std::alloc::Global;
 use std::marker::Model;
 
 // The most readers that a component has.
 const MOST_ROLES: usize = 4;
+
+// What is appended where an arrival is to stand.
+const BLANK: (u8, Token) = (
+    0,
+    Token {
+        channel: 0,
+        seq: 0,
+        time: 0,
+        whole: None,
+        origin: None,
+    },
+);
 
 /// The arrivals at a component, and the last tuples that they make. Contracts see it as a
 /// `VisitorView`: how many tuples it keeps, how many readers it has, for how many more arrivals it
@@ -20,8 +32,10 @@ pub struct Visitor {
     roles: u8,
     spare: u32,
     arrivals: Vec<(u8, Token)>,
-    last: [Option<Token>; MOST_ROLES],
-    tuples: CacheBuffer<Tuple>,
+    // The place of each reader's last arrival.
+    last: [Option<u32>; MOST_ROLES],
+    // The last tuples, each by the places of the arrivals that it joins.
+    tuples: CacheBuffer<[u32; MOST_ROLES]>,
 }
 
 impl Model for Visitor {
@@ -81,48 +95,96 @@ impl Visitor {
         requires room { 1 ≤ self.old.spare }
         ensures { self.new ≡ arrived self.old role token }
     {
-        let tuple = join(self.roles, role, token, &self.last);
-        fill_with(&mut self.tuples, tuple);
-        self.last[role as usize] = Some(token);
-        self.arrivals.push_reserved((role, token));
+        let place = self.arrivals.len() as u32;
+        append(&mut self.arrivals, role, token);
+        self.last[role as usize] = Some(place);
         self.spare -= 1;
+        if role != 0 {
+            return;
+        }
+        if let Some(places) = joined(self.roles, place, &self.last) {
+            self.tuples.fill(places);
+        }
     }
 
     /// Fetches a tuple by the fetch rule: the tuple, its position from 1, and how many tuples there
     /// are. The cursor is then behind it; where nothing is found it stays.
+    #[inline(always)]
     pub fn try_fetch(&self, cursor: &mut Cursor) -> Option<(Tuple, u64, u64)>
         ensures found { result ≡ visited cursor.old self.now }
         ensures next { cursor.new ≡ index_after cursor.old result }
         ensures none { IsNone result ↔ IsNone (position_at cursor.old self.now) }
     {
-        let (tuple, position) = cursor.fetch(&self.tuples)?;
+        let (places, position) = cursor.fetch(&self.tuples)?;
+        let tuple = tuple_of(self.roles, self.arrivals.as_slice(), places);
         Some((tuple, position, self.tuples.tail()))
+    }
+
+    /// Whether a fetch finds anything, without the fetch.
+    pub fn finds(&self, cursor: Cursor) -> bool
+        ensures { result ≡ is_some (position_at cursor self.now) }
+    {
+        fetch_at(cursor.next(), self.tuples.tail(), self.tuples.size()).is_some()
     }
 }
 
-// The tuple that a message makes: one of the first reader is joined with the last one of each other
-// reader, where each has one.
-fn join(roles: u8, role: u8, token: Token, last: &[Option<Token>; MOST_ROLES]) -> Option<Tuple>
-    requires { (1 ≤ roles) × (roles ≤ 4) }
-    ensures { result ≡ made_by roles role token last.now }
+// Appends an arrival. It is set where it stands: a pair that is made first and then copied is read
+// back in pieces of other widths than it was written in, for which the processor waits.
+fn append(arrivals: &mut Vec<(u8, Token)>, role: u8, token: Token)
+    requires { vec_len arrivals.old < vec_capacity arrivals.old }
+    ensures items { arrivals.new.items ≡ arrivals.old.items ++ (role, token) ∷ [] }
+    ensures room { vec_capacity arrivals.new ≡ vec_capacity arrivals.old }
 {
-    if role != 0 {
-        return None;
-    }
+    let place = arrivals.len();
+    arrivals.push_reserved(BLANK);
+    let arrival = &mut arrivals[place];
+    arrival.0 = role;
+    arrival.1 = token;
+}
+
+// The places of the tuple that an arrival of the first reader makes: it is joined with the last
+// arrival of each other reader, where each has one.
+fn joined(roles: u8, place: u32, last: &[Option<u32>; MOST_ROLES]) -> Option<[u32; MOST_ROLES]>
+    requires { (1 ≤ roles) × (roles ≤ 4) }
+    ensures { JoinsLast roles place last.now result }
+{
     Some(match roles {
-        1 => Tuple::One(token),
-        2 => Tuple::Two(token, last[1]?),
-        3 => Tuple::Three(token, last[1]?, last[2]?),
-        _ => Tuple::Four(token, last[1]?, last[2]?, last[3]?),
+        1 => [place, 0, 0, 0],
+        2 => [place, last[1]?, 0, 0],
+        3 => [place, last[1]?, last[2]?, 0],
+        _ => [place, last[1]?, last[2]?, last[3]?],
     })
 }
 
-// Fills a tuple in, where there is one.
-fn fill_with(tuples: &mut CacheBuffer<Tuple>, tuple: Option<Tuple>)
-    requires { tuples.old.tail < 2 ^ 64 - 2 }
-    ensures { tuples.new ≡ filled_by tuples.old tuple }
+// The message of the arrival at a place.
+fn message(arrivals: &[(u8, Token)], place: u32) -> Token
+    requires { IsSome (message_at arrivals.now place) }
+    ensures { message_at arrivals.now place ≡ Some result }
 {
-    if let Some(tuple) = tuple {
-        tuples.fill(tuple);
+    arrivals[place as usize].1
+}
+
+// The tuple of the messages at these places.
+#[inline(always)]
+fn tuple_of(roles: u8, arrivals: &[(u8, Token)], places: [u32; MOST_ROLES]) -> Tuple
+    requires roles { (1 ≤ roles) × (roles ≤ 4) }
+    requires there { IsSome (tuple_at roles arrivals.now places) }
+    ensures { tuple_at roles arrivals.now places ≡ Some result }
+{
+    let first = message(arrivals, places[0]);
+    match roles {
+        1 => Tuple::One(first),
+        2 => Tuple::Two(first, message(arrivals, places[1])),
+        3 => Tuple::Three(
+            first,
+            message(arrivals, places[1]),
+            message(arrivals, places[2]),
+        ),
+        _ => Tuple::Four(
+            first,
+            message(arrivals, places[1]),
+            message(arrivals, places[2]),
+            message(arrivals, places[3]),
+        ),
     }
 }
