@@ -68,6 +68,7 @@ impl Class {
     }
 
     /// Answers to a tuple.
+    #[inline(always)]
     pub(crate) fn step(&mut self, tuple: &Tuple) -> Outcome
         ensures { Steps self.old self.new tuple.now result }
     {

@@ -96,6 +96,7 @@ impl Routine {
 
     /// It takes the tuple that a fetch found at a position, where there were `tail` tuples, and
     /// calls its component. The output of the call waits to be sent.
+    #[inline(always)]
     pub fn took(&mut self, tuple: Tuple, position: u64, tail: u64) -> Outcome
         requires { MayTake self.old tuple position }
         ensures outcome { result ≡ answer_to self.old tuple }
