@@ -14,14 +14,14 @@ fn type_of(tag: u64, at: u64) -> Result<u64, WireError>
     ensures kind { result ≡ wire_type at tag }
     ensures not_memory { IfErr result (λ e. e ≢ WireError.Memory) }
 {
-    let kind = tag % 8;
-    if tag > u64::from(u32::MAX) || tag < 8 || kind > 5 {
+    if tag > u64::from(u32::MAX) || tag < 8 {
         return Err(WireError::BadTag { at });
     }
-    if kind == 3 || kind == 4 {
-        return Err(WireError::Group { at });
+    match tag % 8 {
+        kind @ (0 | 1 | 2 | 5) => Ok(kind),
+        3 | 4 => Err(WireError::Group { at }),
+        _ => Err(WireError::BadTag { at }),
     }
-    Ok(kind)
 }
 
 // A length and that many bytes, and how many bytes both take.
