@@ -48,6 +48,7 @@ fn last_number(message: &[u8]) -> Result<Option<u64>, WireError>
 /// the content is no sequence of fields, and where none of them is field 1 with a number. It takes
 /// no memory.
 #[tactic(auto, unfolding(crate::specs::Whole::whole_value))]
+#[inline(always)]
 pub fn whole_of(content: &[u8]) -> Option<i64>
     ensures { result ≡ whole_value content.now }
 {
