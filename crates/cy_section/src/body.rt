@@ -41,6 +41,7 @@ impl<'a> Model for MessageReader<'a> {
 
 // The message in some bytes.
 #[tactic(auto, unfolding(crate::specs::Reading::message_at, crate::specs::Reading::message_in))]
+#[inline(always)]
 fn message_of<'a>(message: Span<'a>) -> Result<MessageView<'a>, SectionError>
     ensures { Answers seen result (message_at (seen_span message.entry)) }
 {
@@ -76,6 +77,7 @@ impl<'a> MessageReader<'a> {
 
     /// The next message, or none at the end. After a fault nothing is said of what the reader
     /// answers. It takes no memory.
+    #[inline(always)]
     pub fn next_message(&mut self) -> Result<Option<MessageView<'a>>, SectionError>
         ensures { TakesMessage result self.old self.new }
     {
