@@ -79,6 +79,7 @@ fn place_of(channels: &[Known], name: &str) -> Option<usize>
 
 // The number of a channel's name. Where there are few, a look at each takes less time than the hash
 // of the name.
+#[inline(always)]
 fn number_of(channels: &Channels, name: &str) -> Option<u32>
     requires { IsTied channels.now }
     ensures { result ≡ number_of name.now channels.now.list.items }

@@ -43,6 +43,7 @@ pub(crate) struct Message {
 
 // Keeps a message.
 #[tactic(auto, unfolding(crate::specs::Record::message_met), using(crate::proofs::Sound::sounds))]
+#[inline(always)]
 fn message_met(
     alloc: Global,
     file: &[u8],
@@ -97,6 +98,7 @@ fn keep(
 }
 
 // Keeps the messages of a chunk's body. A fault anywhere in it comes before any limit.
+#[inline(never)]
 fn body_met(
     alloc: Global,
     file: &[u8],

@@ -98,6 +98,7 @@ fn use_at(whole: &Record, uses: &[ChannelUse], place: u32) -> ChannelUse
 impl Passed {
     // Takes the message at a place, if it passes.
     #[tactic(auto, using(crate::proofs::Playing::takes))]
+    #[inline(always)]
     fn take(
         &mut self,
         whole: &Record,
