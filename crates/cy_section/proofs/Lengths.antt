@@ -41,6 +41,9 @@ length-field_bytes number bytes low =
 pub length-varint_bytes-large : (n : ℕ) → 128 ≤ n → n < 2 ^ 64 → length (varint_bytes n) ≡ length (varint_bytes (n / 128)) + 1
 length-varint_bytes-large n large fits = rw (varint_bytes-large n large fits) (omega arith)
 
+-- a low number as its own byte, for `using`
+pub ruleset small_varints = (varint_bytes-small, length-tag)
+
 -- the steps of counting the bytes of a number, for `using`
 pub ruleset varint_lengths = (length-tag, length-varint_bytes-large, length-varint_bytes)
 
@@ -107,6 +110,9 @@ length-message_fields name time content =
 
 -- and that it fits, for `using`
 pub ruleset message_fields = (length-message_fields, length-varint_bytes)
+
+-- and what they take where the lengths are small, for `using`
+pub ruleset short_fields = (length-message_fields, length-tag, length-varint_bytes)
 
 -- a message's field is a tag, the length of its fields, and they
 pub length-of-message_field : (m : BodyMessage) → length (message_field m)

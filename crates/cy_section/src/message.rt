@@ -1,6 +1,6 @@
 // Writes messages, and the section of a chunk's messages.
-ghost use Rattle.std.specs.Prelude.{◌≡◌, ◌+◌, ◌≤◌, ◌++◌, length, take, vec_len, vec_capacity, OnOk};
-ghost use Rattle.std.specs.Prelude.{OnErr, IsOkUnless};
+ghost use Rattle.std.specs.Prelude.{◌≡◌, ◌+◌, ◌≤◌, ◌<◌, ◌++◌, length, take, vec_len, vec_capacity};
+ghost use Rattle.std.specs.Prelude.{OnOk, OnErr, IsOkUnless};
 ghost use Rattle.cy_wire.specs.Wire.{varint_bytes, field_u64, field_bytes};
 ghost use Rattle.cy_section.specs.Section.{section, message_field, chunk_body};
 ghost use Rattle.cy_section.specs.declared.types.SectionKind.TheVariants as kind;
@@ -22,6 +22,10 @@ const CONTENT_TAG: u64 = 3 * 8 + 2;
 
 /// Room for the numbers of a message: four tags, three lengths and the time, ten bytes for each.
 const MESSAGE_ROOM: usize = 80;
+
+/// As many bytes of a name and a content as leave every length in a message below 128, even that of
+/// the fields, which take up to 15 bytes beside them.
+const SHORT_BYTES: usize = 112;
 
 /// How many bytes a number takes as a varint.
 #[tactic(auto, using(crate::proofs::Lengths::varint_lengths))]
@@ -133,8 +137,73 @@ fn reserve_message(out: &mut Vec<u8>, name: &str, content: &[u8]) -> Result<(), 
     Ok(())
 }
 
-/// Appends a message as a chunk's body has it. Want of memory changes nothing.
+/// How many bytes the fields of a message with a short name and content take.
+#[tactic(auto, using(crate::proofs::Lengths::short_fields))]
+fn short_size(name: &str, time: u64, content: &[u8]) -> u64
+    requires { length name.now + length content.now ≤ 112 }
+    ensures size { result ≡ length (field_bytes 1 name.now ++ field_u64 2 time
+        ++ field_bytes 3 content.now) }
+    ensures small { result < 128 }
+{
+    5 + name.len() as u64 + varint_len(time) + content.len() as u64
+}
+
+/// Appends a number below 128, for which there is room.
+#[inline(always)]
+#[tactic(auto, using(crate::proofs::Lengths::small_varints))]
+fn push_small(out: &mut Vec<u8>, value: u64)
+    requires small { value < 128 }
+    requires room { vec_len out.old < vec_capacity out.old }
+    ensures items { out.new.items ≡ out.old.items ++ varint_bytes value }
+    ensures len { vec_len out.new ≡ vec_len out.old + 1 }
+    ensures capacity { vec_capacity out.new ≡ vec_capacity out.old }
+{
+    out.push_reserved(value as u8);
+}
+
+/// Appends a message with a short name and content, for which there is room.
 #[tactic(auto, unfolding(crate::specs::Section::message_field))]
+fn push_short(out: &mut Vec<u8>, name: &str, time: u64, content: &[u8])
+    requires short { length name.now + length content.now ≤ 112 }
+    requires room { vec_len out.old + length name.now + length content.now + 80
+        ≤ vec_capacity out.old }
+    ensures { out.new.items ≡ out.old.items ++ message_field record {
+      channel_name = name.now;
+      time = time;
+      content = content.now;
+    } }
+{
+    push_small(out, MESSAGE_TAG);
+    push_small(out, short_size(name, time, content));
+    push_small(out, NAME_TAG);
+    push_small(out, name.len() as u64);
+    push_bytes(out, name.as_bytes());
+    push_small(out, TIME_TAG);
+    push_varint(out, time);
+    push_small(out, CONTENT_TAG);
+    push_small(out, content.len() as u64);
+    push_bytes(out, content);
+}
+
+/// Appends a message of any length, for which there is room. Most are short, so this stands by
+/// itself and leaves the registers to those.
+#[inline(never)]
+#[tactic(auto, unfolding(crate::specs::Section::message_field))]
+fn push_any(out: &mut Vec<u8>, name: &str, time: u64, content: &[u8])
+    requires room { vec_len out.old + length name.now + length content.now + 80
+        ≤ vec_capacity out.old }
+    ensures { out.new.items ≡ out.old.items ++ message_field record {
+      channel_name = name.now;
+      time = time;
+      content = content.now;
+    } }
+{
+    push_varint(out, MESSAGE_TAG);
+    push_varint(out, fields_size(name, time, content));
+    push_fields(out, name, time, content);
+}
+
+/// Appends a message as a chunk's body has it. Want of memory changes nothing.
 fn push_message(
     out: &mut Vec<u8>,
     name: &str,
@@ -151,9 +220,11 @@ fn push_message(
     ensures only_memory { IsOkUnless result SectionError.Memory }
 {
     reserve_message(out, name, content)?;
-    push_varint(out, MESSAGE_TAG);
-    push_varint(out, fields_size(name, time, content));
-    push_fields(out, name, time, content);
+    if name.len() + content.len() <= SHORT_BYTES {
+        push_short(out, name, time, content);
+    } else {
+        push_any(out, name, time, content);
+    }
     Ok(())
 }
 
