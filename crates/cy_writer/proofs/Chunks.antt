@@ -1,16 +1,16 @@
 -- What a chunk is with one message more, and whether there is room for it.
-use Rattle.std.proofs.Common.{◌≡◌, ℕ, suc, ◌+◌, ◌≤◌, ◌<◌, ◌==◌, false, ◌&&◌, List, [], ◌∷◌, ◌++◌, length, drop, get_or, min, max, refl, ap, sym, ◌∙◌, arith, length-append}
+use Rattle.std.proofs.Common.{◌≡◌, ℕ, suc, ◌+◌, ◌≤◌, ◌<◌, ◌==◌, true, false, ◌&&◌, List, [], ◌∷◌, ◌++◌, length, drop, get_or, min, max, refl, ap, sym, ◌∙◌, arith, length-append}
 use Rattle.std.specs.Prelude.{nat_le, if◌then◌else◌, ◌-◌, ◌^◌}
 use Rattle.std.proofs.lemmas.Bool.Decides.{nat_tests}
-use Rattle.std.proofs.lemmas.Bool.{lt-leb, leb-false}
-use Rattle.std.proofs.lemmas.List.{flat_map_more}
+use Rattle.std.proofs.lemmas.Bool.{lt-leb, le-leb, leb-false}
+use Rattle.std.proofs.lemmas.List.{flat_map_more, length-drop}
 use Rattle.std.proofs.lemmas.List.Sums.{sum-map, sum_by_push}
 use Rattle.cy_section.specs.declared.types.ChunkHeader.{ChunkHeader}
 use Rattle.cy_section.specs.declared.types.BodyMessage.{BodyMessage}
 use Rattle.cy_section.specs.Section.{chunk_body, message_field}
 use Rattle.cy_section.specs.Chunks.{chunk_raw_size}
 use Rattle.cy_section.specs.RecordText.{least_time, greatest_time, raw_size, chunk_header_of}
-use Rattle.cy_section.proofs.Lengths.{length-section, length-of-message_field, length-message_fields, length-chunk_body-more}
+use Rattle.cy_section.proofs.Lengths.{length-section, length-of-message_field, length-message_fields, length-message_field, length-chunk_body-more}
 use Rattle.cy_section.specs.declared.types.SectionKind.{SectionKind}
 use Rattle.cy_section.specs.Section.{section}
 use Rattle.cy_section.specs.declared.types.SectionKind.TheVariants as kind
@@ -63,16 +63,31 @@ chunk_more old new messages m held header first body = record {
 }
 
 -- a body with a message that is too long by itself
-pub too_long : (messages : List BodyMessage) (m : BodyMessage) (longest : ℕ) → longest ≡ max (length m.channel_name) (length m.content)
-    → nat_le longest chunk_raw_size ≡ false → nat_le (length (chunk_body (messages ++ m ∷ []))) chunk_raw_size ≡ false
-too_long messages m longest e over =
+pub too_long : (messages : List BodyMessage) (m : BodyMessage) (bytes : ℕ) → bytes ≡ length m.channel_name + length m.content
+    → nat_le bytes chunk_raw_size ≡ false → nat_le (length (chunk_body (messages ++ m ∷ []))) chunk_raw_size ≡ false
+too_long messages m bytes e over =
     lt-leb _ _ (omega (
       arith,
-      leb-false longest chunk_raw_size over,
+      leb-false bytes chunk_raw_size over,
       e,
       length-chunk_body-more messages m,
       length-of-message_field m,
       length-message_fields m.channel_name m.time m.content,
+    ))
+
+-- a body so far from full that each message of so many bytes fits
+pub far_from_full : (c : Chunk) (messages : List BodyMessage) (m : BodyMessage) (bytes : ℕ) → IsChunkOf c messages
+    → bytes ≡ length m.channel_name + length m.content → length c.section + bytes ≤ chunk_raw_size - 64
+    → nat_le (length (chunk_body (messages ++ m ∷ []))) chunk_raw_size ≡ true
+far_from_full c messages m bytes held e few =
+    le-leb _ _ (omega (
+      arith,
+      few,
+      e,
+      length-chunk_body-more messages m,
+      length-message_field m,
+      ap length held.body,
+      length-drop 16 c.section,
     ))
 
 same_test : (a b limit : ℕ) → (a ≤ limit → b ≤ limit) → (b ≤ limit → a ≤ limit) → nat_le a limit ≡ nat_le b limit

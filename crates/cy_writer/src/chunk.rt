@@ -16,6 +16,10 @@ pub(crate) const CHUNK_RAW_SIZE: u64 = 200_000_000;
 
 pub(crate) const CHUNK_INTERVAL: u64 = 20_000_000_000;
 
+// A body that is no longer than this with a message's name and content has room for the message,
+// which takes 64 bytes at most beside them.
+const SURE_ROOM: u64 = CHUNK_RAW_SIZE - 64;
+
 /// The numbers of no messages.
 pub(crate) const NO_MESSAGES: ChunkHeader = ChunkHeader {
     begin_time: 0,
@@ -97,9 +101,15 @@ impl Chunk {
                   content.now;
             } ∷ []))) chunk_raw_size }
     {
-        // A longer name or content is too long by itself, and is not measured.
-        if name.len().max(content.len()) as u64 > CHUNK_RAW_SIZE {
+        // A longer name and content are too long by themselves, and are not measured.
+        let bytes = (name.len() + content.len()) as u64;
+        if bytes > CHUNK_RAW_SIZE {
             return false;
+        }
+        // Most bodies are so far from full that the message isn't measured either.
+        let most = self.section.bytes().len() as u64 + bytes;
+        if most <= SURE_ROOM {
+            return true;
         }
         let size = message_size(name, time, content);
         self.body_len().saturating_add(size) <= CHUNK_RAW_SIZE
