@@ -69,7 +69,7 @@ fn play(world: &mut World, token: &Token)
 {
     world.tick(0, token.time);
     world.tape(0, *token);
-    world.deliver(*token);
+    world.deliver(token);
 }
 
 // Resumes croutines until none is READY.
@@ -213,7 +213,7 @@ fn send(world: &mut World, token: Token)
     ensures steps { to_step world.new ≡ to_step world.old }
 {
     world.tape(0, token);
-    world.deliver(token);
+    world.deliver(&token);
 }
 
 // Whether an outcome holds its output back.

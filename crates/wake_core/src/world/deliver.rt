@@ -17,13 +17,14 @@ impl World {
 
     /// The message that thread 0 put on the tape arrives at its readers, and then those of which it
     /// is the first reader and that wait have their flags cleared: `fill`, `look` and `clear` for
-    /// all of them, in one.
+    /// all of them, in one. It comes by reference: a copy would be written only to be read back at
+    /// once, in pieces of other widths.
     #[inline(always)]
-    pub(crate) fn deliver(&mut self, token: Token)
-        requires token { (plain_of self.old).tokens 0 ≡ token }
-        requires known { token.channel < length (plain_of self.old).counts }
+    pub(crate) fn deliver(&mut self, token: &Token)
+        requires token { (plain_of self.old).tokens 0 ≡ token.now }
+        requires known { token.now.channel < length (plain_of self.old).counts }
         requires all { (plain_of self.old).fills 0
-            ≡ readers_of (plain_of self.old).routes token.channel }
+            ≡ readers_of (plain_of self.old).routes token.now.channel }
         requires looked { (plain_of self.old).news 0 ≡ [] }
         requires cleared { (plain_of self.old).clearing 0 ≡ [] }
         ensures delivers { Delivers 0 (plain_of self.old) (plain_of self.new) }
@@ -37,13 +38,13 @@ impl World {
 }
 
 // A message arrives at each of these readers.
-fn arrive_at_all(visitors: &mut Vec<Visitor>, readers: &[(u32, u8)], token: Token)
-    requires { MayArriveAtAll readers.now token visitors.old.items }
-    ensures { visitors.new.items ≡ arrived_at_all readers.now token visitors.old.items }
+fn arrive_at_all(visitors: &mut Vec<Visitor>, readers: &[(u32, u8)], token: &Token)
+    requires { MayArriveAtAll readers.now token.now visitors.old.items }
+    ensures { visitors.new.items ≡ arrived_at_all readers.now token.now visitors.old.items }
 {
     for reader in readers {
         let (component, role) = *reader;
-        visitors[component as usize].arrive(role, token);
+        visitors[component as usize].arrive(role, *token);
     }
 }
 
