@@ -204,6 +204,7 @@ fn send_out(world: &mut World, component: u32, outcome: &Outcome)
 }
 
 // Sends an output of the croutine in hand, and delivers it.
+#[inline(always)]
 fn send(world: &mut World, token: Token)
     requires may { MaySendOut token (plain_of world.old) }
     requires stepped { IsStepped 0 (plain_of world.old) (to_step world.old) }

@@ -14,6 +14,7 @@ impl World {
 
     /// Takes a croutine in hand where it is READY then, and else passes it by: `acquire`, `spend`
     /// unless it is due, and `ready` or `release`, in one. Whether it was taken.
+    #[inline(always)]
     pub(crate) fn take(&mut self, component: u32) -> bool
         requires rest { IsAtRest (plain_of self.old) }
         requires known { component < length (plain_of self.old).routes }
@@ -40,6 +41,7 @@ impl World {
 
     /// Stores what the croutine in hand is to do next, and gives it back: `yield_as` and `release`,
     /// in one.
+    #[inline(always)]
     pub(crate) fn give_back(&mut self, state: State)
         requires may { MayGiveBack state (plain_of self.old) }
         requires stepped { IsStepped 0 (plain_of self.old) (to_step self.old) }

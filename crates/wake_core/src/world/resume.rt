@@ -92,6 +92,7 @@ impl World {
     /// Thread 0 asks and fetches for the croutine in hand, and steps its component at once on what
     /// is found: `ask`, `fetch` and `step` in one, without keeping the tuple between them. None
     /// comes exactly where the fetch finds nothing.
+    #[inline(always)]
     pub(crate) fn call(&mut self, component: u32) -> Option<Outcome>
         requires held { IsInHand component Known (plain_of self.old) }
         requires ready { (plain_of self.old).states component ≡ Ready }
