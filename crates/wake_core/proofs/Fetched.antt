@@ -4,12 +4,12 @@ use Rattle.std.proofs.lemmas.Bool.Decides.{nat_tests}
 use Rattle.cy_msg.specs.declared.token.Tuple.{Tuple}
 use Rattle.cy_fuse.specs.Fusion.{fused}
 use Rattle.cy_fuse.specs.Fetch.{fetch}
-use Rattle.cy_fuse.specs.Visitor.{VisitorView, visited}
+use Rattle.cy_fuse.specs.Visitor.{VisitorView, visited, position_at}
 use Rattle.cy_comp.specs.declared.call.Call.{Call}
 use Rattle.cy_comp.specs.Routine.{RoutineView}
 use Rattle.wake_core.specs.Run.{Route}
 use Rattle.wake_core.specs.Planned.{planned_count, first_reader}
-use Rattle.wake_core.specs.Plain.{Plain}
+use Rattle.wake_core.specs.Plain.{Plain, found_by}
 use Rattle.wake_core.specs.Events.{call_on, next_call}
 use Rattle.wake_core.specs.Sound.{Consistent}
 use Rattle.wake_core.specs.Fields.{queue_of}
@@ -48,6 +48,21 @@ mapped r tuples (Some n) = by (slice_get tuples (n - 1))
     by None = refl
     by (Some t) = refl
 
+-- A visitor's fetch finds what the component's queue says.
+visited_ring : (w : Plain) (c index : ℕ) (x : Route) (v : VisitorView) → slice_get w.routes c ≡ Some x
+    → v.arrivals ≡ w.arrivals c → v.roles ≡ length x.readers → v.queue ≡ queue_of w.routes w.counts x → 1 ≤ x.queue → index ≡ w.cursors c → Consistent w
+    → position_at index v ≡ fetch (w.cursors c) (length (fused (w.arrivals c) (length x.readers))) x.queue
+visited_ring w c index x v at arrivals roles queue some cursor s =
+    let tuples : List Tuple = fused (w.arrivals c) (length x.readers) in
+    let same_tuples : fused v.arrivals v.roles ≡ tuples = ap₂ fused arrivals roles in
+    let few : length tuples ≤ planned_count w.routes w.counts (first_reader x) = fused_planned w c x at s in
+    rw (same_tuples, queue, cursor) (same_ring (w.cursors c) (length tuples) x.queue (planned_count w.routes w.counts (first_reader x)) some few)
+
+pub found_visited : (w : Plain) (c index : ℕ) (x : Route) (v : VisitorView) → slice_get w.routes c ≡ Some x
+    → v.arrivals ≡ w.arrivals c → v.roles ≡ length x.readers → v.queue ≡ queue_of w.routes w.counts x → 1 ≤ x.queue → index ≡ w.cursors c → Consistent w
+    → position_at index v ≡ found_by w c
+found_visited w c index x v at arrivals roles queue some cursor s = rw at (visited_ring w c index x v at arrivals roles queue some cursor s)
+
 -- The call that a fetch makes is on what the component's visitor finds.
 pub next_visited : (w : Plain) (c index : ℕ) (x : Route) (r : RoutineView) (v : VisitorView) → slice_get w.routes c ≡ Some x → r.kind ≡ x.kind → r.calls ≡ w.calls c
     → v.arrivals ≡ w.arrivals c → v.roles ≡ length x.readers → v.queue ≡ queue_of w.routes w.counts x → 1 ≤ x.queue → index ≡ w.cursors c → Consistent w
@@ -55,9 +70,7 @@ pub next_visited : (w : Plain) (c index : ℕ) (x : Route) (r : RoutineView) (v 
 next_visited w c index x r v at kind calls arrivals roles queue some cursor s =
     let tuples : List Tuple = fused (w.arrivals c) (length x.readers) in
     let same_tuples : fused v.arrivals v.roles ≡ tuples = ap₂ fused arrivals roles in
-    let few : length tuples ≤ planned_count w.routes w.counts (first_reader x) = fused_planned w c x at s in
-    let found : fetch index (length (fused v.arrivals v.roles)) v.queue ≡ fetch (w.cursors c) (length tuples) x.queue =
-    rw (same_tuples, queue, cursor) (same_ring (w.cursors c) (length tuples) x.queue (planned_count w.routes w.counts (first_reader x)) some few) in
+    let found : position_at index v ≡ fetch (w.cursors c) (length tuples) x.queue = visited_ring w c index x v at arrivals roles queue some cursor s in
     let calls_on : (λ (n : ℕ) (t : Tuple). call_on x w c n t) ≡ (λ (n : ℕ) (t : Tuple). call_of r (t, n, length tuples)) = rw (kind, calls) refl in
     rw at (
     ap (λ (f : ℕ → Tuple → Call). option_and_then (λ (n : ℕ). option_map (f n) (slice_get tuples (n - 1))) (fetch (w.cursors c) (length tuples) x.queue)) calls_on

@@ -52,6 +52,8 @@ pub mod Beginning
 pub mod Showing
 pub mod Playing
 pub mod Taking
+pub mod Parked
+pub mod ParkedWorld
 pub mod Parking
 pub mod Sending
 pub mod Putting

@@ -12,7 +12,7 @@ use Rattle.wake_core.specs.Planned.{planned_count, first_reader, counts_from}
 use Rattle.wake_core.specs.Settle.{Settles}
 use Rattle.wake_core.specs.Serial.{is_runnable, resume, play, next}
 use Rattle.wake_core.specs.Plain.{Plain, hand, State, Ready, DataWait, Sleep, Finished, Phase}
-use Rattle.wake_core.specs.Plain.{Known, Running, lists, last_of, unsent_of}
+use Rattle.wake_core.specs.Plain.{Known, Running, lists, last_of, unsent_of, found_by}
 use Rattle.wake_core.specs.Events.{OwesNothing, IsDue, Asks, Fetches, Sends, Yields, Releases}
 use Rattle.wake_core.specs.Events.{next_call, after_send, after_yield, is_waiting}
 use Rattle.wake_core.specs.WorldCalls.{in_hand, phase_sent}
@@ -232,6 +232,24 @@ pub record Resumes (c : ℕ) (w v : Plain) : Type 0 where
   pub rest : IsAtRest v
   pub stays : StaysFixed w v
   pub turn : Steps c w v ⊎ Waits c w v
+
+-- The next turn of a croutine would find nothing: it is READY, nothing of it is unsent, and there
+-- is nothing for it to fetch.
+abbrev pub finds_nothing : ℕ → Plain → Bool
+finds_nothing c w = is_ready (w.states c) && not (is_some (unsent_of w c))
+    && not (is_some (found_by w c))
+
+-- The world after such a turn: the croutine waits, and its flag is spent.
+abbrev pub parked_world : ℕ → Plain → Plain
+parked_world c w = record w {
+  states = set_at c DataWait w.states;
+  spent = set_at c true w.spent;
+}
+
+-- A croutine has its next turn at once where that would find nothing; else all stays.
+pub record Parks (c : ℕ) (w v : Plain) : Type 0 where
+  pub parks : finds_nothing c w ≡ true → v ≡ parked_world c w
+  pub stays : finds_nothing c w ≡ false → v ≡ w
 
 -- One turn of a scan: the first croutine that is READY was resumed. Either it is the first that can
 -- be resumed in the serial run, and was; or the world shows what it showed before.

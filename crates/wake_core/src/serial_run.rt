@@ -81,7 +81,7 @@ fn settle(world: &mut World, contexts: &[ContextPlan])
     while turn(world, contexts) {}
 }
 
-// Resumes the first croutine that is READY. Whether there is one.
+// Resumes the first croutine that is READY, and parks it. Whether there is one.
 fn turn(world: &mut World, contexts: &[ContextPlan]) -> bool
     requires rest { IsAtRest (plain_of world.old) }
     requires known { (c : ℕ) → lists c (scan_of contexts.now) ≡ true
@@ -94,6 +94,7 @@ fn turn(world: &mut World, contexts: &[ContextPlan]) -> bool
     match first_of_all(world, contexts) {
         Some(component) => {
             resume(world, component);
+            world.park(component);
             true
         }
         None => false,
