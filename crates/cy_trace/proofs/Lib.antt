@@ -13,3 +13,4 @@ pub mod RunTexts
 pub mod StepSuits
 pub mod Starts
 pub mod TextRead
+pub mod Gathered

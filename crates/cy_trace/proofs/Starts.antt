@@ -1,7 +1,9 @@
 -- What the lines of each channel begin with.
-use Rattle.std.proofs.Common.{ℕ, zero, suc, ◌+◌, ◌<◌, ◌≤◌, ◌≡◌, ◌∙◌, ap, List, [], ◌∷◌, ◌++◌, length, map, flat_map, take, slice_get, get_or, sym, Some, codes, refl, arith}
-use Rattle.std.proofs.lemmas.List.{take_all, length-map}
-use Rattle.std.proofs.lemmas.Option.{slice_get-get_or}
+use Rattle.std.proofs.Common.{ℕ, zero, suc, ◌+◌, ◌<◌, ◌≡◌, ◌∙◌, ap, List, [], ◌∷◌, ◌++◌, length, map, flat_map, take, slice_get, get_or, sym, Some, codes, refl, arith}
+use Rattle.std.specs.List.{All}
+use Rattle.std.specs.Prelude.{OnOk, Result, Ok, Err}
+use Rattle.std.proofs.lemmas.List.{length-map}
+use Rattle.std.proofs.lemmas.List.Elements.{All-nil, All-cons}
 use Rattle.std.specs.Fmt.{decimal}
 use Rattle.cy_msg.specs.Names.{channel_name}
 use Rattle.cy_msg.specs.declared.token.Token.{Token}
@@ -42,16 +44,21 @@ lines_are names (t ∷ rest) known =
     ap (λ (s : List ℕ). s ++ flat_map (started_line (map tape_start names)) rest) (line_is names t (known 0 t refl))
     ∙ ap (λ (s : List ℕ). tape_line names t ++ s) (lines_are names rest (λ n u e. known (suc n) u e))
 
--- The channel of a message of the tape has a start.
-pub known_start : (names : List (List ℕ)) (tape : List Token) (i : ℕ) (d : Token) (starts : List (List ℕ)) → i < length tape → starts ≡ map tape_start names → ((n : ℕ) (t : Token) → slice_get tape n ≡ Some t → t.channel < length names) → (get_or tape i d).channel < length starts
-known_start names tape i d starts low is known =
-    let few : (get_or tape i d).channel < length names = known i (get_or tape i d) (slice_get-get_or tape i d low) in
+-- The channels of the tape have starts.
+pub known_starts : (names : List (List ℕ)) (tape : List Token) (starts : List (List ℕ)) → starts ≡ map tape_start names → ((n : ℕ) (t : Token) → slice_get tape n ≡ Some t → t.channel < length names) → All (λ t. t.channel < length starts) tape
+known_starts names [] starts is known = All-nil (λ t. t.channel < length starts)
+known_starts names (t ∷ rest) starts is known =
+    let few : t.channel < length names = known 0 t refl in
     let same : length starts ≡ length names = ap (λ (l : List (List ℕ)). length l) is ∙ length-map names tape_start in
-    omega (arith, few, same)
+    All-cons (λ u. u.channel < length starts) t rest (omega (arith, few, same)) (known_starts names rest starts is (λ n u e. known (suc n) u e))
 
--- After the last message all lines are there.
-pub lines_end : (names : List (List ℕ)) (tape : List Token) (i : ℕ) (starts : List (List ℕ)) (old new : List ℕ) → length tape ≤ i → starts ≡ map tape_start names → new ≡ old ++ flat_map (started_line starts) (take i tape) → ((n : ℕ) (t : Token) → slice_get tape n ≡ Some t → t.channel < length names) → new ≡ old ++ flat_map (tape_line names) tape
-lines_end names tape i starts old new past is so known =
-    so ∙ ap (λ (s : List (List ℕ)). old ++ flat_map (started_line s) (take i tape)) is
-    ∙ ap (λ (l : List Token). old ++ flat_map (started_line (map tape_start names)) l) (take_all i tape past)
+-- With the starts of all channels they are the lines of the tape.
+pub lines_end : (names : List (List ℕ)) (tape : List Token) (starts : List (List ℕ)) (old new : List ℕ) → starts ≡ map tape_start names → new ≡ old ++ flat_map (started_line starts) tape → ((n : ℕ) (t : Token) → slice_get tape n ≡ Some t → t.channel < length names) → new ≡ old ++ flat_map (tape_line names) tape
+lines_end names tape starts old new is so known =
+    so ∙ ap (λ (s : List (List ℕ)). old ++ flat_map (started_line s) tape) is
     ∙ ap (λ (s : List ℕ). old ++ s) (lines_are names tape known)
+
+-- What follows from what holds of an `Ok` holds of it.
+pub on_ok : {T E : Type 0} (r : Result T E) (P Q : Type 0) → (P → Q) → OnOk r P → OnOk r Q
+on_ok (Ok x) P Q f h = f h
+on_ok (Err e) P Q f h = tt

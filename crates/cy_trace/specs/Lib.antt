@@ -7,3 +7,4 @@ pub mod TraceForm
 pub mod TraceOfRun
 pub mod TraceText
 pub mod TapeLines
+pub mod OutsAfter

@@ -1,15 +1,15 @@
-// The end of a line, in front of which more is written.
+// The end of a text, in front of which more is written.
 ghost use Rattle.std.specs.Prelude.{◌≡◌, ◌≤◌, ◌+◌, ◌++◌, ◌∷◌, [], length};
 ghost use Rattle.std.specs.Fmt.{decimal, signed_decimal};
 
 use itoa::write_digits;
 use std::marker::Model;
 
-/// The most bytes of such an end. A line of a call has fewer than 200.
-pub(crate) const ROOM: usize = 256;
+/// The most bytes of such an end, enough for 16 lines of the most bytes.
+pub(crate) const ROOM: usize = 4096;
 
-/// The end of a line, gathered in place: contracts see it as a list. Numbers are spelled from their
-/// last digit on, so a line that is made from its end takes no copy of its parts.
+/// The end of a text, gathered in place: contracts see it as a list. Numbers are spelled from their
+/// last digit on, so lines that are made from their end take no copy of their parts.
 #[derive(Drop)]
 pub(crate) struct Ending {
     bytes: [u8; ROOM],
@@ -23,7 +23,7 @@ impl Model for Ending {
 
     ghost view = { λ e. drop e.start e.bytes };
 
-    ghost invariant = { λ e. e.start ≤ 256 };
+    ghost invariant = { λ e. e.start ≤ 4096 };
 }
 
 impl Ending {
@@ -53,7 +53,7 @@ impl Ending {
 
     /// Puts a byte in front.
     pub fn byte(&mut self, byte: u8)
-        requires { length self.old + 1 ≤ 256 }
+        requires { length self.old + 1 ≤ 4096 }
         ensures { self.new ≡ byte ∷ self.old }
     {
         self.start -= 1;
@@ -62,7 +62,7 @@ impl Ending {
 
     /// Puts a word in front.
     pub fn word(&mut self, word: &[u8])
-        requires { length self.old + length word.now ≤ 256 }
+        requires { length self.old + length word.now ≤ 4096 }
         ensures { self.new ≡ word.now ++ self.old }
     {
         let end = self.start;
@@ -72,7 +72,7 @@ impl Ending {
 
     /// Puts a number in front, in decimal.
     pub fn number(&mut self, number: u64)
-        requires { length self.old + 20 ≤ 256 }
+        requires { length self.old + 20 ≤ 4096 }
         ensures text { self.new ≡ decimal number ++ self.old }
         ensures len { length self.new ≤ length self.old + 20 }
     {
@@ -81,7 +81,7 @@ impl Ending {
 
     /// Puts a number in front, with a sign where it is below 0.
     pub fn signed(&mut self, value: i64)
-        requires { length self.old + 21 ≤ 256 }
+        requires { length self.old + 21 ≤ 4096 }
         ensures text { self.new ≡ signed_decimal value ++ self.old }
         ensures len { length self.new ≤ length self.old + 21 }
     {

@@ -1,7 +1,7 @@
 // The lines of a trace, each added to a text.
-ghost use Rattle.std.specs.Prelude.{◌≡◌, ◌<◌, ◌≤◌, ◌+◌, ◌++◌, ◌^◌, ℕ};
-ghost use Rattle.std.specs.Prelude.{[], length, map, slice_get, Some};
-ghost use Rattle.std.specs.Prelude.{IfOk, OnOk, codes};
+ghost use Rattle.std.specs.Prelude.{◌≡◌, ◌<◌, ◌≤◌, ◌+◌, ◌*◌, ◌++◌, ◌^◌, ℕ};
+ghost use Rattle.std.specs.Prelude.{length, map, slice_get, Some, is_some, if◌then◌else◌};
+ghost use Rattle.std.specs.Prelude.{IfOk, OnOk, All, IsTrue, codes};
 ghost use Rattle.std.specs.List.{flat_map};
 ghost use Rattle.std.specs.Fmt.{decimal};
 ghost use Rattle.cy_msg.specs.declared.token.Token.{Token};
@@ -11,12 +11,19 @@ ghost use Rattle.cy_trace.specs.TraceText.{title, played_line, roles_text, value
 ghost use Rattle.cy_trace.specs.TraceText.{seqs_text, call_line, call_lines, end_line};
 ghost use Rattle.cy_trace.specs.TraceText.{component_text, tape_line};
 ghost use Rattle.cy_trace.specs.TapeLines.{tape_start, started_line};
+ghost use Rattle.cy_trace.specs.OutsAfter.{outs_after};
 
 use crate::ending::Ending;
 use cy_comp::{Call, Kind, Out, Plan, is_finished, next_cursor};
 use cy_msg::{Bytes, Names, Token, Tuple, push_quoted};
 use itoa::{Buffer, Integer};
 use std::alloc::{AllocError, Global};
+
+// How many lines are gathered before they are added to the text.
+const AT_ONCE: usize = 16;
+
+// The longest start of a line that is gathered with others.
+const SHORT: usize = 100;
 
 // A number in decimal.
 fn push_number<I: Integer>(to: &mut Vec<u8>, number: I) -> Result<(), AllocError>
@@ -38,7 +45,7 @@ pub(crate) fn push_head(to: &mut Vec<u8>, played: u32, shadowed: u32) -> Result<
 
 // A value in front of a line's end, where there is one.
 fn put_value(line: &mut Ending, value: Option<i64>)
-    requires { length line.old + 22 ≤ 256 }
+    requires { length line.old + 22 ≤ 4096 }
     ensures text { line.new ≡ value_text value ++ line.old }
     ensures len { length line.new ≤ length line.old + 22 }
 {
@@ -51,7 +58,7 @@ fn put_value(line: &mut Ending, value: Option<i64>)
 // What a call put out, behind so many earlier outputs.
 fn put_out(line: &mut Ending, before: usize, out: &Option<Out>)
     requires countable { before + 1 < 2 ^ 64 }
-    requires room { length line.old + 63 ≤ 256 }
+    requires room { length line.old + 63 ≤ 4096 }
     ensures text { line.new ≡ out_text before out.now ++ line.old }
     ensures len { length line.new ≤ length line.old + 63 }
 {
@@ -68,7 +75,7 @@ fn put_out(line: &mut Ending, before: usize, out: &Option<Out>)
 
 // The number of a message of a tuple.
 fn put_seq(line: &mut Ending, message: &Token)
-    requires { length line.old + 21 ≤ 256 }
+    requires { length line.old + 21 ≤ 4096 }
     ensures text { line.new ≡ codes " " ++ decimal message.now.seq ++ line.old }
     ensures len { length line.new ≤ length line.old + 21 }
 {
@@ -78,7 +85,7 @@ fn put_seq(line: &mut Ending, message: &Token)
 
 // The numbers of the messages of a tuple.
 fn put_seqs(line: &mut Ending, tuple: &Tuple)
-    requires { length line.old + 84 ≤ 256 }
+    requires { length line.old + 84 ≤ 4096 }
     ensures text { line.new ≡ seqs_text tuple.now ++ line.old }
     ensures len { length line.new ≤ length line.old + 84 }
 {
@@ -102,11 +109,12 @@ fn put_seqs(line: &mut Ending, tuple: &Tuple)
     }
 }
 
-// A call, behind so many outputs of earlier calls, in front of nothing.
+// A call, behind so many outputs of earlier calls.
 fn put_call(line: &mut Ending, before: usize, call: &Call)
     requires countable { before + 1 < 2 ^ 64 }
-    requires empty { line.old ≡ [] }
-    ensures { line.new ≡ call_line before call.now }
+    requires room { length line.old + 195 ≤ 4096 }
+    ensures text { line.new ≡ call_line before call.now ++ line.old }
+    ensures len { length line.new ≤ length line.old + 195 }
 {
     line.byte(b'\n');
     put_out(line, before, &call.out);
@@ -118,32 +126,56 @@ fn put_call(line: &mut Ending, before: usize, call: &Call)
     line.word(b"call ");
 }
 
-// A call, behind so many outputs of earlier calls.
-fn push_call_line(
-    to: &mut Vec<u8>,
-    line: &mut Ending,
-    before: usize,
-    call: &Call,
-) -> Result<(), AllocError>
-    requires { before + 1 < 2 ^ 64 }
-    ensures { OnOk result (to.new.items ≡ to.old.items ++ call_line before call.now) }
+// The outputs of a call.
+fn outs_of(call: &Call) -> usize
+    ensures count { result ≡ (if is_some call.now.out then 1 else 0) }
+    ensures few { result ≤ 1 }
 {
-    line.clear();
-    put_call(line, before, call);
-    to.extend_from_slice(line.bytes())
+    if call.out.is_some() { 1 } else { 0 }
+}
+
+// The outputs of calls, beside so many earlier ones.
+fn outs_after(before: usize, calls: &[Call]) -> usize
+    requires { before + length calls.now < 2 ^ 64 }
+    ensures { result ≡ outs_after before calls.now }
+{
+    let mut after = before;
+    for call in calls {
+        after += outs_of(call);
+    }
+    after
+}
+
+// Calls from the last one on, and the outputs up to their end, where so many stand before them.
+fn put_calls(lines: &mut Ending, before: usize, calls: &[Call]) -> usize
+    requires countable { before + length calls.now < 2 ^ 64 }
+    requires room { length lines.old + 195 * length calls.now ≤ 4096 }
+    ensures text { lines.new ≡ call_lines before calls.now ++ lines.old }
+    ensures after { result ≡ outs_after before calls.now }
+{
+    let after = outs_after(before, calls);
+    let mut behind = after;
+    for place in (0..calls.len()).rev() {
+        let call = &calls[place];
+        behind -= outs_of(call);
+        put_call(lines, behind, call);
+    }
+    after
 }
 
 // Calls, from a component's first one on.
 fn push_call_lines(to: &mut Vec<u8>, calls: &[Call]) -> Result<(), AllocError>
     ensures { OnOk result (to.new.items ≡ to.old.items ++ call_lines 0 calls.now) }
 {
-    let mut line = Ending::new();
+    let mut lines = Ending::new();
     let mut before = 0;
-    for call in calls {
-        push_call_line(to, &mut line, before, call)?;
-        if call.out.is_some() {
-            before += 1;
-        }
+    let mut rest = calls;
+    while !rest.is_empty() {
+        let (some, others) = rest.split_at(rest.len().min(AT_ONCE));
+        lines.clear();
+        before = put_calls(&mut lines, before, some);
+        to.extend_from_slice(lines.bytes())?;
+        rest = others;
     }
     Ok(())
 }
@@ -221,21 +253,75 @@ fn line_starts(alloc: Global, names: &Names) -> Result<Vec<Bytes>, AllocError>
     Ok(starts)
 }
 
-// A message of the tape, where the lines of each channel begin so.
-fn push_tape_line(
-    to: &mut Vec<u8>,
-    line: &mut Ending,
-    starts: &[Bytes],
-    token: &Token,
-) -> Result<(), AllocError>
-    requires { token.now.channel < length starts.now }
-    ensures { OnOk result (to.new.items ≡ to.old.items ++ started_line starts.now token.now) }
+// Whether each of them leaves room for lines that are gathered.
+fn are_short(starts: &[Bytes]) -> bool
+    ensures { IsTrue result → All (λ s. length s ≤ 100) starts.now }
 {
-    line.clear();
+    for start in starts {
+        if start.as_slice().len() > SHORT {
+            return false;
+        }
+    }
+    true
+}
+
+// A message of the tape, but for what the lines of its channel begin with.
+fn put_number(line: &mut Ending, token: &Token)
+    requires { length line.old + 21 ≤ 4096 }
+    ensures text { line.new ≡ decimal token.now.seq ++ codes "\n" ++ line.old }
+    ensures len { length line.new ≤ length line.old + 21 }
+{
     line.byte(b'\n');
     line.number(u64::from(token.seq));
-    to.extend_from_slice(starts[token.channel as usize].as_slice())?;
-    to.extend_from_slice(line.bytes())
+}
+
+// Messages of the tape, from the last one on, where the lines of each channel begin so.
+fn put_tape(lines: &mut Ending, starts: &[Bytes], tape: &[Token])
+    requires known { All (λ t. t.channel < length starts.now) tape.now }
+    requires short { All (λ s. length s ≤ 100) starts.now }
+    requires room { length lines.old + 121 * length tape.now ≤ 4096 }
+    ensures { lines.new ≡ flat_map (started_line starts.now) tape.now ++ lines.old }
+{
+    for place in (0..tape.len()).rev() {
+        let token = &tape[place];
+        put_number(lines, token);
+        lines.word(starts[token.channel as usize].as_slice());
+    }
+}
+
+// Messages of the tape, some lines at a time.
+fn push_short(to: &mut Vec<u8>, starts: &[Bytes], tape: &[Token]) -> Result<(), AllocError>
+    requires known { All (λ t. t.channel < length starts.now) tape.now }
+    requires short { All (λ s. length s ≤ 100) starts.now }
+    ensures { OnOk result (to.new.items ≡ to.old.items
+        ++ flat_map (started_line starts.now) tape.now) }
+{
+    let mut lines = Ending::new();
+    let mut rest = tape;
+    while !rest.is_empty() {
+        let (some, others) = rest.split_at(rest.len().min(AT_ONCE));
+        lines.clear();
+        put_tape(&mut lines, starts, some);
+        to.extend_from_slice(lines.bytes())?;
+        rest = others;
+    }
+    Ok(())
+}
+
+// Messages of the tape, line by line.
+fn push_long(to: &mut Vec<u8>, starts: &[Bytes], tape: &[Token]) -> Result<(), AllocError>
+    requires { All (λ t. t.channel < length starts.now) tape.now }
+    ensures { OnOk result (to.new.items ≡ to.old.items
+        ++ flat_map (started_line starts.now) tape.now) }
+{
+    let mut line = Ending::new();
+    for token in tape {
+        line.clear();
+        put_number(&mut line, token);
+        to.extend_from_slice(starts[token.channel as usize].as_slice())?;
+        to.extend_from_slice(line.bytes())?;
+    }
+    Ok(())
 }
 
 // The messages of the tape.
@@ -249,9 +335,9 @@ pub(crate) fn push_tape_lines(
     ensures { OnOk result (to.new.items ≡ to.old.items ++ flat_map (tape_line names.now) tape.now) }
 {
     let starts = line_starts(alloc, names)?;
-    let mut line = Ending::new();
-    for token in tape {
-        push_tape_line(to, &mut line, &starts, token)?;
+    if are_short(&starts) {
+        push_short(to, &starts, tape)
+    } else {
+        push_long(to, &starts, tape)
     }
-    Ok(())
 }

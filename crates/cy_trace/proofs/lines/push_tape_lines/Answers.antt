@@ -1,11 +1,15 @@
-use Rattle.cy_trace.proofs.Starts.{known_start, lines_end}
 use Rattle.std.proofs.Common.{◌∙◌}
+use Rattle.cy_trace.proofs.Starts.{known_starts, lines_end, on_ok}
 use Rattle.cy_trace.proofs.lines.push_tape_lines.Goals as goal
 
-pub push_tape_line-requires : goal.push_tape_line-requires
-push_tape_line-requires c =
-    known_start c.args.names.now c.args.tape.now c.loop-token.token-index _ c.deref.result.now c.loop-token-test.true (c.deref.ensures.value ∙ c.in_ok-starts.ensures) c.requires
+pub returns-then-are_short : goal.returns-then-are_short
+returns-then-are_short c =
+    on_ok c.push_short.result _ _ (λ so. lines_end c.args.names.now c.args.tape.now c.deref-then-are_short.result.now c.args.to.now.items c.push_short.new.to.items (c.deref-then-are_short.ensures.value ∙ c.in_ok-starts.ensures) so c.requires) c.push_short.ensures
+
+pub push_long-requires : goal.push_long-requires
+push_long-requires c =
+    known_starts c.args.names.now c.args.tape.now _ (c.deref-else-are_short.ensures.value ∙ c.in_ok-starts.ensures) c.requires
 
 pub returns : goal.returns
 returns c =
-    lines_end c.args.names.now c.args.tape.now c.loop-token.token-index c.in_ok-starts.starts.items c.args.to.now.items c.loop-token.to.items c.loop-token-test.false c.in_ok-starts.ensures c.loop-token.invariant c.requires
+    on_ok c.push_long.result _ _ (λ so. lines_end c.args.names.now c.args.tape.now c.deref-else-are_short.result.now c.args.to.now.items c.push_long.new.to.items (c.deref-else-are_short.ensures.value ∙ c.in_ok-starts.ensures) so c.requires) c.push_long.ensures

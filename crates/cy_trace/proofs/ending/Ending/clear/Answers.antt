@@ -3,4 +3,4 @@ use Rattle.std.proofs.lemmas.List.{drop_all}
 use Rattle.cy_trace.proofs.ending.Ending.clear.Goals as goal
 
 pub returns : goal.returns
-returns c = drop_all 256 c.self.inside.bytes (omega arith)
+returns c = drop_all 4096 c.self.inside.bytes (omega arith)
