@@ -1,15 +1,15 @@
 // Reads the messages of a chunk's body.
-ghost use Rattle.std.specs.Prelude.{◌≡◌, ◌+◌, ◌<◌, ◌^◌, length, IfOk, IsOkUnless};
+ghost use Rattle.std.specs.Prelude.{◌≡◌, ◌+◌, ◌<◌, ◌^◌, length, unwrap_or, IfOk, IsOkUnless, []};
 ghost use Rattle.cy_msg.specs.Answer.{Answers, AnswersOr};
-ghost use Rattle.cy_wire.specs.Field.{fields_of};
-ghost use Rattle.cy_wire.specs.Message.{seen_span};
+ghost use Rattle.cy_wire.specs.Field.{fields_of, seen as seen_field};
+ghost use Rattle.cy_wire.specs.Message.{seen_span, span_in, number_in};
 ghost use Rattle.cy_section.specs.Reading.{message_at, messages_of, chunk_body_at};
 ghost use Rattle.cy_section.specs.Messages.{seen, TakesMessage};
 
 use crate::read::{bytes_copy, no_bytes, text_copy, text_of};
 use crate::{BodyMessage, ChunkBody, SectionError};
 use cy_msg::{Bytes, Items, Text};
-use cy_wire::{Reader, Span};
+use cy_wire::{Field, Reader, Span};
 use std::alloc::Global;
 use std::marker::Model;
 
@@ -39,6 +39,48 @@ impl<'a> Model for MessageReader<'a> {
     ghost view = { λ r. messages_of r.fields };
 }
 
+// The fields of a message, of each the last one that was read so far.
+#[derive(Clone, Copy)]
+struct Parts<'a> {
+    name: Span<'a>,
+    time: u64,
+    content: Span<'a>,
+}
+
+impl<'a> Parts<'a> {
+    // No fields yet.
+    fn none() -> Self
+        ensures name { seen_span result.name ≡ record { start = 0; bytes = [] } }
+        ensures time { result.time ≡ 0 }
+        ensures content { seen_span result.content ≡ record { start = 0; bytes = [] } }
+    {
+        Parts {
+            name: no_bytes(),
+            time: 0,
+            content: no_bytes(),
+        }
+    }
+
+    // Takes a field: its number says at once which part it may be.
+    #[tactic(auto, unfolding(cy_wire::specs::Message::span_in, cy_wire::specs::Message::number_in))]
+    #[inline(always)]
+    fn take(&mut self, field: &Field<'a>)
+        ensures name { seen_span self.new.name
+            ≡ unwrap_or (span_in 1 (seen_field field.now)) (seen_span self.old.name) }
+        ensures time { self.new.time
+            ≡ unwrap_or (number_in 2 (seen_field field.now)) self.old.time }
+        ensures content { seen_span self.new.content
+            ≡ unwrap_or (span_in 3 (seen_field field.now)) (seen_span self.old.content) }
+    {
+        match field.number {
+            1 => self.name = field.span(1).unwrap_or(self.name),
+            2 => self.time = field.varint(2).unwrap_or(self.time),
+            3 => self.content = field.span(3).unwrap_or(self.content),
+            _ => {}
+        }
+    }
+}
+
 // The message in some bytes.
 #[tactic(auto, unfolding(crate::specs::Reading::message_at, crate::specs::Reading::message_in))]
 #[inline(always)]
@@ -46,21 +88,15 @@ fn message_of<'a>(message: Span<'a>) -> Result<MessageView<'a>, SectionError>
     ensures { Answers seen result (message_at (seen_span message.entry)) }
 {
     let mut fields = Reader::new(message.bytes, message.start);
-    let mut name = None;
-    let mut time = None;
-    let mut content = None;
+    let mut parts = Parts::none();
     while let Some(field) = fields.next_field()? {
-        name = field.span(1).or(name);
-        time = field.varint(2).or(time);
-        content = field.span(3).or(content);
+        parts.take(&field);
     }
-    let channel_name = text_of(name.unwrap_or(no_bytes()))?;
-    let content = content.unwrap_or(no_bytes());
     Ok(MessageView {
-        channel_name,
-        time: time.unwrap_or(0),
-        content: content.bytes,
-        content_at: content.start,
+        channel_name: text_of(parts.name)?,
+        time: parts.time,
+        content: parts.content.bytes,
+        content_at: parts.content.start,
     })
 }
 

@@ -74,6 +74,7 @@ pub fn message_size(name: &str, time: u64, content: &[u8]) -> u64
 const FEW_BYTES: usize = 8;
 
 /// Appends bytes one by one, for which there is room.
+#[inline(always)]
 fn push_few(out: &mut Vec<u8>, bytes: &[u8])
     requires { vec_len out.old + length bytes.now ≤ vec_capacity out.old }
     ensures items { out.new.items ≡ out.old.items ++ bytes.now }
@@ -85,7 +86,20 @@ fn push_few(out: &mut Vec<u8>, bytes: &[u8])
     }
 }
 
-/// Appends bytes, for which there is room: that can't fail.
+/// Appends bytes by a copy, for which there is room: that can't fail. It stands by itself, since
+/// most bytes are few.
+#[inline(never)]
+fn push_many(out: &mut Vec<u8>, bytes: &[u8])
+    requires { vec_len out.old + length bytes.now ≤ vec_capacity out.old }
+    ensures items { out.new.items ≡ out.old.items ++ bytes.now }
+    ensures len { vec_len out.new ≡ vec_len out.old + length bytes.now }
+    ensures capacity { vec_capacity out.old ≤ vec_capacity out.new }
+{
+    let _ = out.put_slice(bytes);
+}
+
+/// Appends bytes, for which there is room.
+#[inline(always)]
 fn push_bytes(out: &mut Vec<u8>, bytes: &[u8])
     requires { vec_len out.old + length bytes.now ≤ vec_capacity out.old }
     ensures items { out.new.items ≡ out.old.items ++ bytes.now }
@@ -95,7 +109,7 @@ fn push_bytes(out: &mut Vec<u8>, bytes: &[u8])
     if bytes.len() <= FEW_BYTES {
         push_few(out, bytes);
     } else {
-        let _ = out.put_slice(bytes);
+        push_many(out, bytes);
     }
 }
 

@@ -1,13 +1,19 @@
-use Rattle.std.proofs.Common.{◌++◌, [], ◌∷◌, refl, sym}
+use Rattle.std.proofs.Common.{◌++◌, [], ◌∷◌}
 use Rattle.cy_wire.specs.Field.{seen, fields_of}
 use Rattle.cy_wire.specs.Message.{last_number, last_span}
-use Rattle.cy_wire.proofs.Lasts.{none_before, one_more, last_number-more}
-use Rattle.cy_section.proofs.Bodies.{last_span-seen}
+use Rattle.cy_wire.proofs.Lasts.{none_before, one_more}
+use Rattle.cy_section.proofs.Bodies.{span_of-taken, u64_of-taken}
 use Rattle.cy_section.proofs.body.message_of.Goals as goal
 
 pub loop-field-init : goal.loop-field-init
 unfolding last_number last_span
-loop-field-init c = ([], rw c.new-fields.ensures (none_before (fields_of c.args.message.start c.args.message.bytes.now)), refl, refl, refl)
+loop-field-init c = (
+  [],
+  rw c.new-fields.ensures (none_before (fields_of c.args.message.start c.args.message.bytes.now)),
+  c.none-parts.ensures.name,
+  c.none-parts.ensures.time,
+  c.none-parts.ensures.content,
+)
 
 pub loop-field-preserved : goal.loop-field-preserved
 loop-field-preserved c =
@@ -15,7 +21,7 @@ loop-field-preserved c =
     let field = seen c.in-Some.field in (
       front ++ field ∷ [],
       one_more front c.loop-field.fields c.next_field.new.self _ field c.loop-field.invariant.1 (rw c.in-Some.is at c.in_ok-field.ensures.field),
-      rw c.or-name.ensures (last_span-seen 1 front field c.span.result c.loop-field.name c.span.ensures c.loop-field.invariant.2),
-      rw (c.or-time.ensures, c.varint.ensures, c.loop-field.invariant.3) (sym (last_number-more 2 front field)),
-      rw c.or-content.ensures (last_span-seen 3 front field c.span-in-Some.result c.loop-field.content c.span-in-Some.ensures c.loop-field.invariant.4),
+      span_of-taken 1 front field _ c.loop-field.invariant.2 _ c.take.ensures.name,
+      u64_of-taken 2 front field _ c.loop-field.invariant.3 _ c.take.ensures.time,
+      span_of-taken 3 front field _ c.loop-field.invariant.4 _ c.take.ensures.content,
     )
