@@ -1,15 +1,14 @@
 -- Messages and sections that are met one after another.
-use Rattle.std.proofs.Common.{◌≡◌, ◌⊎◌, ◌<◌, ◌+◌, ℕ, zero, suc, List, [], ◌∷◌, ◌++◌, length, refl, sym, ap, ◌∙◌, append_assoc, append-nil, inl, inr, Option, Some, None, Result, Ok, Err, arith}
+use Rattle.std.proofs.Common.{◌≡◌, ◌<◌, ◌+◌, ℕ, zero, suc, List, [], ◌∷◌, ◌++◌, length, refl, sym, ap, subst, ◌∙◌, append_assoc, append-nil, inl, inr, Option, Some, None, Result, Ok, Err, arith}
 use Rattle.cy_section.specs.declared.error.SectionError.{SectionError}
 use Rattle.cy_section.specs.declared.types.Channel.{Channel}
 use Rattle.cy_section.specs.declared.types.SectionKind.TheVariants as kind
-use Rattle.cy_section.specs.Reading.{PlacedMessage, channel_at}
+use Rattle.cy_section.specs.Reading.{PlacedMessage, Messages, with_message, channel_at}
 use Rattle.cy_reader.specs.declared.known.Known.{Known}
 use Rattle.cy_reader.specs.declared.error.LoadError.{LoadError}
-use Rattle.cy_reader.specs.declared.error.LoadError.TheVariants.{Memory}
 use Rattle.cy_reader.specs.Sections.{WholeSection, Sections, section_at, sections_in, and_those_behind}
-use Rattle.cy_reader.specs.Record.{◌>>=◌, fault_of, Met, channel_given, channel_met, message_met, messages_met, section_met, sections_met}
-use Rattle.cy_reader.specs.Loading.{Leads, Kept}
+use Rattle.cy_reader.specs.Record.{◌>>=◌, fault_of, Met, channel_given, channel_met, message_met, messages_met, body_met, section_met, sections_met}
+use Rattle.cy_reader.specs.Loading.{Leads, unless_ended}
 
 messages_met-append : (xs ys : List PlacedMessage) (c : Met) → messages_met (xs ++ ys) c ≡ messages_met xs c >>= messages_met ys
 messages_met-append [] ys c = refl
@@ -20,30 +19,32 @@ messages_met-append (m ∷ xs) ys c = over (message_met m c) (messages_met-appen
     over (Ok d) f = f d
     over (Err e) f = refl
 
--- what the messages so far came to: their contents, or a limit whatever follows
-abbrev pub IsMet : Result (Unit {0}) LoadError → List PlacedMessage → Met → Met → Type 0
-IsMet (Ok x) front start now = messages_met front start ≡ Ok now
-IsMet (Err e) front start now = (e ≡ Memory) ⊎ ((rest : List PlacedMessage) → messages_met (front ++ rest) start ≡ Err e)
-
 one_met : (front : List PlacedMessage) (m : PlacedMessage) (rest : List PlacedMessage) (start old : Met) → messages_met front start ≡ Ok old
     → messages_met ((front ++ m ∷ []) ++ rest) start ≡ message_met m old >>= messages_met rest
 one_met front m rest start old e =
     ap (λ (ms : List PlacedMessage). messages_met ms start) (append_assoc front (m ∷ []) rest) ∙ messages_met-append front (m ∷ rest) start
     ∙ ap (λ (r : Result Met LoadError). r >>= messages_met (m ∷ rest)) e
 
-pub met_more : (so_far result : Result (Unit {0}) LoadError) (front : List PlacedMessage) (m : PlacedMessage) (start old now : Met)
-    → IsMet so_far front start old → Kept so_far result now (message_met m old) → IsMet result (front ++ m ∷ []) start now
-met_more (Ok x) (Ok y) front m start old now met kept =
-    ap (λ (ms : List PlacedMessage). messages_met ms start) (sym (append-nil (front ++ m ∷ []))) ∙ one_met front m [] start old met ∙ ap (λ (r : Result Met LoadError). r >>= messages_met []) kept
-met_more (Ok x) (Err e) front m start old now met (inl memory) = inl memory
-met_more (Ok x) (Err e) front m start old now met (inr passed) =
-    inr (λ rest. one_met front m rest start old met ∙ ap (λ (r : Result Met LoadError). r >>= messages_met rest) passed)
-met_more (Err d) (Ok y) front m start old now met kept = absurd cc
-met_more (Err d) (Err e) front m start old now (inl memory) kept =
-    let same : e ≡ d = cc in inl (same ∙ memory)
-met_more (Err d) (Err e) front m start old now (inr passed) kept =
-    let same : d ≡ e = cc in
-    inr (λ rest. ap (λ (ms : List PlacedMessage). messages_met ms start) (append_assoc front (m ∷ []) rest) ∙ passed (m ∷ rest) ∙ ap (λ (x : LoadError). Err x) same)
+-- one more message is met
+pub met_more : (front : List PlacedMessage) (m : PlacedMessage) (start old now : Met) → messages_met front start ≡ Ok old → message_met m old ≡ Ok now
+    → messages_met (front ++ m ∷ []) start ≡ Ok now
+met_more front m start old now met one =
+    ap (λ (ms : List PlacedMessage). messages_met ms start) (sym (append-nil (front ++ m ∷ []))) ∙ one_met front m [] start old met ∙ ap (λ (r : Result Met LoadError). r >>= messages_met []) one
+
+-- or a limit is passed, whatever follows, unless a fault does
+pub limit_met : (front : List PlacedMessage) (m : PlacedMessage) (left next all : Messages) (start old now : Met) (e : LoadError) → messages_met front start ≡ Ok old
+    → front ++ left.messages ≡ all.messages → left ≡ with_message m next → Leads {A = Unit {0}} (Err e) now (message_met m old)
+    → Leads {A = Unit {0}} (Err e) now (messages_met all.messages start)
+limit_met front m left next all start old now e met parts is (inl memory) = inl memory
+limit_met front m left next all start old now e met parts is (inr passed) = inr (
+    ap (λ (ms : List PlacedMessage). messages_met ms start) (sym parts ∙ ap (λ (l : Messages). front ++ l.messages) is ∙ sym (append_assoc front (m ∷ []) next.messages))
+    ∙ one_met front m next.messages start old met ∙ ap (λ (r : Result Met LoadError). r >>= messages_met next.messages) passed)
+
+-- .. of which there is none where all messages were read
+pub unless_faulty : (fault : Option SectionError) (all : Messages) (e : LoadError) (start now : Met) → fault ≡ all.fault → unless_ended fault ≡ Ok tt
+    → Leads {A = Unit {0}} (Err e) now (messages_met all.messages start) → Leads {A = Unit {0}} (Err e) now (body_met all.fault all.messages start)
+unless_faulty None all e start now is ended leads = subst (λ (f : Option SectionError). Leads {A = Unit {0}} (Err e) now (body_met f all.messages start)) is leads
+unless_faulty (Some fault) all e start now is ended leads = absurd cc
 
 -- what the sections that are left come to
 abbrev pub finish : Met → Sections → Result Met LoadError

@@ -1,7 +1,8 @@
 -- What the program keeps of a file while it reads it.
 use Rattle.std.specs.Prelude.{◌≡◌, ◌⊎◌, ℕ, ◌≤◌, ◌<◌, ◌^◌, All, List, length, take, drop, map}
-use Rattle.std.specs.Prelude.{sum_by, Some, Result, Ok, Err}
+use Rattle.std.specs.Prelude.{sum_by, Option, Some, None, Result, Ok, Err}
 use Rattle.std.specs.HashMap.{get_by_text}
+use Rattle.cy_section.specs.declared.error.SectionError.{SectionError}
 use Rattle.cy_reader.specs.declared.error.LoadError.{LoadError}
 use Rattle.cy_reader.specs.declared.error.LoadError.TheVariants as load_error
 use Rattle.cy_reader.specs.declared.known.Known.{Known}
@@ -65,8 +66,7 @@ abbrev pub Leads : {A B : Type 0} → Result A LoadError → B → Result B Load
 Leads (Ok x) now read = read ≡ Ok now
 Leads (Err e) now read = (e ≡ load_error.Memory) ⊎ (read ≡ Err e)
 
--- The same of a message that comes after others: where a limit was passed before it, that stays.
-abbrev pub Kept : {B : Type 0} → Result (Unit {0}) LoadError → Result (Unit {0}) LoadError → B
-    → Result B LoadError → Type 0
-Kept (Ok x) result now read = Leads result now read
-Kept (Err e) result now read = result ≡ Err e
+-- What reading messages out comes to: the fault that ends them, if there is one.
+abbrev pub unless_ended : Option SectionError → Result (Unit {0}) LoadError
+unless_ended None = Ok tt
+unless_ended (Some fault) = Err (meaning.fault_of fault)

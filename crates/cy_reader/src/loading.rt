@@ -1,17 +1,16 @@
 // Reads the channels and messages of a file's sections.
-ghost use Rattle.std.specs.Prelude.{◌≢◌, ◌≤◌, ◌<◌, ◌^◌, length, IfOk, IfErr, OnOk};
+ghost use Rattle.std.specs.Prelude.{◌≡◌, ◌≢◌, ◌≤◌, ◌<◌, ◌^◌, length, IfOk, IfErr, OnOk};
 ghost use Rattle.cy_msg.specs.Answer.{AnswersOr};
 ghost use Rattle.cy_section.specs.Messages.{seen};
 ghost use Rattle.cy_reader.specs.Record.{message_met, body_met};
 ghost use Rattle.cy_reader.specs.Record.{section_met, sections_met, parts_of, header_end, nothing};
 ghost use Rattle.cy_reader.specs.Kept.{IsLoaded};
-ghost use Rattle.cy_reader.specs.Loading.{IsSound, Leads, Kept, met_of};
+ghost use Rattle.cy_reader.specs.Loading.{IsSound, Leads, unless_ended, met_of};
 ghost use Rattle.cy_reader.specs.Stands.{Stands};
 ghost use Rattle.cy_reader.specs.Sections.{sections_from};
 ghost use Rattle.cy_reader.specs.Found.{seen_section};
 ghost use Rattle.cy_wire.specs.Field.{fields_of};
 ghost use Rattle.cy_section.specs.Reading.{messages_of};
-ghost use Rattle.std.specs.Result.{ForOk, ForErr};
 
 use crate::LoadError;
 use crate::channels::{Channels, give, mention};
@@ -76,25 +75,14 @@ fn message_met(
     Ok(())
 }
 
-// Keeps a further message, unless a limit was passed before it.
-fn keep(
-    alloc: Global,
-    file: &[u8],
-    loading: &mut Loading,
-    so_far: Result<(), LoadError>,
-    message: &MessageView<'_>,
-) -> Result<(), LoadError>
-    requires sound { ForOk so_far (λ _. IsSound loading.old) }
-    requires not_store { ForErr so_far (λ e. e ≢ LoadError.Store) }
-    requires stands { Stands file.now message.now.content_at message.now.content.now }
-    requires short { length file.now < 2 ^ 32 }
-    ensures met { Kept so_far result (met_of file.now loading.new)
-        (message_met (seen message.now) (met_of file.now loading.old)) }
-    ensures still_sound { OnOk result (IsSound loading.new) }
-    ensures not_store { IfErr result (λ e. e ≢ LoadError.Store) }
+// Reads the messages that are left, for the fault that may end them.
+#[inline(never)]
+fn read_out(messages: MessageReader<'_>) -> Result<(), LoadError>
+    ensures { result ≡ unless_ended messages.entry.fault }
 {
-    so_far?;
-    message_met(alloc, file, loading, message)
+    let mut left = messages;
+    while let Some(_) = left.next_message()? {}
+    Ok(())
 }
 
 // Keeps the messages of a chunk's body. A fault anywhere in it comes before any limit.
@@ -115,11 +103,13 @@ fn body_met(
     ensures not_store { IfErr result (λ e. e ≢ LoadError.Store) }
 {
     let mut reader = MessageReader::new(section.body, section.body_at as u64);
-    let mut so_far = Ok(());
     while let Some(message) = reader.next_message()? {
-        so_far = keep(alloc, file, loading, so_far, &message);
+        if let Err(limit) = message_met(alloc, file, loading, &message) {
+            read_out(reader)?;
+            return Err(limit);
+        }
     }
-    so_far
+    Ok(())
 }
 
 // Keeps what a section has.

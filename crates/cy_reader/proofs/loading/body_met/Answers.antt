@@ -5,7 +5,7 @@ use Rattle.cy_section.specs.Messages.{seen}
 use Rattle.cy_section.proofs.Bodies.{message_read}
 use Rattle.cy_reader.specs.Loading.{met_of}
 use Rattle.cy_reader.proofs.Slices.{MessagesStand, messages_stand}
-use Rattle.cy_reader.proofs.Meeting.{met_more}
+use Rattle.cy_reader.proofs.Meeting.{met_more, limit_met, unless_faulty}
 use Rattle.cy_reader.proofs.loading.body_met.Goals as goal
 
 pub loop-message-init : goal.loop-message-init
@@ -17,8 +17,17 @@ loop-message-init c =
       refl,
       c.requires.sound,
       subst (λ (m : Messages). MessagesStand c.args.file.now m.messages) (sym c.new-reader.ensures) stand,
-      tt,
     )
+
+pub returns-in-Err-clause-met : goal.returns-in-Err-clause-met
+returns-in-Err-clause-met c =
+    let all = messages_of (fields_of c.args.section.now.body_at c.args.section.now.body.now) in
+    let file = c.args.file.now in
+    let left = rw c.in-Some.is at c.in_ok-message.ensures in
+    unless_faulty c.next_message.new.self.fault all c.in-Err.limit (met_of file c.args.loading.now) (met_of file c.message_met.new.loading)
+    (sym (ap (λ (l : Messages). l.fault) left) ∙ c.loop-message.invariant.2) (sym c.read_out.ensures ∙ c.in_ok-read_out.was)
+    (limit_met c.loop-message.invariant.0 (seen c.in-Some.message) c.loop-message.reader c.next_message.new.self all (met_of file c.args.loading.now) (met_of file c.loop-message.loading) (met_of file c.message_met.new.loading) c.in-Err.limit
+    c.loop-message.invariant.3 c.loop-message.invariant.1 left c.in-Err.ensures.met)
 
 pub loop-message-preserved : goal.loop-message-preserved
 loop-message-preserved c =
@@ -29,8 +38,7 @@ loop-message-preserved c =
       front ++ message ∷ [],
       message_read front c.loop-message.reader c.next_message.new.self (messages_of (fields_of c.args.section.now.body_at c.args.section.now.body.now)) message c.loop-message.invariant.1 left,
       sym (ap (λ (l : Messages). l.fault) left) ∙ c.loop-message.invariant.2,
-      met_more c.loop-message.so_far c.keep-so_far.result front message (met_of file c.args.loading.now) (met_of file c.loop-message.loading) (met_of file c.keep-so_far.new.loading) c.loop-message.invariant.3 c.keep-so_far.ensures.met,
-      c.keep-so_far.ensures.still_sound,
+      met_more front message (met_of file c.args.loading.now) (met_of file c.loop-message.loading) (met_of file c.message_met.new.loading) c.loop-message.invariant.3 c.in_default-message_met.ensures.met,
+      c.in_default-message_met.ensures.still_sound,
       (subst (λ (m : Messages). MessagesStand file m.messages) left c.loop-message.invariant.5).1,
-      c.keep-so_far.ensures.not_store,
     )
