@@ -1,15 +1,17 @@
 -- What a visitor's fetch finds.
-use Rattle.std.proofs.Common.{ℕ, ◌+◌, ◌-◌, ◌≡◌, ◌≤◌, false, if◌then◌else◌, List, length, drop, Option, Some, None, refl, sym, ap, ◌∙◌, arith}
-use Rattle.std.specs.Prelude.{option_map, option_and_then, slice_get, nat_lt, ◌||◌}
+use Rattle.std.proofs.Common.{ℕ, ◌+◌, ◌-◌, ◌≡◌, ◌≤◌, false, if◌then◌else◌, List, [], length, drop, Option, Some, None, refl, sym, ap, ◌∙◌, arith}
+use Rattle.std.specs.Prelude.{option_map, option_and_then, slice_get, slice_index_or, nat_lt, ◌||◌, IsSome}
 use Rattle.std.proofs.lemmas.Bool.Decides.{nat_tests}
 use Rattle.std.proofs.lemmas.Option.{none-some, same_Some, option_and_then_some}
 use Rattle.circular_buffer.proofs.Places.{slice_get-drop, slice_get-some}
+use Rattle.cy_msg.specs.declared.token.Token.{Token}
 use Rattle.cy_msg.specs.declared.token.Tuple.{Tuple}
-use Rattle.cy_fuse.specs.Fusion.{Arrival, fused}
+use Rattle.cy_msg.specs.declared.token.Tuple.TheVariants.{One}
+use Rattle.cy_fuse.specs.Fusion.{Arrival, fused, joined}
 use Rattle.cy_fuse.specs.Fetch.{fetch}
 use Rattle.cy_fuse.specs.Cache.{Cache, cache_of, item_at, fetched}
 use Rattle.cy_fuse.specs.Visitor.{VisitorView, tuples_at, visited}
-use Rattle.cy_fuse.specs.Visiting.{tuple_at, IsVisitor}
+use Rattle.cy_fuse.specs.Visiting.{message_at, tuple_at, IsVisitor}
 use Rattle.cy_fuse.proofs.Fetched.{fetch_found}
 
 -- the places that a fetch found are those of a tuple, which is the one of the number
@@ -62,3 +64,14 @@ visited_is v index number tail said size ps x f sized counted told is =
     ∙ ap (option_map (λ t. (t, number, length (tuples_at v)))) f.there
     ∙ ap (λ t. Some (t, number, length (tuples_at v))) (sym same)
     ∙ ap (λ n. Some (x, number, n)) (sym (told ∙ counted)))
+
+-- the places of a tuple of one reader are those of one message, of which it is the tuple
+pub one_message : (arrivals : List Arrival) (ps : List ℕ) (x : Tuple) → tuple_at 1 arrivals ps ≡ Some x → IsSome (message_at arrivals (slice_index_or ps 0 0))
+one_message arrivals ps x is = by (message_at arrivals (slice_index_or ps 0 0)) is
+  where
+    by : (o : Option Token) → option_and_then (λ t. option_map (joined t) (Some [])) o ≡ Some x → IsSome o
+    by None bad = absurd (none-some x bad)
+    by (Some m) so = refl
+
+pub one_tuple : (arrivals : List Arrival) (ps : List ℕ) (m : Token) → message_at arrivals (slice_index_or ps 0 0) ≡ Some m → tuple_at 1 arrivals ps ≡ Some (One m)
+one_tuple arrivals ps m is = ap (option_and_then (λ t. option_map (joined t) (Some []))) is

@@ -1,6 +1,8 @@
 // What arrives at a component, and the tuples that it makes.
 ghost use Rattle.std.specs.Prelude.{◌≡◌, ◌≤◌, ◌<◌, ◌-◌, ◌↔◌, ◌++◌, ◌∷◌, [], IfOk};
 ghost use Rattle.std.specs.Prelude.{IsNone, IsSome, is_some, Some, vec_len, vec_capacity};
+ghost use Rattle.std.specs.Prelude.{option_map};
+ghost use Rattle.cy_msg.specs.declared.token.Tuple.TheVariants.{One};
 ghost use Rattle.cy_fuse.specs.Visitor.{prepared, arrived, visited, position_at, index_after};
 ghost use Rattle.cy_fuse.specs.Visiting.{message_at, tuple_at, JoinsLast};
 
@@ -118,6 +120,27 @@ impl Visitor {
         let (places, position) = cursor.fetch(&self.tuples)?;
         let tuple = tuple_of(self.roles, self.arrivals.as_slice(), places);
         Some((tuple, position, self.tuples.tail()))
+    }
+
+    /// The same at a component of one reader, of which each tuple is one message: that message, its
+    /// position, and how many there are. A tuple has room for four, which cost time to copy.
+    #[inline(always)]
+    pub fn try_fetch_one(&self, cursor: &mut Cursor) -> Option<(Token, u64, u64)>
+        requires { self.now.roles ≡ 1 }
+        ensures found { option_map (λ x. (One x.0, x.1, x.2)) result
+            ≡ visited cursor.old self.now }
+        ensures next { cursor.new ≡ index_after cursor.old (visited cursor.old self.now) }
+    {
+        let (places, position) = cursor.fetch(&self.tuples)?;
+        let only = message(self.arrivals.as_slice(), places[0]);
+        Some((only, position, self.tuples.tail()))
+    }
+
+    /// How many readers the component has.
+    pub fn roles(&self) -> u8
+        ensures { result ≡ self.now.roles }
+    {
+        self.roles
     }
 
     /// Whether a fetch finds anything, without the fetch.

@@ -8,6 +8,7 @@ pub mod Delivering
 pub mod Standing
 pub mod Fetching
 pub mod Calling
+pub mod NextCalled
 pub mod Outputs
 pub mod Writers
 pub mod Rooming

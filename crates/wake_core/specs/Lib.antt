@@ -12,6 +12,7 @@ pub mod Bounds
 pub mod Rest
 pub mod Turns
 pub mod Fields
+pub mod NextCall
 pub mod Owing
 pub mod Delivery
 pub mod Opening

@@ -16,6 +16,7 @@ mod error;
 mod fixed;
 mod found;
 pub mod laws;
+mod next_call;
 mod owed;
 mod parts;
 mod phase;

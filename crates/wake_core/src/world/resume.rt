@@ -1,5 +1,6 @@
 // Resuming a croutine in hand.
 use crate::found::Found;
+use crate::next_call::call_next;
 use crate::{Hand, Phase, World};
 use cy_comp::{Outcome, State};
 use cy_msg::Tuple;
@@ -102,15 +103,14 @@ impl World {
     {
         let index = component as usize;
         let routine = &mut self.routines[index];
-        let mut cursor = routine.cursor();
         routine.ask();
-        match self.visitors[index].try_fetch(&mut cursor) {
-            Some((tuple, position, tail)) => {
+        match call_next(routine, &self.visitors[index]) {
+            Some(outcome) => {
                 self.hands[0] = Some(Hand {
                     croutine: component,
                     phase: Phase::Running,
                 });
-                Some(routine.took(tuple, position, tail))
+                Some(outcome)
             }
             None => {
                 self.hands[0] = Some(Hand {
