@@ -14,3 +14,4 @@ pub mod StepSuits
 pub mod Starts
 pub mod TextRead
 pub mod Gathered
+pub mod Pages

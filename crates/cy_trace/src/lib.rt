@@ -5,13 +5,13 @@
 
 mod building;
 mod call;
-mod ending;
 mod error;
 mod fault;
 mod laws;
 mod line;
 mod lines;
 mod name;
+mod page;
 mod read;
 mod text;
 mod trace;

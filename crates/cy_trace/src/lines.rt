@@ -1,6 +1,6 @@
 // The lines of a trace, each added to a text.
 ghost use Rattle.std.specs.Prelude.{◌≡◌, ◌<◌, ◌≤◌, ◌+◌, ◌*◌, ◌++◌, ◌^◌, ℕ};
-ghost use Rattle.std.specs.Prelude.{length, map, slice_get, Some, is_some, if◌then◌else◌};
+ghost use Rattle.std.specs.Prelude.{length, map, take, slice_get, Some, is_some, if◌then◌else◌};
 ghost use Rattle.std.specs.Prelude.{IfOk, OnOk, All, IsTrue, codes};
 ghost use Rattle.std.specs.List.{flat_map};
 ghost use Rattle.std.specs.Fmt.{decimal};
@@ -13,13 +13,14 @@ ghost use Rattle.cy_trace.specs.TraceText.{component_text, tape_line};
 ghost use Rattle.cy_trace.specs.TapeLines.{tape_start, started_line};
 ghost use Rattle.cy_trace.specs.OutsAfter.{outs_after};
 
-use crate::ending::Ending;
+use crate::page::{ROOM, put_byte, put_number, put_signed, put_word};
 use cy_comp::{Call, Kind, Out, Plan, is_finished, next_cursor};
 use cy_msg::{Bytes, Names, Token, Tuple, push_quoted};
 use itoa::{Buffer, Integer};
 use std::alloc::{AllocError, Global};
 
-// How many lines are gathered before they are added to the text.
+// How many lines are gathered before they are added to the text. They are gathered from their first
+// one on, as the calls and messages stand, so that these come from memory in order.
 const AT_ONCE: usize = 16;
 
 // The longest start of a line that is gathered with others.
@@ -43,87 +44,95 @@ pub(crate) fn push_head(to: &mut Vec<u8>, played: u32, shadowed: u32) -> Result<
     to.extend_from_slice(b"\n")
 }
 
-// A value in front of a line's end, where there is one.
-fn put_value(line: &mut Ending, value: Option<i64>)
-    requires { length line.old + 22 ≤ 4096 }
-    ensures text { line.new ≡ value_text value ++ line.old }
-    ensures len { length line.new ≤ length line.old + 22 }
+// A value, where there is one.
+#[inline(always)]
+fn put_value(page: &mut [u8; ROOM], at: usize, value: Option<i64>) -> usize
+    requires { at + 22 ≤ 4096 }
+    ensures text { take result page.new ≡ take at page.old ++ value_text value }
+    ensures end { result ≤ at + 22 }
 {
-    if let Some(value) = value {
-        line.signed(value);
-        line.byte(b'=');
+    match value {
+        None => at,
+        Some(value) => {
+            let at = put_byte(page, at, b'=');
+            put_signed(page, at, value)
+        }
     }
 }
 
 // What a call put out, behind so many earlier outputs.
-fn put_out(line: &mut Ending, before: usize, out: &Option<Out>)
+#[inline(always)]
+fn put_out(page: &mut [u8; ROOM], at: usize, before: usize, out: &Option<Out>) -> usize
     requires countable { before + 1 < 2 ^ 64 }
-    requires room { length line.old + 63 ≤ 4096 }
-    ensures text { line.new ≡ out_text before out.now ++ line.old }
-    ensures len { length line.new ≤ length line.old + 63 }
+    requires room { at + 63 ≤ 4096 }
+    ensures text { take result page.new ≡ take at page.old ++ out_text before out.now }
+    ensures end { result ≤ at + 63 }
 {
     match out {
-        None => line.byte(b'-'),
+        None => put_byte(page, at, b'-'),
         Some(out) => {
-            put_value(line, out.whole);
-            line.number(out.time);
-            line.byte(b'@');
-            line.number(before as u64 + 1);
+            let at = put_number(page, at, before as u64 + 1);
+            let at = put_byte(page, at, b'@');
+            let at = put_number(page, at, out.time);
+            put_value(page, at, out.whole)
         }
     }
 }
 
 // The number of a message of a tuple.
-fn put_seq(line: &mut Ending, message: &Token)
-    requires { length line.old + 21 ≤ 4096 }
-    ensures text { line.new ≡ codes " " ++ decimal message.now.seq ++ line.old }
-    ensures len { length line.new ≤ length line.old + 21 }
+#[inline(always)]
+fn put_seq(page: &mut [u8; ROOM], at: usize, message: &Token) -> usize
+    requires { at + 21 ≤ 4096 }
+    ensures text { take result page.new ≡ take at page.old ++ codes " " ++ decimal message.now.seq }
+    ensures end { result ≤ at + 21 }
 {
-    line.number(u64::from(message.seq));
-    line.byte(b' ');
+    let at = put_byte(page, at, b' ');
+    put_number(page, at, u64::from(message.seq))
 }
 
 // The numbers of the messages of a tuple.
-fn put_seqs(line: &mut Ending, tuple: &Tuple)
-    requires { length line.old + 84 ≤ 4096 }
-    ensures text { line.new ≡ seqs_text tuple.now ++ line.old }
-    ensures len { length line.new ≤ length line.old + 84 }
+#[inline(always)]
+fn put_seqs(page: &mut [u8; ROOM], at: usize, tuple: &Tuple) -> usize
+    requires { at + 84 ≤ 4096 }
+    ensures text { take result page.new ≡ take at page.old ++ seqs_text tuple.now }
+    ensures end { result ≤ at + 84 }
 {
     match tuple {
-        Tuple::One(a) => put_seq(line, a),
+        Tuple::One(a) => put_seq(page, at, a),
         Tuple::Two(a, b) => {
-            put_seq(line, b);
-            put_seq(line, a);
+            let at = put_seq(page, at, a);
+            put_seq(page, at, b)
         }
         Tuple::Three(a, b, c) => {
-            put_seq(line, c);
-            put_seq(line, b);
-            put_seq(line, a);
+            let at = put_seq(page, at, a);
+            let at = put_seq(page, at, b);
+            put_seq(page, at, c)
         }
         Tuple::Four(a, b, c, d) => {
-            put_seq(line, d);
-            put_seq(line, c);
-            put_seq(line, b);
-            put_seq(line, a);
+            let at = put_seq(page, at, a);
+            let at = put_seq(page, at, b);
+            let at = put_seq(page, at, c);
+            put_seq(page, at, d)
         }
     }
 }
 
 // A call, behind so many outputs of earlier calls.
-fn put_call(line: &mut Ending, before: usize, call: &Call)
+#[inline(always)]
+fn put_call(page: &mut [u8; ROOM], at: usize, before: usize, call: &Call) -> usize
     requires countable { before + 1 < 2 ^ 64 }
-    requires room { length line.old + 195 ≤ 4096 }
-    ensures text { line.new ≡ call_line before call.now ++ line.old }
-    ensures len { length line.new ≤ length line.old + 195 }
+    requires room { at + 195 ≤ 4096 }
+    ensures text { take result page.new ≡ take at page.old ++ call_line before call.now }
+    ensures end { result ≤ at + 195 }
 {
-    line.byte(b'\n');
-    put_out(line, before, &call.out);
-    line.byte(b' ');
-    put_seqs(line, &call.tuple);
-    line.number(call.tail);
-    line.byte(b'/');
-    line.number(call.position);
-    line.word(b"call ");
+    let at = put_word(page, at, b"call ");
+    let at = put_number(page, at, call.position);
+    let at = put_byte(page, at, b'/');
+    let at = put_number(page, at, call.tail);
+    let at = put_seqs(page, at, &call.tuple);
+    let at = put_byte(page, at, b' ');
+    let at = put_out(page, at, before, &call.out);
+    put_byte(page, at, b'\n')
 }
 
 // The outputs of a call.
@@ -134,47 +143,37 @@ fn outs_of(call: &Call) -> usize
     if call.out.is_some() { 1 } else { 0 }
 }
 
-// The outputs of calls, beside so many earlier ones.
-fn outs_after(before: usize, calls: &[Call]) -> usize
-    requires { before + length calls.now < 2 ^ 64 }
-    ensures { result ≡ outs_after before calls.now }
+// Calls, behind so many outputs of earlier calls: where their lines end, and the outputs up to
+// their end.
+#[inline(always)]
+fn put_calls(page: &mut [u8; ROOM], before: usize, calls: &[Call]) -> (usize, usize)
+    requires countable { before + length calls.now < 2 ^ 64 }
+    requires room { 195 * length calls.now ≤ 4096 }
+    ensures text { take result.0 page.new ≡ call_lines before calls.now }
+    ensures end { result.0 ≤ 4096 }
+    ensures after { result.1 ≡ outs_after before calls.now }
 {
+    let mut at = 0;
     let mut after = before;
     for call in calls {
+        at = put_call(page, at, after, call);
         after += outs_of(call);
     }
-    after
-}
-
-// Calls from the last one on, and the outputs up to their end, where so many stand before them.
-fn put_calls(lines: &mut Ending, before: usize, calls: &[Call]) -> usize
-    requires countable { before + length calls.now < 2 ^ 64 }
-    requires room { length lines.old + 195 * length calls.now ≤ 4096 }
-    ensures text { lines.new ≡ call_lines before calls.now ++ lines.old }
-    ensures after { result ≡ outs_after before calls.now }
-{
-    let after = outs_after(before, calls);
-    let mut behind = after;
-    for place in (0..calls.len()).rev() {
-        let call = &calls[place];
-        behind -= outs_of(call);
-        put_call(lines, behind, call);
-    }
-    after
+    (at, after)
 }
 
 // Calls, from a component's first one on.
 fn push_call_lines(to: &mut Vec<u8>, calls: &[Call]) -> Result<(), AllocError>
     ensures { OnOk result (to.new.items ≡ to.old.items ++ call_lines 0 calls.now) }
 {
-    let mut lines = Ending::new();
+    let mut page = [0; ROOM];
     let mut before = 0;
     let mut rest = calls;
     while !rest.is_empty() {
         let (some, others) = rest.split_at(rest.len().min(AT_ONCE));
-        lines.clear();
-        before = put_calls(&mut lines, before, some);
-        to.extend_from_slice(lines.bytes())?;
+        let (end, after) = put_calls(&mut page, before, some);
+        to.extend_from_slice(&page[..end])?;
+        before = after;
         rest = others;
     }
     Ok(())
@@ -266,27 +265,31 @@ fn are_short(starts: &[Bytes]) -> bool
 }
 
 // A message of the tape, but for what the lines of its channel begin with.
-fn put_number(line: &mut Ending, token: &Token)
-    requires { length line.old + 21 ≤ 4096 }
-    ensures text { line.new ≡ decimal token.now.seq ++ codes "\n" ++ line.old }
-    ensures len { length line.new ≤ length line.old + 21 }
+#[inline(always)]
+fn put_end(page: &mut [u8; ROOM], at: usize, token: &Token) -> usize
+    requires { at + 21 ≤ 4096 }
+    ensures text { take result page.new ≡ take at page.old ++ decimal token.now.seq ++ codes "\n" }
+    ensures end { result ≤ at + 21 }
 {
-    line.byte(b'\n');
-    line.number(u64::from(token.seq));
+    let at = put_number(page, at, u64::from(token.seq));
+    put_byte(page, at, b'\n')
 }
 
-// Messages of the tape, from the last one on, where the lines of each channel begin so.
-fn put_tape(lines: &mut Ending, starts: &[Bytes], tape: &[Token])
+// Messages of the tape, where the lines of each channel begin so. Answers where their lines end.
+#[inline(always)]
+fn put_tape(page: &mut [u8; ROOM], starts: &[Bytes], tape: &[Token]) -> usize
     requires known { All (λ t. t.channel < length starts.now) tape.now }
     requires short { All (λ s. length s ≤ 100) starts.now }
-    requires room { length lines.old + 121 * length tape.now ≤ 4096 }
-    ensures { lines.new ≡ flat_map (started_line starts.now) tape.now ++ lines.old }
+    requires room { 121 * length tape.now ≤ 4096 }
+    ensures text { take result page.new ≡ flat_map (started_line starts.now) tape.now }
+    ensures end { result ≤ 4096 }
 {
-    for place in (0..tape.len()).rev() {
-        let token = &tape[place];
-        put_number(lines, token);
-        lines.word(starts[token.channel as usize].as_slice());
+    let mut at = 0;
+    for token in tape {
+        at = put_word(page, at, starts[token.channel as usize].as_slice());
+        at = put_end(page, at, token);
     }
+    at
 }
 
 // Messages of the tape, some lines at a time.
@@ -296,13 +299,12 @@ fn push_short(to: &mut Vec<u8>, starts: &[Bytes], tape: &[Token]) -> Result<(), 
     ensures { OnOk result (to.new.items ≡ to.old.items
         ++ flat_map (started_line starts.now) tape.now) }
 {
-    let mut lines = Ending::new();
+    let mut page = [0; ROOM];
     let mut rest = tape;
     while !rest.is_empty() {
         let (some, others) = rest.split_at(rest.len().min(AT_ONCE));
-        lines.clear();
-        put_tape(&mut lines, starts, some);
-        to.extend_from_slice(lines.bytes())?;
+        let end = put_tape(&mut page, starts, some);
+        to.extend_from_slice(&page[..end])?;
         rest = others;
     }
     Ok(())
@@ -314,12 +316,11 @@ fn push_long(to: &mut Vec<u8>, starts: &[Bytes], tape: &[Token]) -> Result<(), A
     ensures { OnOk result (to.new.items ≡ to.old.items
         ++ flat_map (started_line starts.now) tape.now) }
 {
-    let mut line = Ending::new();
+    let mut page = [0; ROOM];
     for token in tape {
-        line.clear();
-        put_number(&mut line, token);
         to.extend_from_slice(starts[token.channel as usize].as_slice())?;
-        to.extend_from_slice(line.bytes())?;
+        let end = put_end(&mut page, 0, token);
+        to.extend_from_slice(&page[..end])?;
     }
     Ok(())
 }

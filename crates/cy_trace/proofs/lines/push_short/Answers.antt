@@ -11,5 +11,5 @@ loop-rest-preserved c =
     let whole = c.args.to.now.items ++ flat_map (started_line starts) c.args.tape.now in
     record {
       known = All-same (λ t. t.channel < length starts) c.split_at.result.1.now _ c.split_at.ensures.back (All-drop (λ t. t.channel < length starts) _ l.rest.now l.invariant.known);
-      text = lines_added starts l.rest.now c.split_at.result.0.now c.split_at.result.1.now l.to.items c.extend_from_slice.new.self.items c.bytes.result.now c.put_tape.new.lines c.clear.new.self whole c.split_at.ensures.by_index.0 c.in_ok-extend_from_slice.ensures.items c.bytes.ensures c.put_tape.ensures c.clear.ensures l.invariant.text;
+      text = lines_added starts l.rest.now c.split_at.result.0.now c.split_at.result.1.now l.to.items c.extend_from_slice.new.self.items _ whole c.split_at.ensures.by_index.0 c.in_ok-extend_from_slice.ensures.items c.put_tape-end.ensures.text l.invariant.text;
     }

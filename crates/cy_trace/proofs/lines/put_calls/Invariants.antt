@@ -1,11 +1,11 @@
-use Rattle.std.proofs.Common.{◌≡◌, ◌≤◌, ◌+◌, ◌*◌, ◌++◌, length, take, drop}
+use Rattle.std.proofs.Common.{◌≡◌, ◌≤◌, ◌*◌, take}
 use Rattle.cy_trace.specs.OutsAfter.{outs_after}
 use Rattle.cy_trace.specs.TraceText.{call_lines}
 use Rattle.cy_trace.proofs.lines.put_calls.Given as goal
 
-abbrev pub invariant-loop-place : goal.invariant-loop-place
-invariant-loop-place l = record {
-  count : l.behind ≡ outs_after l.before (take l.place l.calls);
-  room : length l.lines + 195 * l.place ≤ 4096;
-  text : l.lines ≡ call_lines l.behind (drop l.place l.calls) ++ l.fn.lines;
+abbrev pub invariant-loop-call : goal.invariant-loop-call
+invariant-loop-call l = record {
+  room : l.at ≤ 195 * l.call-index;
+  count : l.after ≡ outs_after l.before (take l.call-index l.calls);
+  text : take l.at l.page ≡ call_lines l.before (take l.call-index l.calls);
 }
