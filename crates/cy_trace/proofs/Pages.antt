@@ -1,8 +1,8 @@
 -- A text written into an array, and how many digits a number has.
-use Rattle.std.proofs.Common.{ℕ, ◌+◌, ◌/◌, ◌^◌, ◌<◌, ◌≤◌, ◌≡◌, ◌∙◌, ap, sym, List, ◌++◌, length, take, drop, arith}
+use Rattle.std.proofs.Common.{ℕ, ◌+◌, ◌/◌, ◌<◌, ◌≤◌, ◌≡◌, ◌∙◌, ap, sym, List, ◌++◌, length, take, drop, arith}
 use Rattle.std.proofs.Math.Seq.{take-add, take-append_seam}
 use Rattle.std.specs.Fmt.{decimal}
-use Rattle.itoa.proofs.Decimal.{length_one, length_two, length_pair, length_four, length_step_wide}
+use Rattle.itoa.proofs.Decimal.{length_one, length_two, length_pair}
 
 -- A text written up to a place is behind what stands in front of it.
 pub written_up_to : (at start end : ℕ) (text old new : List ℕ) → start + length text ≡ end → end ≡ at + length text → drop start new ≡ text ++ drop end old → take start new ≡ take start old → take end new ≡ take at old ++ text
@@ -25,18 +25,3 @@ four_digits n low high =
     let pair = length_pair n (omega (arith, low)) (omega (arith, high)) in
     let two = length_two (n / 100) (omega (arith, low)) (omega (arith, high)) in
     omega (arith, pair, two)
-
-pub five_digits : (n : ℕ) → 10000 ≤ n → n < 100000 → length (decimal n) ≡ 5
-five_digits n low high =
-    let four = length_four n low (omega (arith, high)) in
-    let one = length_one (n / 10000) (omega (arith, high)) in
-    omega (arith, four, one)
-
--- Five digits more than a part of the number has.
-pub five_more : (n : ℕ) → 100000 ≤ n → n < 2 ^ 64 → length (decimal n) ≡ length (decimal (n / 100000)) + 5
-five_more n low high =
-    let part : n / 10000 / 10 ≡ n / 100000 = omega arith in
-    let four = length_four n (omega (arith, low)) high in
-    let one = length_step_wide (n / 10000) (omega (arith, low)) (omega (arith, high)) in
-    let same = ap (λ m. length (decimal m)) part in
-    omega (arith, four, one, same)

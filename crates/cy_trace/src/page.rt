@@ -57,31 +57,44 @@ pub(crate) fn put_signed(page: &mut [u8; ROOM], at: usize, value: i64) -> usize
     put_number(page, start, value.unsigned_abs())
 }
 
-// How many digits a number has in decimal. Most have few.
+// How many digits a number has in decimal. It is divided as it is for its digits, so that this is
+// done once.
 #[inline(always)]
 fn digits_of(number: u64) -> usize
     ensures { result ≡ length (decimal number) }
 {
+    if number < 10_000 {
+        few_digits_of(number)
+    } else {
+        4 + more_digits_of(number / 10_000)
+    }
+}
+
+// The same of what is in front of the last four digits.
+#[inline(always)]
+fn more_digits_of(number: u64) -> usize
+    ensures count { result ≡ length (decimal number) }
+    ensures few { result ≤ 20 }
+{
     let mut rest = number;
     let mut count = 0;
-    while rest >= 100_000 {
-        rest /= 100_000;
-        count += 5;
+    while rest >= 10_000 {
+        rest /= 10_000;
+        count += 4;
     }
     count + few_digits_of(rest)
 }
 
-// The same of a number of five digits at most.
+// The same of a number of four digits at most.
 #[inline(always)]
 fn few_digits_of(number: u64) -> usize
-    requires { number < 100000 }
+    requires { number < 10000 }
     ensures { result ≡ length (decimal number) }
 {
     match number {
         0..=9 => 1,
         10..=99 => 2,
         100..=999 => 3,
-        1_000..=9_999 => 4,
-        _ => 5,
+        _ => 4,
     }
 }
