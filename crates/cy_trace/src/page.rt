@@ -64,14 +64,18 @@ fn digits_of(number: u64) -> usize
     ensures { result ≡ length (decimal number) }
 {
     if number < 10_000 {
-        few_digits_of(number)
-    } else {
-        4 + more_digits_of(number / 10_000)
+        return few_digits_of(number);
     }
+    let front = number / 10_000;
+    if front < 10_000 {
+        return 4 + few_digits_of(front);
+    }
+    4 + more_digits_of(front)
 }
 
-// The same of what is in front of the last four digits.
-#[inline(always)]
+// The same of any number. It stands by itself: together with the division above, its own one would
+// be by one of two numbers, and take many times as long.
+#[inline(never)]
 fn more_digits_of(number: u64) -> usize
     ensures count { result ≡ length (decimal number) }
     ensures few { result ≤ 20 }
