@@ -73,9 +73,21 @@ impl<'a> Parts<'a> {
             ≡ unwrap_or (span_in 3 (seen_field field.now)) (seen_span self.old.content) }
     {
         match field.number {
-            1 => self.name = field.span(1).unwrap_or(self.name),
-            2 => self.time = field.varint(2).unwrap_or(self.time),
-            3 => self.content = field.span(3).unwrap_or(self.content),
+            1 => {
+                if let Some(name) = field.span(1) {
+                    self.name = name;
+                }
+            }
+            2 => {
+                if let Some(time) = field.varint(2) {
+                    self.time = time;
+                }
+            }
+            3 => {
+                if let Some(content) = field.span(3) {
+                    self.content = content;
+                }
+            }
             _ => {}
         }
     }
