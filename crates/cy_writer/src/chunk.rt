@@ -157,6 +157,7 @@ impl Chunk {
     }
 
     /// Adds a message that the chunk takes. Want of memory leaves the messages as they were.
+    #[inline(always)]
     pub fn add(&mut self, name: &str, time: u64, content: &[u8]) -> Result<(), WriteError>
         ensures added { (messages : List BodyMessage) → IsChunkOf self.old messages
             → OnOk result (IsChunkOf self.new (messages ++ record {
