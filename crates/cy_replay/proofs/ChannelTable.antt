@@ -215,6 +215,35 @@ order_more tape n t here =
     (take_more tape n t (slice_get_within tape n t here) ∙ ap (λ (x : Token). take n tape ++ x ∷ []) (get_or_from_slice_get tape n t t here))
     ∙ numbers_after-append [] (take n tape) (t ∷ [])
 
+-- Where the order has as many channels as the table, each stands in it.
+all_stand : (order : List ℕ) (numbers : List (Option ℕ)) (c : ℕ) → AreNumbered order numbers → length order ≡ length numbers
+    → c < length numbers → with_number order c ≡ order
+all_stand order numbers c h all low = by (get_or numbers c None) (slice_get-get_or numbers c None low)
+  where
+    by : (o : Option ℕ) → slice_get numbers c ≡ Some o → with_number order c ≡ order
+    by (Some i) here = known order numbers c i h here
+    by None here =
+        let more : length (order ++ c ∷ []) ≤ length (set numbers c (Some (length order))) = few _ _ (noted order numbers c h here) in
+        absurd (omega (arith, more, length-append order (c ∷ []), length-set numbers c (Some (length order)), all))
+
+none_added : (order : List ℕ) (numbers : List (Option ℕ)) (tape : List Token) → AreNumbered order numbers → length order ≡ length numbers
+    → ((n : ℕ) (t : Token) → slice_get tape n ≡ Some t → t.channel < length numbers) → numbers_after order tape ≡ order
+none_added order numbers [] h all below = refl
+none_added order numbers (t ∷ rest) h all below =
+    ap (λ (others : List ℕ). numbers_after others rest) (all_stand order numbers t.channel h all (below 0 t refl))
+    ∙ none_added order numbers rest h all (λ n u here. below (suc n) u here)
+
+-- so the messages behind those that fill it add none
+pub order_filled : (known order : List ℕ) (numbers : List (Option ℕ)) (tape : List Token) (n : ℕ) → order ≡ numbers_after known (take n tape)
+    → AreNumbered order numbers → length order ≡ length numbers → ((m : ℕ) (t : Token) → slice_get tape m ≡ Some t → t.channel < length numbers)
+    → order ≡ numbers_after known tape
+order_filled known order numbers [] zero is h all below = is
+order_filled known order numbers [] (suc n) is h all below = is
+order_filled known order numbers (t ∷ rest) zero is h all below =
+    sym (ap (λ (others : List ℕ). numbers_after others (t ∷ rest)) (sym is) ∙ none_added order numbers (t ∷ rest) h all below)
+order_filled known order numbers (t ∷ rest) (suc n) is h all below =
+    order_filled (with_number known t.channel) order numbers rest n is h all (λ m u here. below (suc m) u here)
+
 -- a channel that stands among the known ones
 with_number-keeps : (p : ℕ → Bool) (known : List ℕ) (c : ℕ) → list_any p known ≡ true → list_any p (with_number known c) ≡ true
 with_number-keeps p known c h = by (list_any (λ other. c == other) known) refl

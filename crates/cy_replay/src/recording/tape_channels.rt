@@ -61,6 +61,10 @@ impl TapeChannels {
     {
         let mut found = TapeChannels::none(alloc, channels)?;
         for token in tape {
+            // Where each channel stands there, the rest of the tape adds none.
+            if found.order.len() == channels as usize {
+                return Ok(found);
+            }
             found.note(token.channel)?;
         }
         Ok(found)
