@@ -6,9 +6,10 @@ use Rattle.cy_msg.specs.Names.{channel_name}
 use Rattle.std.proofs.lemmas.List.{take_more, length-take-le, append-nil, flat_map_more}
 use Rattle.std.proofs.lemmas.List.Concat.{flat_map-append}
 use Rattle.std.proofs.lemmas.List.Elements.{All-get_or}
-use Rattle.cy_trace.proofs.Starts.{start_read}
+use Rattle.cy_trace.proofs.Starts.{texts_of, text_read}
 use Rattle.cy_msg.specs.declared.token.Token.{Token}
 use Rattle.cy_comp.specs.declared.call.Call.{Call}
+use Rattle.cy_trace.specs.declared.start.LineStart.{LineStart}
 use Rattle.cy_trace.specs.TapeLines.{started_line}
 use Rattle.cy_trace.specs.TraceText.{call_line, call_lines}
 use Rattle.cy_trace.specs.OutsAfter.{outs_after}
@@ -74,24 +75,25 @@ calls_added before after rest some others to new bytes whole parts count is text
     ∙ so
 
 -- A start that is read is as short as all are.
-pub short_start : (starts : List (List ℕ)) (tape : List Token) (i : ℕ) (d : Token) (start word : List ℕ) → i < length tape → All (λ t. t.channel < length starts) tape → All (λ s. length s ≤ 100) starts → start ≡ get_or starts (get_or tape i d).channel start → word ≡ start → length word ≤ 100
-short_start starts tape i d start word inside known short read same =
+pub short_start : (starts : List LineStart) (tape : List Token) (i : ℕ) (d : Token) (start : LineStart) → i < length tape → All (λ t. t.channel < length starts) tape → All (λ (s : LineStart). length s.text ≤ 100) starts → start ≡ get_or starts (get_or tape i d).channel start → length start.text ≤ 100
+short_start starts tape i d start inside known short read =
     let t = get_or tape i d in
-    let few : length (get_or starts t.channel start) ≤ 100 = All-get_or (λ s. length s ≤ 100) starts t.channel start (All-get_or (λ u. u.channel < length starts) tape i d inside known) short in
-    let size : length word ≡ length (get_or starts t.channel start) = ap (λ (l : List ℕ). length l) (same ∙ read) in
+    let few : length (get_or starts t.channel start).text ≤ 100 = All-get_or (λ (s : LineStart). length s.text ≤ 100) starts t.channel start (All-get_or (λ u. u.channel < length starts) tape i d inside known) short in
+    let size : length start.text ≡ length (get_or starts t.channel start).text = ap (λ (s : LineStart). length s.text) read in
     omega (arith, few, size)
 
 joined : (a b d e : List ℕ) → a ++ b ++ d ++ e ≡ a ++ (b ++ d ++ e)
 joined a b d e = simp append_assoc
 
 -- One line of the tape behind the text of the earlier ones.
-pub line_added : (starts : List (List ℕ)) (tape : List Token) (i : ℕ) (d : Token) (start word to mid new old : List ℕ) → i < length tape → All (λ t. t.channel < length starts) tape → start ≡ get_or starts (get_or tape i d).channel start → word ≡ start → to ≡ old ++ flat_map (started_line starts) (take i tape) → mid ≡ to ++ word → new ≡ mid ++ decimal (get_or tape i d).seq ++ codes "\n" → new ≡ old ++ flat_map (started_line starts) (take (i + 1) tape)
+pub line_added : (starts : List LineStart) (tape : List Token) (i : ℕ) (d : Token) (start : LineStart) (word to mid new old : List ℕ) → i < length tape → All (λ t. t.channel < length starts) tape → start ≡ get_or starts (get_or tape i d).channel start → word ≡ start.text → to ≡ old ++ flat_map (started_line (texts_of starts)) (take i tape) → mid ≡ to ++ word → new ≡ mid ++ decimal (get_or tape i d).seq ++ codes "\n" → new ≡ old ++ flat_map (started_line (texts_of starts)) (take (i + 1) tape)
 line_added starts tape i d start word to mid new old inside known read same so is last =
     let t = get_or tape i d in
-    let f = started_line starts in
-    let here : channel_name starts t.channel ≡ start = start_read starts t.channel start (All-get_or (λ u. u.channel < length starts) tape i d inside known) read in
-    last ∙ ap (λ (l : List ℕ). l ++ decimal t.seq ++ codes "\n") (is ∙ ap (λ (l : List ℕ). to ++ l) (same ∙ sym here) ∙ ap (λ (l : List ℕ). l ++ channel_name starts t.channel) so)
-    ∙ joined (old ++ flat_map f (take i tape)) (channel_name starts t.channel) (decimal t.seq) (codes "\n")
+    let f = started_line (texts_of starts) in
+    let name = channel_name (texts_of starts) t.channel in
+    let here : name ≡ start.text = text_read starts t.channel start (All-get_or (λ u. u.channel < length starts) tape i d inside known) read in
+    last ∙ ap (λ (l : List ℕ). l ++ decimal t.seq ++ codes "\n") (is ∙ ap (λ (l : List ℕ). to ++ l) (same ∙ sym here) ∙ ap (λ (l : List ℕ). l ++ name) so)
+    ∙ joined (old ++ flat_map f (take i tape)) name (decimal t.seq) (codes "\n")
     ∙ flat_map_more f old (take i tape) t
     ∙ ap (λ (l : List Token). old ++ flat_map f l) (sym (take_more tape i d inside))
 

@@ -15,3 +15,4 @@ pub mod Starts
 pub mod TextRead
 pub mod Gathered
 pub mod Pages
+pub mod Keeping

@@ -2,11 +2,12 @@
 use Rattle.std.proofs.Common.{ℕ, zero, suc, ◌+◌, ◌<◌, ◌≡◌, ◌∙◌, ap, List, [], ◌∷◌, ◌++◌, length, map, flat_map, take, slice_get, get_or, sym, Some, codes, refl, arith}
 use Rattle.std.specs.List.{All}
 use Rattle.std.specs.Prelude.{OnOk, Result, Ok, Err}
-use Rattle.std.proofs.lemmas.List.{length-map}
+use Rattle.std.proofs.lemmas.List.{length-map, map-append, get_or-map}
 use Rattle.std.proofs.lemmas.List.Elements.{All-nil, All-cons}
 use Rattle.std.specs.Fmt.{decimal}
 use Rattle.cy_msg.specs.Names.{channel_name}
 use Rattle.cy_msg.specs.declared.token.Token.{Token}
+use Rattle.cy_trace.specs.declared.start.LineStart.{LineStart}
 use Rattle.cy_trace.specs.TapeLines.{tape_start, started_line}
 use Rattle.cy_trace.specs.TraceText.{tape_line}
 
@@ -44,13 +45,34 @@ lines_are names (t ∷ rest) known =
     ap (λ (s : List ℕ). s ++ flat_map (started_line (map tape_start names)) rest) (line_is names t (known 0 t refl))
     ∙ ap (λ (s : List ℕ). tape_line names t ++ s) (lines_are names rest (λ n u e. known (suc n) u e))
 
+-- The texts of starts.
+abbrev pub texts_of : List LineStart → List (List ℕ)
+texts_of starts = map (λ (s : LineStart). s.text) starts
+
+-- The text of a start that is read is what stands at its place among the texts.
+pub text_read : (starts : List LineStart) (channel : ℕ) (start : LineStart) → channel < length starts → start ≡ get_or starts channel start → channel_name (texts_of starts) channel ≡ start.text
+text_read starts channel start low is =
+    let size : length (texts_of starts) ≡ length starts = length-map starts (λ (s : LineStart). s.text) in
+    let read : get_or (texts_of starts) channel start.text ≡ (get_or starts channel start).text = get_or-map (λ (s : LineStart). s.text) starts channel start start.text low in
+    start_read (texts_of starts) channel start.text (omega (arith, low, size)) (ap (λ (s : LineStart). s.text) is ∙ sym read)
+
+-- One more start.
+pub starts_more : (starts new : List LineStart) (start : LineStart) (names : List (List ℕ)) (i : ℕ) (name : List ℕ) → slice_get names i ≡ Some name → texts_of starts ≡ map tape_start (take i names) → new ≡ starts ++ start ∷ [] → start.text ≡ tape_start name → texts_of new ≡ map tape_start (take (i + 1) names)
+starts_more starts new start names i name there so is text =
+    ap (λ (l : List LineStart). texts_of l) is
+    ∙ map-append (λ (s : LineStart). s.text) starts (start ∷ [])
+    ∙ ap (λ (l : List (List ℕ)). l ++ start.text ∷ []) so
+    ∙ ap (λ (s : List ℕ). map tape_start (take i names) ++ s ∷ []) text
+    ∙ sym (start_more names i name there)
+
 -- The channels of the tape have starts.
-pub known_starts : (names : List (List ℕ)) (tape : List Token) (starts : List (List ℕ)) → starts ≡ map tape_start names → ((n : ℕ) (t : Token) → slice_get tape n ≡ Some t → t.channel < length names) → All (λ t. t.channel < length starts) tape
+pub known_starts : (names : List (List ℕ)) (tape : List Token) (starts : List LineStart) → texts_of starts ≡ map tape_start names → ((n : ℕ) (t : Token) → slice_get tape n ≡ Some t → t.channel < length names) → All (λ t. t.channel < length starts) tape
 known_starts names [] starts is known = All-nil (λ t. t.channel < length starts)
 known_starts names (t ∷ rest) starts is known =
     let few : t.channel < length names = known 0 t refl in
-    let same : length starts ≡ length names = ap (λ (l : List (List ℕ)). length l) is ∙ length-map names tape_start in
-    All-cons (λ u. u.channel < length starts) t rest (omega (arith, few, same)) (known_starts names rest starts is (λ n u e. known (suc n) u e))
+    let same : length (texts_of starts) ≡ length names = ap (λ (l : List (List ℕ)). length l) is ∙ length-map names tape_start in
+    let size : length (texts_of starts) ≡ length starts = length-map starts (λ (s : LineStart). s.text) in
+    All-cons (λ u. u.channel < length starts) t rest (omega (arith, few, same, size)) (known_starts names rest starts is (λ n u e. known (suc n) u e))
 
 -- With the starts of all channels they are the lines of the tape.
 pub lines_end : (names : List (List ℕ)) (tape : List Token) (starts : List (List ℕ)) (old new : List ℕ) → starts ≡ map tape_start names → new ≡ old ++ flat_map (started_line starts) tape → ((n : ℕ) (t : Token) → slice_get tape n ≡ Some t → t.channel < length names) → new ≡ old ++ flat_map (tape_line names) tape

@@ -8,3 +8,4 @@ pub mod TraceOfRun
 pub mod TraceText
 pub mod TapeLines
 pub mod OutsAfter
+pub mod Kept

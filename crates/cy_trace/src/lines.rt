@@ -13,18 +13,17 @@ ghost use Rattle.cy_trace.specs.TraceText.{component_text, tape_line};
 ghost use Rattle.cy_trace.specs.TapeLines.{tape_start, started_line};
 ghost use Rattle.cy_trace.specs.OutsAfter.{outs_after};
 
+use crate::numeral::{Numeral, put_kept};
 use crate::page::{ROOM, put_byte, put_number, put_signed, put_word};
+use crate::start::{LineStart, are_short, line_starts, put_start};
 use cy_comp::{Call, Kind, Out, Plan, is_finished, next_cursor};
-use cy_msg::{Bytes, Names, Token, Tuple, push_quoted};
+use cy_msg::{Names, Token, Tuple, push_quoted};
 use itoa::{Buffer, Integer};
 use std::alloc::{AllocError, Global};
 
 // How many lines are gathered before they are added to the text. They are gathered from their first
 // one on, as the calls and messages stand, so that these come from memory in order.
 const AT_ONCE: usize = 16;
-
-// The longest start of a line that is gathered with others.
-const SHORT: usize = 100;
 
 // A number in decimal.
 fn push_number<I: Integer>(to: &mut Vec<u8>, number: I) -> Result<(), AllocError>
@@ -62,7 +61,13 @@ fn put_value(page: &mut [u8; ROOM], at: usize, value: Option<i64>) -> usize
 
 // What a call put out, behind so many earlier outputs.
 #[inline(always)]
-fn put_out(page: &mut [u8; ROOM], at: usize, before: usize, out: &Option<Out>) -> usize
+fn put_out(
+    page: &mut [u8; ROOM],
+    at: usize,
+    before: usize,
+    out: &Option<Out>,
+    numeral: &Numeral,
+) -> usize
     requires countable { before + 1 < 2 ^ 64 }
     requires room { at + 63 ≤ 4096 }
     ensures text { take result page.new ≡ take at page.old ++ out_text before out.now }
@@ -71,7 +76,7 @@ fn put_out(page: &mut [u8; ROOM], at: usize, before: usize, out: &Option<Out>) -
     match out {
         None => put_byte(page, at, b'-'),
         Some(out) => {
-            let at = put_number(page, at, before as u64 + 1);
+            let at = put_kept(page, at, before as u64 + 1, numeral);
             let at = put_byte(page, at, b'@');
             let at = put_number(page, at, out.time);
             put_value(page, at, out.whole)
@@ -81,57 +86,65 @@ fn put_out(page: &mut [u8; ROOM], at: usize, before: usize, out: &Option<Out>) -
 
 // The number of a message of a tuple.
 #[inline(always)]
-fn put_seq(page: &mut [u8; ROOM], at: usize, message: &Token) -> usize
+fn put_seq(page: &mut [u8; ROOM], at: usize, message: &Token, numeral: &Numeral) -> usize
     requires { at + 21 ≤ 4096 }
     ensures text { take result page.new ≡ take at page.old ++ codes " " ++ decimal message.now.seq }
     ensures end { result ≤ at + 21 }
 {
     let at = put_byte(page, at, b' ');
-    put_number(page, at, u64::from(message.seq))
+    put_kept(page, at, u64::from(message.seq), numeral)
 }
 
 // The numbers of the messages of a tuple.
 #[inline(always)]
-fn put_seqs(page: &mut [u8; ROOM], at: usize, tuple: &Tuple) -> usize
+fn put_seqs(page: &mut [u8; ROOM], at: usize, tuple: &Tuple, numeral: &Numeral) -> usize
     requires { at + 84 ≤ 4096 }
     ensures text { take result page.new ≡ take at page.old ++ seqs_text tuple.now }
     ensures end { result ≤ at + 84 }
 {
     match tuple {
-        Tuple::One(a) => put_seq(page, at, a),
+        Tuple::One(a) => put_seq(page, at, a, numeral),
         Tuple::Two(a, b) => {
-            let at = put_seq(page, at, a);
-            put_seq(page, at, b)
+            let at = put_seq(page, at, a, numeral);
+            put_seq(page, at, b, numeral)
         }
         Tuple::Three(a, b, c) => {
-            let at = put_seq(page, at, a);
-            let at = put_seq(page, at, b);
-            put_seq(page, at, c)
+            let at = put_seq(page, at, a, numeral);
+            let at = put_seq(page, at, b, numeral);
+            put_seq(page, at, c, numeral)
         }
         Tuple::Four(a, b, c, d) => {
-            let at = put_seq(page, at, a);
-            let at = put_seq(page, at, b);
-            let at = put_seq(page, at, c);
-            put_seq(page, at, d)
+            let at = put_seq(page, at, a, numeral);
+            let at = put_seq(page, at, b, numeral);
+            let at = put_seq(page, at, c, numeral);
+            put_seq(page, at, d, numeral)
         }
     }
 }
 
-// A call, behind so many outputs of earlier calls.
+// A call, behind so many outputs of earlier calls. Its position is mostly the one behind that of the
+// call before, and a component of one reader has it as the number of its message and its output.
 #[inline(always)]
-fn put_call(page: &mut [u8; ROOM], at: usize, before: usize, call: &Call) -> usize
+fn put_call(
+    page: &mut [u8; ROOM],
+    at: usize,
+    before: usize,
+    call: &Call,
+    numeral: &mut Numeral,
+) -> usize
     requires countable { before + 1 < 2 ^ 64 }
     requires room { at + 195 ≤ 4096 }
     ensures text { take result page.new ≡ take at page.old ++ call_line before call.now }
     ensures end { result ≤ at + 195 }
 {
+    *numeral = numeral.moved_to(call.position);
     let at = put_word(page, at, b"call ");
-    let at = put_number(page, at, call.position);
+    let at = put_kept(page, at, call.position, numeral);
     let at = put_byte(page, at, b'/');
-    let at = put_number(page, at, call.tail);
-    let at = put_seqs(page, at, &call.tuple);
+    let at = put_kept(page, at, call.tail, numeral);
+    let at = put_seqs(page, at, &call.tuple, numeral);
     let at = put_byte(page, at, b' ');
-    let at = put_out(page, at, before, &call.out);
+    let at = put_out(page, at, before, &call.out, numeral);
     put_byte(page, at, b'\n')
 }
 
@@ -146,7 +159,12 @@ fn outs_of(call: &Call) -> usize
 // Calls, behind so many outputs of earlier calls: where their lines end, and the outputs up to
 // their end.
 #[inline(always)]
-fn put_calls(page: &mut [u8; ROOM], before: usize, calls: &[Call]) -> (usize, usize)
+fn put_calls(
+    page: &mut [u8; ROOM],
+    before: usize,
+    calls: &[Call],
+    numeral: &mut Numeral,
+) -> (usize, usize)
     requires countable { before + length calls.now < 2 ^ 64 }
     requires room { 195 * length calls.now ≤ 4096 }
     ensures text { take result.0 page.new ≡ call_lines before calls.now }
@@ -156,7 +174,7 @@ fn put_calls(page: &mut [u8; ROOM], before: usize, calls: &[Call]) -> (usize, us
     let mut at = 0;
     let mut after = before;
     for call in calls {
-        at = put_call(page, at, after, call);
+        at = put_call(page, at, after, call, numeral);
         after += outs_of(call);
     }
     (at, after)
@@ -167,11 +185,12 @@ fn push_call_lines(to: &mut Vec<u8>, calls: &[Call]) -> Result<(), AllocError>
     ensures { OnOk result (to.new.items ≡ to.old.items ++ call_lines 0 calls.now) }
 {
     let mut page = [0; ROOM];
+    let mut numeral = Numeral::zero();
     let mut before = 0;
     let mut rest = calls;
     while !rest.is_empty() {
         let (some, others) = rest.split_at(rest.len().min(AT_ONCE));
-        let (end, after) = put_calls(&mut page, before, some);
+        let (end, after) = put_calls(&mut page, before, some, &mut numeral);
         to.extend_from_slice(&page[..end])?;
         before = after;
         rest = others;
@@ -231,79 +250,55 @@ pub(crate) fn push_component(
     push_end_line(to, &plan.kind, calls)
 }
 
-// What the lines of a channel's messages begin with.
-fn line_start(alloc: Global, name: &str) -> Result<Bytes, AllocError>
-    ensures { IfOk result (λ b. b ≡ tape_start name.now) }
-{
-    let mut start = Vec::from_slice(alloc, b"tape ")?;
-    push_quoted(&mut start, name.as_bytes(), true)?;
-    start.extend_from_slice(b" ")?;
-    Ok(Bytes::from_vec(start))
-}
-
-// The same of each channel, in the order of their numbers.
-fn line_starts(alloc: Global, names: &Names) -> Result<Vec<Bytes>, AllocError>
-    ensures { IfOk result (λ v. v.items ≡ map tape_start names.now) }
-{
-    let mut starts = Vec::with_capacity(alloc, names.count() as usize)?;
-    for channel in 0..names.count() {
-        starts.push(line_start(alloc, names.name(channel))?)?;
-    }
-    Ok(starts)
-}
-
-// Whether each of them leaves room for lines that are gathered.
-fn are_short(starts: &[Bytes]) -> bool
-    ensures { IsTrue result → All (λ s. length s ≤ 100) starts.now }
-{
-    for start in starts {
-        if start.as_slice().len() > SHORT {
-            return false;
-        }
-    }
-    true
-}
-
 // A message of the tape, but for what the lines of its channel begin with.
 #[inline(always)]
-fn put_end(page: &mut [u8; ROOM], at: usize, token: &Token) -> usize
+fn put_end(page: &mut [u8; ROOM], at: usize, token: &Token, numeral: &Numeral) -> usize
     requires { at + 21 ≤ 4096 }
     ensures text { take result page.new ≡ take at page.old ++ decimal token.now.seq ++ codes "\n" }
     ensures end { result ≤ at + 21 }
 {
-    let at = put_number(page, at, u64::from(token.seq));
+    let at = put_kept(page, at, u64::from(token.seq), numeral);
     put_byte(page, at, b'\n')
 }
 
-// Messages of the tape, where the lines of each channel begin so. Answers where their lines end.
+// Messages of the tape, where the lines of each channel begin so. Answers where their lines end. A
+// number is mostly that of the message before, which comes of it, or the next one.
 #[inline(always)]
-fn put_tape(page: &mut [u8; ROOM], starts: &[Bytes], tape: &[Token]) -> usize
+fn put_tape(
+    page: &mut [u8; ROOM],
+    starts: &[LineStart],
+    tape: &[Token],
+    numeral: &mut Numeral,
+) -> usize
     requires known { All (λ t. t.channel < length starts.now) tape.now }
-    requires short { All (λ s. length s ≤ 100) starts.now }
+    requires short { All (λ s. length s.text ≤ 100) starts.now }
     requires room { 121 * length tape.now ≤ 4096 }
-    ensures text { take result page.new ≡ flat_map (started_line starts.now) tape.now }
+    ensures text { take result page.new
+        ≡ flat_map (started_line (map (λ s. s.text) starts.now)) tape.now }
     ensures end { result ≤ 4096 }
 {
     let mut at = 0;
     for token in tape {
-        at = put_word(page, at, starts[token.channel as usize].as_slice());
-        at = put_end(page, at, token);
+        *numeral = numeral.moved_to(u64::from(token.seq));
+        at = put_start(page, at, &starts[token.channel as usize]);
+        at = put_end(page, at, token, numeral);
     }
     at
 }
 
 // Messages of the tape, some lines at a time.
-fn push_short(to: &mut Vec<u8>, starts: &[Bytes], tape: &[Token]) -> Result<(), AllocError>
+fn push_short(to: &mut Vec<u8>, starts: &[LineStart], tape: &[Token]) -> Result<(), AllocError>
     requires known { All (λ t. t.channel < length starts.now) tape.now }
-    requires short { All (λ s. length s ≤ 100) starts.now }
+    requires short { All (λ s. length s.text ≤ 100) starts.now }
     ensures { OnOk result (to.new.items ≡ to.old.items
-        ++ flat_map (started_line starts.now) tape.now) }
+        ++ flat_map (started_line (map (λ s. s.text) starts.now)) tape.now) }
 {
     let mut page = [0; ROOM];
+    let mut numeral = Numeral::zero();
     let mut rest = tape;
     while !rest.is_empty() {
         let (some, others) = rest.split_at(rest.len().min(AT_ONCE));
-        let end = put_tape(&mut page, starts, some);
+        let end = put_tape(&mut page, starts, some, &mut numeral);
         to.extend_from_slice(&page[..end])?;
         rest = others;
     }
@@ -311,15 +306,15 @@ fn push_short(to: &mut Vec<u8>, starts: &[Bytes], tape: &[Token]) -> Result<(), 
 }
 
 // Messages of the tape, line by line.
-fn push_long(to: &mut Vec<u8>, starts: &[Bytes], tape: &[Token]) -> Result<(), AllocError>
+fn push_long(to: &mut Vec<u8>, starts: &[LineStart], tape: &[Token]) -> Result<(), AllocError>
     requires { All (λ t. t.channel < length starts.now) tape.now }
     ensures { OnOk result (to.new.items ≡ to.old.items
-        ++ flat_map (started_line starts.now) tape.now) }
+        ++ flat_map (started_line (map (λ s. s.text) starts.now)) tape.now) }
 {
     let mut page = [0; ROOM];
     for token in tape {
-        to.extend_from_slice(starts[token.channel as usize].as_slice())?;
-        let end = put_end(&mut page, 0, token);
+        to.extend_from_slice(starts[token.channel as usize].text.as_slice())?;
+        let end = put_end(&mut page, 0, token, &Numeral::zero());
         to.extend_from_slice(&page[..end])?;
     }
     Ok(())

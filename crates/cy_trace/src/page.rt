@@ -57,10 +57,10 @@ pub(crate) fn put_signed(page: &mut [u8; ROOM], at: usize, value: i64) -> usize
     put_number(page, start, value.unsigned_abs())
 }
 
-// How many digits a number has in decimal. It is divided as it is for its digits, so that this is
-// done once.
+/// How many digits a number has in decimal. It is divided as it is for its digits, so that this is
+/// done once.
 #[inline(always)]
-fn digits_of(number: u64) -> usize
+pub(crate) fn digits_of(number: u64) -> usize
     ensures { result ≡ length (decimal number) }
 {
     if number < 10_000 {

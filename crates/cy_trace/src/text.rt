@@ -17,6 +17,10 @@ use cy_msg::Bytes;
 use std::alloc::{AllocError, Global};
 use wake_core::World;
 
+/// For how many bytes of text there is room at first for each message of the tape: for the line of a
+/// message and that of a call, which most messages have.
+const MESSAGE_BYTES: usize = 40;
+
 /// The trace of a world that was made for this wiring and whose run has come to its end: what was
 /// played and how many messages were shadowed, each component's arrivals, calls and end, and the
 /// tape. `read_trace` reads it back where no more is planned than a world keeps, as for every world
@@ -37,7 +41,8 @@ pub fn trace_text(
     ensures memory { IfErr result (λ e. e ≡ TraceError.Memory) }
 {
     trace_is_read_back(world, wiring, shadowed);
-    let mut to = Vec::new(alloc);
+    let room = world.tape_list().len().saturating_mul(MESSAGE_BYTES);
+    let mut to = Vec::with_capacity(alloc, room)?;
     push_trace(alloc, &mut to, world, wiring, shadowed)?;
     Ok(Bytes::from_vec(to))
 }

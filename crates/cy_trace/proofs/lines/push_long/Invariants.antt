@@ -1,7 +1,8 @@
 use Rattle.std.proofs.Common.{◌≡◌, ◌++◌, take}
 use Rattle.std.specs.List.{flat_map}
 use Rattle.cy_trace.specs.TapeLines.{started_line}
+use Rattle.cy_trace.proofs.Starts.{texts_of}
 use Rattle.cy_trace.proofs.lines.push_long.Given as goal
 
 abbrev pub invariant-loop-token : goal.invariant-loop-token
-invariant-loop-token l = l.to.items ≡ l.fn.to.items ++ flat_map (started_line l.starts) (take l.token-index l.tape)
+invariant-loop-token l = l.to.items ≡ l.fn.to.items ++ flat_map (started_line (texts_of l.starts)) (take l.token-index l.tape)

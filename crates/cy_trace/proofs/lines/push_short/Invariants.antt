@@ -1,12 +1,13 @@
 use Rattle.std.proofs.Common.{◌≡◌, ◌<◌, ◌++◌, length}
 use Rattle.std.specs.List.{flat_map, All}
 use Rattle.cy_trace.specs.TapeLines.{started_line}
+use Rattle.cy_trace.proofs.Starts.{texts_of}
 use Rattle.cy_trace.proofs.lines.push_short.Given as goal
 
 abbrev pub invariant-loop-rest : goal.invariant-loop-rest
 invariant-loop-rest l = record {
   known : All (λ t. t.channel < length l.starts) l.rest;
-  text : l.to.items ++ flat_map (started_line l.starts) l.rest ≡ l.fn.to.items ++ flat_map (started_line l.starts) l.tape;
+  text : l.to.items ++ flat_map (started_line (texts_of l.starts)) l.rest ≡ l.fn.to.items ++ flat_map (started_line (texts_of l.starts)) l.tape;
 }
 
 abbrev pub decreases-loop-rest : goal.decreases-loop-rest
