@@ -163,7 +163,7 @@ pub fn run_make<'a, S: Store>(alloc: Global, make: &Make<'a>, store: &mut S) -> 
     if let Err(error) = write_inputs(alloc, store, make.count, make.prefix) {
         return due_unmade(make, error);
     }
-    match write_both(alloc, store, &play, &replay, &world) {
+    match write_both(alloc, store, &play, replay, &world) {
         Ok(line) => Due {
             status: Status::Done,
             line: Line::Made(line),

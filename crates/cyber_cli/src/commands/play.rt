@@ -175,19 +175,28 @@ fn calls_in(world: &World, plans: &[Plan]) -> u64
     count
 }
 
-// The trace of a replay's run and the line that tells of it.
-fn tell_run(alloc: Global, play: &Play, replay: &Replay, world: &World) -> Result<Told, Failure>
-    requires { HasRun (play_words_of play.now).serial replay.now (plain_of world.now) }
-    ensures told { IfOk result (IsTold replay.now (plain_of world.now)) }
+// The trace of a replay's run and the line that tells of it. The record that was read and the play
+// list are given back first: the text may have their room.
+fn tell_run(alloc: Global, play: &Play, replay: Replay, world: &World) -> Result<Told, Failure>
+    requires { HasRun (play_words_of play.now).serial replay (plain_of world.now) }
+    ensures told { IfOk result (IsTold replay (plain_of world.now)) }
     ensures only_memory { IsOkUnless result Failure.Memory }
 {
-    let shadowed = replay.list.shadowed;
-    let trace = match trace_text(alloc, world, &replay.wiring, shadowed) {
+    let Replay {
+        recorded,
+        wiring,
+        list,
+        ..
+    } = replay;
+    let shadowed = list.shadowed;
+    drop(recorded);
+    drop(list);
+    let trace = match trace_text(alloc, world, &wiring, shadowed) {
         Ok(trace) => trace,
         Err(TraceError::Memory) => return Err(Failure::Memory),
         Err(TraceError::Bad { .. }) => unreachable!(),
     };
-    let calls = calls_in(world, replay.wiring.plans.as_slice());
+    let calls = calls_in(world, wiring.plans.as_slice());
     let written = world.tape_list().len() as u64;
     let line = done_line(alloc, world.played(), shadowed, calls, written)?;
     Ok(Told { trace, line })
@@ -209,21 +218,21 @@ pub(super) fn write_both<S: Store>(
     alloc: Global,
     store: &mut S,
     play: &Play,
-    replay: &Replay,
+    replay: Replay,
     world: &World,
 ) -> Result<Bytes, Failure>
-    requires set_up { IsSetUp (play_words_of play.now).request.filter replay.now }
-    requires run { HasRun (play_words_of play.now).serial replay.now (plain_of world.now) }
+    requires set_up { IsSetUp (play_words_of play.now).request.filter replay }
+    requires run { HasRun (play_words_of play.now).serial replay (plain_of world.now) }
     ensures done { OnOk result ((S.shows store.new).files
-        ≡ option_map (after_writes (writes_by (play_words_of play.now) replay.now
+        ≡ option_map (after_writes (writes_by (play_words_of play.now) replay
         (plain_of world.now))) (S.shows store.old).files) }
-    ensures line { IfOk result (IsLine replay.now (plain_of world.now)) }
+    ensures line { IfOk result (IsLine replay (plain_of world.now)) }
     ensures failed { (f : File) → IsErrOf result (Failure.Store f)
         → ((w : Write) × (name_of w ≡ name_of_play (play_words_of play.now) f)
-        × StopsAt (writes_by (play_words_of play.now) replay.now (plain_of world.now)) w
+        × StopsAt (writes_by (play_words_of play.now) replay (plain_of world.now)) w
         (S.shows store.old).files (S.shows store.new).files) }
     ensures memory { IsErrOf result Failure.Memory
-        → StopsBefore (writes_by (play_words_of play.now) replay.now (plain_of world.now))
+        → StopsBefore (writes_by (play_words_of play.now) replay (plain_of world.now))
         (S.shows store.old).files (S.shows store.new).files }
     ensures causes { (f : File) → IsErrOf result (Failure.Store f) → WriteRose (S.shows store.old)
         (S.shows store.new) }
@@ -263,13 +272,13 @@ pub(super) fn due_played<'a, S: Store>(
     alloc: Global,
     store: &mut S,
     play: &Play<'a>,
-    replay: &Replay,
+    replay: Replay,
     world: &World,
 ) -> Due<'a>
-    requires set_up { IsSetUp (play_words_of play.now).request.filter replay.now }
-    requires run { HasRun (play_words_of play.now).serial replay.now (plain_of world.now) }
+    requires set_up { IsSetUp (play_words_of play.now).request.filter replay }
+    requires run { HasRun (play_words_of play.now).serial replay (plain_of world.now) }
     ensures { (before : StoreView) → SetsUp (play_words_of play.now) before (S.shows store.old)
-        (Ok replay.now) → IsDueFor (command.Play (play_words_of play.now)) before
+        (Ok replay) → IsDueFor (command.Play (play_words_of play.now)) before
         (S.shows store.new) result.status (bytes_of_line result.line) }
 {
     match write_both(alloc, store, play, replay, world) {
@@ -297,5 +306,5 @@ pub fn run_play<'a, S: Store>(alloc: Global, play: &Play<'a>, store: &mut S) -> 
     let Ok(world) = played_world(alloc, play, &replay) else {
         return out_of_memory();
     };
-    due_played(alloc, store, play, &replay, &world)
+    due_played(alloc, store, play, replay, &world)
 }

@@ -87,5 +87,5 @@ pub fn run_play_with_threads<'a, S: Store, G: Gate, R: Threads + Wait + Sync>(
     let Ok(world) = world_as_asked(rt, alloc, play, &replay, gate) else {
         return out_of_memory();
     };
-    due_played(alloc, store, play, &replay, &world)
+    due_played(alloc, store, play, replay, &world)
 }

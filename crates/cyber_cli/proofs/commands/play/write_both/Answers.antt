@@ -10,14 +10,14 @@ use Rattle.cyber_cli.proofs.commands.play.write_both.Goals as goal
 
 pub returns-in-Err-clause-failed : goal.returns-in-Err-clause-failed
 returns-in-Err-clause-failed g c =
-    let x = c.args.replay.now in
+    let x = c.args.replay in
     let world = plain_of c.args.world.now in
     first_fails (play_words_of c.args.play.now) (source_by x) c.tape_list.result.now world.tape (run_trace (source_by x) x.list.shadowed (run_shown world)) (g.S.Store.shows c.args.store.now) (g.S.Store.shows c.write_record.new.store) c.in-Err.error c.unwritten.result
     c.tape_list.ensures.tape (record { failed = c.unwritten.ensures.failed; memory = c.unwritten.ensures.memory }) c.in-Err.ensures.unbroken c.in-Err.ensures.makes
 
 pub returns-in-Err-clause-memory : goal.returns-in-Err-clause-memory
 returns-in-Err-clause-memory g c =
-    let x = c.args.replay.now in
+    let x = c.args.replay in
     let world = plain_of c.args.world.now in
     first_starves (play_words_of c.args.play.now) (source_by x) c.tape_list.result.now world.tape (run_trace (source_by x) x.list.shadowed (run_shown world)) (g.S.Store.shows c.args.store.now) (g.S.Store.shows c.write_record.new.store) c.in-Err.error c.unwritten.result
     c.tape_list.ensures.tape (record { failed = c.unwritten.ensures.failed; memory = c.unwritten.ensures.memory }) c.in-Err.ensures.makes
@@ -25,7 +25,7 @@ returns-in-Err-clause-memory g c =
 pub returns-in-Err-write_file-clause-failed : goal.returns-in-Err-write_file-clause-failed
 returns-in-Err-write_file-clause-failed g c =
     let w = play_words_of c.args.play.now in
-    let x = c.args.replay.now in
+    let x = c.args.replay in
     let world = plain_of c.args.world.now in
     let old = g.S.Store.shows c.args.store.now in
     let mid = g.S.Store.shows c.write_record.new.store in
@@ -36,7 +36,7 @@ returns-in-Err-write_file-clause-failed g c =
 pub returns-in-Err-write_file-clause-memory : goal.returns-in-Err-write_file-clause-memory
 returns-in-Err-write_file-clause-memory g c =
     let w = play_words_of c.args.play.now in
-    let x = c.args.replay.now in
+    let x = c.args.replay in
     let world = plain_of c.args.world.now in
     let old = g.S.Store.shows c.args.store.now in
     let mid = g.S.Store.shows c.write_record.new.store in
@@ -47,7 +47,7 @@ returns-in-Err-write_file-clause-memory g c =
 pub returns-clause-done : goal.returns-clause-done
 returns-clause-done g c =
     let w = play_words_of c.args.play.now in
-    let x = c.args.replay.now in
+    let x = c.args.replay in
     let world = plain_of c.args.world.now in
     let old = g.S.Store.shows c.args.store.now in
     let mid = g.S.Store.shows c.write_record.new.store in
