@@ -1,5 +1,6 @@
 -- Numbers whose digits are kept as the bytes of one number.
-use Rattle.std.specs.Prelude.{ℕ, List, [], ◌∷◌, ◌≡◌, ◌<◌, ◌+◌, ◌*◌, ◌^◌, length, nat_lt, if◌then◌else◌}
+use Rattle.std.specs.Prelude.{ℕ, List, [], ◌∷◌, ◌≡◌, ◌<◌, ◌+◌, ◌*◌, ◌^◌, length, nat_lt}
+use Rattle.std.specs.Prelude.{if◌then◌else◌}
 use Rattle.std.specs.Fmt.{decimal}
 
 -- A number that is kept: it has eight digits at most, else 0 is kept for it.
@@ -11,8 +12,8 @@ unfoldable pub low_first : List ℕ → ℕ
 low_first [] = 0
 low_first (b ∷ bytes) = b + 256 * low_first bytes
 
--- These are a number's digits in decimal as bytes, the first one the lowest, and their count; what a
--- one at the place of the last one is; and the number is one that is kept.
+-- A number that is kept, its digits in decimal as the bytes of one number, the first one the
+-- lowest, what a one at the place of the last digit is there, and how many digits there are.
 pub record IsKept (number digits unit len : ℕ) : Type 0 where
   pub spelled : digits ≡ low_first (decimal number)
   pub place : unit * 256 ≡ 256 ^ len

@@ -122,8 +122,9 @@ fn put_seqs(page: &mut [u8; ROOM], at: usize, tuple: &Tuple, numeral: &Numeral) 
     }
 }
 
-// A call, behind so many outputs of earlier calls. Its position is mostly the one behind that of the
-// call before, and a component of one reader has it as the number of its message and its output.
+// A call, behind so many outputs of earlier calls. Its position is mostly the one behind that of
+// the call before, and where a component has one reader, its tail, its message and its output
+// mostly have that number too.
 #[inline(always)]
 fn put_call(
     page: &mut [u8; ROOM],

@@ -1,4 +1,4 @@
-// Numbers whose digits are kept, for texts in which one number stands again or the next one follows.
+// Numbers whose digits are kept, for texts in which a number stands again or the next one follows.
 ghost use Rattle.std.specs.Prelude.{◌≡◌, ◌≤◌, ◌+◌, ◌++◌, length, take};
 ghost use Rattle.std.specs.Fmt.{decimal};
 ghost use Rattle.cy_trace.specs.Kept.{IsKept, kept_number};

@@ -17,8 +17,8 @@ use cy_msg::Bytes;
 use std::alloc::{AllocError, Global};
 use wake_core::World;
 
-/// For how many bytes of text there is room at first for each message of the tape: for the line of a
-/// message and that of a call, which most messages have.
+/// For how many bytes of text there is room at first for each message of the tape: for the line of
+/// a message and that of a call, which most messages have.
 const MESSAGE_BYTES: usize = 40;
 
 /// The trace of a world that was made for this wiring and whose run has come to its end: what was
