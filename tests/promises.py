@@ -56,9 +56,10 @@ def has_clause(contracts, cell):
     return any(re.match(rf"\s*{form}\b", line) for contract in contracts for line in contract)
 
 
-def has_edit(crate, name):
-    """Whether an edit of the crate stands where the prover tries it, or where it is kept beside."""
-    return any((folder / f"{name}.edit").exists() for folder in (CRATES / crate / "must-fail", TOP / "tests" / "edits" / crate))
+def has_edit(crate, cell):
+    """Whether an edit of the crate stands where the gate tries it, or in brackets, where `tests/edits.sh` does."""
+    folder = TOP / "tests" / "edits" / crate if cell.startswith("(") else CRATES / crate / "must-fail"
+    return (folder / f"{quoted(cell)[0]}.edit").exists()
 
 
 def faults_of(row):
@@ -71,35 +72,35 @@ def faults_of(row):
         yield f"no call {call}"
     elif not has_clause(contracts, row["Clause"]):
         yield f"no clause {row['Clause']} of {call}"
-    if re.fullmatch(r"`\w+`", edit) and not has_edit(crate, quoted(edit)[0]):
+    if re.fullmatch(r"`\w+`|\(`\w+`\)", edit) and not has_edit(crate, edit):
         yield f"no edit {edit}"
 
 
 def edits_named():
-    """The edits that the pages of docs/promises/ name, each a crate and a name."""
+    """The edits that the pages of docs/promises/ name, each a crate, a name and whether it stands in brackets."""
     found = set()
     for page in sorted((TOP / "docs" / "promises").glob("*.md")):
         crate = None
         for line in page.read_text(encoding="utf-8").splitlines():
             head = re.match(r"\| Edit of `(\w+)` \|", line)
             crate = head[1] if head else crate if line.startswith("|") else None
-            if crate and re.match(r"\| `\w+` \|", line):
-                found.add((crate, quoted(line)[0]))
+            if crate and re.match(r"\| (`\w+`|\(`\w+`\)) \|", line):
+                found.add((crate, quoted(line)[0], line.startswith("| (")))
     return found
 
 
 def edits_there():
-    """The edits of the crates, each a crate and a name."""
-    tried = {(path.parent.parent.name, path.stem) for path in CRATES.glob("*/must-fail/*.edit")}
-    return tried | {(path.parent.name, path.stem) for path in (TOP / "tests" / "edits").glob("*/*.edit")}
+    """The edits of the crates, each a crate, a name and whether the gate leaves it out."""
+    tried = {(path.parent.parent.name, path.stem, False) for path in CRATES.glob("*/must-fail/*.edit")}
+    return tried | {(path.parent.name, path.stem, True) for path in (TOP / "tests" / "edits").glob("*/*.edit")}
 
 
 def main():
     """Tells of each row's faults, and answers the status."""
     rows = rows_of(TOP / "docs" / "PROMISES.md")
     faults = [f"{quoted(row['Crate'])[0]}: {row['Promise']}: {fault}" for row in rows for fault in faults_of(row)]
-    faults += [f"{crate}: no edit {name}" for crate, name in sorted(edits_named() - edits_there())]
-    faults += [f"{crate}: no page names the edit {name}" for crate, name in sorted(edits_there() - edits_named())]
+    faults += [f"{crate}: no edit {name}" for crate, name, _ in sorted(edits_named() - edits_there())]
+    faults += [f"{crate}: no page names the edit {name}, or not where it stands" for crate, name, _ in sorted(edits_there() - edits_named())]
     for fault in faults:
         print(fault)
     print(f"{len(rows)} promises, {len(faults)} faults")
