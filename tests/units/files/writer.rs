@@ -1,7 +1,4 @@
 // Records byte by byte, and puts that fail in turn.
-ghost use Rattle.std.specs.Prelude.{⊤};
-ghost use Rattle.cy_writer_tests.specs.Zeros.{zeros_at};
-
 use cy_store::{MemStore, Store};
 use cy_writer::{ChannelRef, Messages, RecordWriter, Stamp, WriteError, write_record};
 use std::alloc::Global;
@@ -115,9 +112,10 @@ struct Zeros<'a> {
 }
 
 impl Messages for Zeros<'_> {
-    ghost can_next = { λ _. ⊤ };
+    // Nothing is proved of it, so that its ghost members are left open.
+    ghost can_next = { ? };
 
-    ghost shows = { λ z. zeros_at z.times.now };
+    ghost shows = { ? };
 
     fn next(&mut self) -> Result<Option<Stamp>, WriteError> {
         let Some((time, rest)) = self.times.split_first() else {
@@ -152,9 +150,7 @@ fn holds(store: &MemStore, header: &[u8], sections: &[u8]) -> bool {
     };
     let (front, rest) = bytes.split_at(bytes.len().min(HEADER_END));
     front.starts_with(header)
-        && front[header.len().min(front.len())..]
-            .iter()
-            .all(|byte| *byte == 0)
+        && front[header.len()..].iter().all(|byte| *byte == 0)
         && rest == sections
 }
 

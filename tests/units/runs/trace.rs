@@ -1,5 +1,5 @@
 // Texts of traces, and texts that are of none.
-use cy_trace::{TapeEntry, Trace, TraceCall, TraceError, TraceOutput, read_trace};
+use cy_trace::{TapeEntry, TraceCall, TraceError, TraceOutput, read_trace};
 use std::alloc::Global;
 use std::test::Fail;
 
@@ -14,17 +14,9 @@ tape "/in" 1
 tape "/out" 1
 "#;
 
-// The trace of a text.
-fn read(alloc: Global, text: &[u8]) -> Result<Trace, TraceError> {
-    if text.len() > 4_294_967_294 {
-        return Err(TraceError::Memory);
-    }
-    read_trace(alloc, text)
-}
-
 // The line at which a text is bad; 0 where it is none.
 fn bad_line(alloc: Global, text: &[u8]) -> Result<u32, Fail> {
-    match read(alloc, text) {
+    match read_trace(alloc, text) {
         Ok(_) => Ok(0),
         Err(TraceError::Bad { line }) => Ok(line),
         Err(TraceError::Memory) => Err(Fail::from("out of memory")),
@@ -50,7 +42,7 @@ fn is_entry(entry: &TapeEntry, name: &str, seq: u32) -> bool {
 
 #[test]
 fn reads_a_trace(rt: HostRuntime) -> Result<(), Fail> {
-    let trace = read(rt.alloc(), PASSED.as_bytes())?;
+    let trace = read_trace(rt.alloc(), PASSED.as_bytes())?;
     assert_eq!(rt; (trace.played, trace.shadowed), (1, 0));
     let [component] = trace.components.as_slice() else {
         return Err(Fail::from("one component"));
@@ -90,7 +82,7 @@ call 4/4 0 0 0 2@5=0
 call 5/5 1 3@6
 end DATA_WAIT next 18446744073709551615
 "#;
-    let trace = read(rt.alloc(), text.as_bytes())?;
+    let trace = read_trace(rt.alloc(), text.as_bytes())?;
     assert_eq!(rt; (trace.played, trace.shadowed), (u32::MAX, u32::MAX));
     let [first, second] = trace.components.as_slice() else {
         return Err(Fail::from("two components"));
@@ -233,7 +225,7 @@ fn finds_bad_lines(rt: HostRuntime) -> Result<(), Fail> {
             return Err(Fail::from("a line"));
         };
         let number = number.parse::<u32>()?;
-        let text = with_line(rt.alloc(), number.saturating_sub(1) as usize, new)?;
+        let text = with_line(rt.alloc(), number as usize - 1, new)?;
         assert_eq!(rt; bad_line(rt.alloc(), text.as_bytes())?, number, "{row}");
     }
     for (number, new) in [(1, "cyber-trace 1\r"), (3, "component \"a\tb\"")] {
@@ -277,7 +269,7 @@ fn finds_where_a_text_ends(rt: HostRuntime) -> Result<(), Fail> {
         let want = if is_trace { 0 } else { line };
         assert_eq!(rt; bad_line(rt.alloc(), prefix.as_bytes())?, want, "{len}");
         if *byte == b'\n' {
-            line = line.saturating_add(1);
+            line += 1;
         }
     }
     assert_eq!(rt; line, 9);

@@ -47,11 +47,9 @@ fn loads_the_message_of_a_small_record(rt: HostRuntime) -> Result<(), Fail> {
     let record = load(rt.alloc(), &mut store, "in.rec")?;
     assert_eq!(rt; record.channels(), 1);
     assert_eq!(rt; record.messages(), 1);
-    if record.channels() == 1 && record.messages() == 1 {
-        assert_eq!(rt; record.channel(0).name.as_str(), "/in");
-        assert_eq!(rt; record.message(0), (0, 100));
-        assert_eq!(rt; record.content(0), b"\x08\x0e".as_slice());
-    }
+    assert_eq!(rt; record.channel(0).name.as_str(), "/in");
+    assert_eq!(rt; record.message(0), (0, 100));
+    assert_eq!(rt; record.content(0), b"\x08\x0e".as_slice());
     Ok(())
 }
 
@@ -79,8 +77,7 @@ fn refuses_each_cut_inside_a_section(rt: HostRuntime) -> Result<(), Fail> {
         (2_158, Ok(1)),
         (2_209, Ok(1)),
     ] {
-        let end = bytes.len().min(len);
-        assert_eq!(rt; loaded(rt.alloc(), &bytes[..end])?, want, "{len}");
+        assert_eq!(rt; loaded(rt.alloc(), &bytes[..len])?, want, "{len}");
     }
     Ok(())
 }
@@ -151,28 +148,22 @@ fn accepts_sections_in_any_order(rt: HostRuntime) -> Result<(), Fail> {
     let record = load(rt.alloc(), &mut store, "in.rec")?;
     assert_eq!(rt; record.channels(), 1);
     assert_eq!(rt; record.messages(), 1);
-    if record.channels() == 1 && record.messages() == 1 {
-        assert_eq!(rt; record.channel(0).message_type.as_str(), "t");
-        assert_eq!(rt; record.message(0), (0, 5));
-        assert_eq!(rt; record.content(0), b"".as_slice());
-    }
+    assert_eq!(rt; record.channel(0).message_type.as_str(), "t");
+    assert_eq!(rt; record.message(0), (0, 5));
+    assert_eq!(rt; record.content(0), b"".as_slice());
     Ok(())
 }
 
 #[test]
 fn refuses_headers_and_limits(rt: HostRuntime) -> Result<(), Fail> {
     let mut compressed = small_record(rt.alloc())?;
-    if compressed.len() > 21 {
-        compressed[21] = 2;
-    }
+    compressed[21] = 2;
     assert_eq!(rt;
         loaded(rt.alloc(), compressed.as_slice())?,
         Err(LoadError::Compressed { kind: 2 })
     );
     let mut sized = small_record(rt.alloc())?;
-    if sized.len() > 9 {
-        sized[9] = 9;
-    }
+    sized[9] = 9;
     assert_eq!(rt;
         loaded(rt.alloc(), sized.as_slice())?,
         Err(LoadError::Section(SectionError::Size {

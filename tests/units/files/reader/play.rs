@@ -1,7 +1,4 @@
 // The messages of a record that are played.
-ghost use Rattle.std.specs.Prelude.{OnOk};
-ghost use Rattle.cy_reader.specs.Play.{AreNamed};
-
 use cy_msg::{Items, Names, NamesError, PlayList, Text, Token};
 use cy_reader::{ChannelSet, Filter, Record, load};
 use cy_store::{MemStore, Store};
@@ -64,9 +61,7 @@ fn record_of(alloc: Global, rest: &[u8]) -> Result<Record, Fail> {
 }
 
 // Adds the names of a record's channels.
-fn add_channels(alloc: Global, recorded: &Record, names: &mut Names) -> Result<(), NamesError>
-    ensures { OnOk result (AreNamed recorded.now names.new) }
-{
+fn add_channels(alloc: Global, recorded: &Record, names: &mut Names) -> Result<(), NamesError> {
     for number in 0..recorded.channels() {
         names.add(alloc, recorded.channel(number).name.as_str())?;
     }

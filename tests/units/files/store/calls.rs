@@ -25,7 +25,6 @@ fn expect_bytes<S: Store>(
 ) -> Result<(), StoreError> {
     let mut buf = vec![in alloc; 0u8; len]?;
     let count = store.read_at(name, at, buf.as_mut_slice())?;
-    assert!(rt; count <= buf.len());
     assert_eq!(rt; &buf.as_slice()[..count], want, "at {at}");
     Ok(())
 }

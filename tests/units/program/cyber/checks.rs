@@ -1,5 +1,5 @@
 // The command `check`: what it prints, and each call of the store failing in turn.
-use crate::ran::{Ran, ends, run};
+use super::ran::{Ran, ends, run};
 use cy_store::{MemStore, Store};
 use cyber_cli::Status;
 use std::alloc::Global;
@@ -52,7 +52,7 @@ fn line_at(call: usize) -> &'static [u8] {
 // The run where this call of the program fails.
 fn failing_at(alloc: Global, call: usize) -> Result<Ran<MemStore>, Fail> {
     let mut store = files(alloc)?;
-    store.fail_at(CALLS_BEFORE.saturating_add(call as u64), 0)?;
+    store.fail_at(CALLS_BEFORE + call as u64, 0)?;
     run(alloc, &CHECK, store)
 }
 

@@ -1,6 +1,6 @@
 // Each call of the store fails in turn, and what stands then.
-use crate::ran::{PASS, Ran, ends, run, store_of};
-use crate::samples::{TRACE, in_record, open_record, out_record};
+use super::ran::{PASS, Ran, ends, run, store_of};
+use super::samples::{TRACE, in_record, open_record, out_record};
 use cy_store::MemStore;
 use cyber_cli::Status;
 use std::alloc::Global;
@@ -23,7 +23,7 @@ const ENDS: [usize; 7] = [0, 2064, 2089, 2115, 2139, 2182, 2271];
 // The run where this call of the program fails after it kept so many bytes.
 fn failing_at(alloc: Global, call: usize, keep: usize) -> Result<Ran<MemStore>, Fail> {
     let mut store = store_of(alloc, &in_record(alloc)?)?;
-    store.fail_at(CALLS_BEFORE.saturating_add(call as u64), keep)?;
+    store.fail_at(CALLS_BEFORE + call as u64, keep)?;
     run(alloc, &PASS, store)
 }
 
@@ -31,14 +31,13 @@ fn failing_at(alloc: Global, call: usize, keep: usize) -> Result<Ran<MemStore>, 
 // record that is being written.
 fn record_at(alloc: Global, piece: usize, keep: usize) -> Result<Vec<u8>, Fail> {
     let mut bytes = open_record(alloc)?;
-    let end = ENDS.get(piece).copied().unwrap_or(bytes.len());
-    if piece.saturating_add(1) == ENDS.len() {
+    if piece + 1 == ENDS.len() {
         let whole = out_record(alloc)?;
         for (byte, new) in bytes.iter_mut().zip(whole.iter()).take(keep) {
             *byte = *new;
         }
     } else {
-        bytes.truncate(end.saturating_add(keep).min(bytes.len()));
+        bytes.truncate(ENDS[piece] + keep);
     }
     Ok(bytes)
 }
@@ -56,7 +55,7 @@ fn line_at(call: usize) -> &'static [u8] {
 fn record_after(alloc: Global, call: usize, keep: usize) -> Result<Option<Vec<u8>>, Fail> {
     Ok(match call {
         1..=3 => None,
-        4..=10 => Some(record_at(alloc, call.saturating_sub(FIRST_PUT), keep)?),
+        4..=10 => Some(record_at(alloc, call - FIRST_PUT, keep)?),
         _ => Some(out_record(alloc)?),
     })
 }

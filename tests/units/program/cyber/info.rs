@@ -1,6 +1,6 @@
 // The command `info`: what it prints of a record that was written, and each refusal.
-use crate::ran::{PASS, ends, run, store_of};
-use crate::samples::in_record;
+use super::ran::{PASS, ends, run, store_of};
+use super::samples::in_record;
 use cy_store::MemStore;
 use cyber_cli::Status;
 use std::alloc::Global;

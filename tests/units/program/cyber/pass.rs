@@ -1,6 +1,6 @@
 // Records that are passed on, and the bytes that other writers give for them.
-use crate::ran::{PASS, ends, holds, run, run_over, store_of};
-use crate::samples::{
+use super::ran::{PASS, ends, holds, run, run_over, store_of};
+use super::samples::{
     AGAIN_TRACE, EMPTY_TRACE, TRACE, TWO_TRACE, empty_record, in_record, out_record,
     two_out_record, two_record,
 };

@@ -1,6 +1,6 @@
 // Words and records that are refused, each with ample memory.
-use crate::ran::{PASS, ends, lacks, run, run_over, store_of};
-use crate::samples::in_record;
+use super::ran::{PASS, ends, lacks, run, run_over, store_of};
+use super::samples::in_record;
 use cy_store::{MemSink, MemStore};
 use cyber_cli::Status;
 use std::alloc::Global;

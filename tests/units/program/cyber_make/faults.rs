@@ -1,5 +1,5 @@
 // Each call of the store fails in turn, and what stands then.
-use crate::ran::run;
+use super::ran::run;
 use cy_store::{MemSink, MemStore};
 use cyber_cli::Status;
 use std::alloc::Global;
@@ -27,7 +27,7 @@ const CALLS: u64 = 32;
 fn file_of(call: u64) -> (usize, u64) {
     let mut before = 0u64;
     for (place, (_, calls)) in FILES.iter().enumerate() {
-        let end = before.saturating_add(*calls);
+        let end = before + *calls;
         if call <= end {
             return (place, before);
         }
@@ -45,7 +45,7 @@ fn stands(rt: &impl Abort, alloc: Global, call: u64) -> Result<(), Fail> {
     assert_eq!(rt; ran.out.bytes(), b"".as_slice(), "{call}");
     let (failed, before) = file_of(call);
     for (place, (name, _)) in FILES.iter().enumerate() {
-        let is_there = place < failed || (place == failed && call > before.saturating_add(1));
+        let is_there = place < failed || (place == failed && call > before + 1);
         assert_eq!(rt; ran.store.file(name).is_some(), is_there, "{call} {name}");
         if place == failed {
             let mut line = String::from_str(alloc, "cyber: ")?;

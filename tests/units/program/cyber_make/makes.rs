@@ -1,5 +1,5 @@
 // Plays that are made and played.
-use crate::ran::run;
+use super::ran::run;
 use cy_store::{MemSink, MemStore};
 use cyber_cli::Status;
 use std::test::Fail;

@@ -1,5 +1,5 @@
 // Words that ask for `make`, and words that ask for nothing.
-use crate::ran::run;
+use super::ran::run;
 use cy_store::{MemSink, MemStore};
 use cyber_cli::Status;
 use std::test::Fail;

@@ -1,6 +1,6 @@
 // Each call of the store fails in turn, and what stands then.
-use crate::ran::{Ran, chain_store, play, play_with_threads};
-use crate::samples::{TRACE, open_record, out_record};
+use super::ran::{Ran, chain_store, play, play_with_threads};
+use super::samples::{TRACE, open_record, out_record};
 use cy_store::{MemSink, MemStore};
 use cyber_cli::Status;
 use std::alloc::Global;
@@ -23,7 +23,7 @@ const ENDS: [usize; 8] = [0, 2064, 2088, 2112, 2136, 2160, 2212, 2318];
 // The chain's store, in which this call of the program fails after it kept so many bytes.
 fn failing_at(alloc: Global, call: usize, keep: usize) -> Result<MemStore, Fail> {
     let mut store = chain_store(alloc)?;
-    store.fail_at(CALLS_BEFORE.saturating_add(call as u64), keep)?;
+    store.fail_at(CALLS_BEFORE + call as u64, keep)?;
     Ok(store)
 }
 
@@ -43,14 +43,13 @@ fn line_of(call: usize) -> &'static [u8] {
 // record that is being written.
 fn record_at(alloc: Global, piece: usize, keep: usize) -> Result<Vec<u8>, Fail> {
     let mut bytes = open_record(alloc)?;
-    let end = ENDS.get(piece).copied().unwrap_or(bytes.len());
-    if piece.saturating_add(1) == ENDS.len() {
+    if piece + 1 == ENDS.len() {
         let whole = out_record(alloc)?;
         for (byte, new) in bytes.iter_mut().zip(whole.iter()).take(keep) {
             *byte = *new;
         }
     } else {
-        bytes.truncate(end.saturating_add(keep).min(bytes.len()));
+        bytes.truncate(ENDS[piece] + keep);
     }
     Ok(bytes)
 }
@@ -62,7 +61,7 @@ fn stands(rt: &impl Abort, alloc: Global, ran: &Ran, call: usize, keep: usize) -
     assert_eq!(rt; ran.out.bytes(), b"".as_slice(), "{call}");
     let record = match call {
         1..=9 => None,
-        10..=17 => Some(record_at(alloc, call.saturating_sub(FIRST_PUT), keep)?),
+        10..=17 => Some(record_at(alloc, call - FIRST_PUT, keep)?),
         _ => Some(out_record(alloc)?),
     };
     let want = record.as_ref().map(|bytes| bytes.as_slice());

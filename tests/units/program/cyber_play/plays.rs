@@ -1,6 +1,6 @@
 // The chain is played, and the bytes that another runtime writes for it.
-use crate::ran::{Ran, chain_store, play, play_still, play_with_threads};
-use crate::samples::{LINE, TRACE, out_record};
+use super::ran::{Ran, chain_store, play, play_still, play_with_threads};
+use super::samples::{LINE, TRACE, out_record};
 use cy_store::MemSink;
 use cyber_cli::Status;
 use std::alloc::Global;

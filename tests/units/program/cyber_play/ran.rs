@@ -1,5 +1,5 @@
 // Plays of the chain in memory.
-use crate::samples::{DAG, FIRST_CONFIG, SECOND_CONFIG, in_record};
+use super::samples::{DAG, FIRST_CONFIG, SECOND_CONFIG, in_record};
 use cy_msg::Text;
 use cy_run::Gate;
 use cy_store::{MemSink, MemStore, Store};

@@ -1,5 +1,5 @@
 // Files that are made in memory.
-use crate::samples::{ADDER, BAND, DAG, LAST8, LATE, four_record, two_record};
+use super::samples::{ADDER, BAND, DAG, LAST8, LATE, four_record, two_record};
 use cy_make::write_inputs;
 use cy_store::MemStore;
 use std::test::Fail;

@@ -1,7 +1,5 @@
 // Buffers, cursors and visitors.
-ghost use Rattle.std.specs.Prelude.{◌≡◌};
-
-use crate::messages::message;
+use super::messages::message;
 use cy_fuse::{CacheBuffer, Cursor, Visitor, fetch_at};
 use cy_msg::{Token, Tuple};
 use std::test::Fail;

@@ -1,8 +1,5 @@
 // What each class answers.
-ghost use Rattle.std.specs.Prelude.{◌≡◌, ◌≤◌};
-ghost use Rattle.cy_comp.specs.Kind.{messages_needed};
-
-use crate::messages::message;
+use super::messages::message;
 use cy_comp::{Body, Component, Kind, Out, Outcome};
 use cy_msg::Tuple;
 use std::test::Fail;
@@ -16,9 +13,7 @@ fn emitted(outcome: Outcome) -> Option<i64> {
 }
 
 // The values that a component puts out on messages with these, one after another.
-fn values_on(rt: &HostRuntime, kind: Kind, values: &[i64]) -> Result<Vec<Option<i64>>, Fail>
-    requires { messages_needed kind ≤ 1 }
-{
+fn values_on(rt: &HostRuntime, kind: Kind, values: &[i64]) -> Result<Vec<Option<i64>>, Fail> {
     let mut body = Body::new(rt.alloc(), &kind)?;
     let mut answers = Vec::new(rt.alloc());
     for value in values {
@@ -126,7 +121,6 @@ fn passes_a_message_with_its_content(rt: HostRuntime) -> Result<(), Fail> {
 }
 
 #[test]
-#[tactic(auto, using(crate::proofs::Some::some_message))]
 fn sums_what_fits_and_holds_the_rest(rt: HostRuntime) -> Result<(), Fail> {
     let one = message(1, 1, 1, Some(1));
     let most = message(0, 1, 2, Some(i64::MAX));

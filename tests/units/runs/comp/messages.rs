@@ -1,6 +1,4 @@
 // Messages for the tests.
-ghost use Rattle.std.specs.Prelude.{◌≡◌};
-
 use cy_msg::Token;
 
 /// A message of a channel with a time and a value, whose content is that of message 7 of a play

@@ -1,8 +1,5 @@
 // Routines over visitors.
-ghost use Rattle.std.specs.Prelude.{◌≡◌, ◌≤◌, ◌+◌, IfOk};
-ghost use Rattle.cy_comp.specs.Kind.{messages_needed};
-
-use crate::messages::message;
+use super::messages::message;
 use cy_comp::{Call, Kind, Out, Outcome, Routine, State};
 use cy_fuse::Visitor;
 use cy_msg::{Token, Tuple};
@@ -23,27 +20,16 @@ fn call(position: u64, tail: u64, of: Token, time: u64) -> Call {
 }
 
 // Asks for a message, fetches one and calls the component on it.
-fn resume(routine: &mut Routine, visitor: &Visitor) -> Result<Outcome, Fail>
-    requires room { 1 ≤ routine.old.spare }
-    requires kind { messages_needed routine.old.kind ≤ 1 }
-    ensures spare { IfOk result (λ _. routine.new.spare + 1 ≡ routine.old.spare) }
-    ensures kind { IfOk result (λ _. routine.new.kind ≡ routine.old.kind) }
-{
+fn resume(routine: &mut Routine, visitor: &Visitor) -> Result<Outcome, Fail> {
     routine.ask();
     let Some((tuple, position, tail)) = visitor.try_fetch(&mut routine.cursor()) else {
         return Err(Fail::from("something is found"));
     };
-    if position == u64::MAX || routine.pending().is_some() {
-        return Err(Fail::from("the output before was sent"));
-    }
     Ok(routine.took(tuple, position, tail))
 }
 
 // Sends the output that waits.
-fn send(routine: &mut Routine) -> Result<(), Fail>
-    ensures spare { IfOk result (λ _. routine.new.spare ≡ routine.old.spare) }
-    ensures kind { IfOk result (λ _. routine.new.kind ≡ routine.old.kind) }
-{
+fn send(routine: &mut Routine) -> Result<(), Fail> {
     if routine.pending().is_none() {
         return Err(Fail::from("an output waits"));
     }

@@ -1,11 +1,4 @@
 // Play lists, written row by row, and placements.
-ghost use Rattle.std.specs.Prelude.{◌≡◌, ◌≤◌, ◌<◌, ◌+◌, ℕ, Some, length, slice_get, IfOk, IsTrue};
-ghost use Rattle.cy_msg.specs.Tokens.{on_channel};
-ghost use Rattle.cy_msg.specs.Placement.{scan_of};
-ghost use Rattle.cy_msg.specs.Once.{IsOnce};
-ghost use Rattle.wake_core.specs.Rest.{IsScanOf};
-ghost use Rattle.cy_core_tests.specs.Lists.{AreCounts, AreTokens, IsNext};
-
 use cy_msg::{ContextPlan, Items, Placement, PlayList, Text, Token};
 use std::test::Fail;
 
@@ -13,11 +6,7 @@ use std::test::Fail;
 pub(crate) type Message = (u32, u64, Option<i64>);
 
 // How many messages stand on a channel.
-fn count_on(tokens: &[Token], channel: u32) -> u32
-    requires { length tokens.now ≤ 1000 }
-    ensures count { result ≡ length (on_channel channel tokens.now) }
-    ensures few { result ≤ length tokens.now }
-{
+fn count_on(tokens: &[Token], channel: u32) -> u32 {
     let mut count = 0;
     for token in tokens {
         if token.channel == channel {
@@ -27,47 +16,24 @@ fn count_on(tokens: &[Token], channel: u32) -> u32
     count
 }
 
-// Whether a message of this time may come behind others.
-fn may_follow(tokens: &[Token], time: u64) -> bool
-    ensures { IsTrue result → (n : ℕ) (s : Token) → slice_get tokens.now n ≡ Some s
-        → n + 1 ≡ length tokens.now → s.time ≤ time }
-{
-    match tokens.last() {
-        Some(last) => last.time <= time,
-        None => true,
-    }
-}
-
 // A message behind others.
-fn next(tokens: &[Token], inputs: u32, message: &Message) -> Result<Token, Fail>
-    requires { length tokens.now ≤ 1000 }
-    ensures { IfOk result (IsNext inputs tokens.now) }
-{
+fn next(tokens: &[Token], message: &Message) -> Token {
     let (channel, time, whole) = *message;
-    if channel >= inputs || !may_follow(tokens, time) {
-        return Err(Fail::from("no message to play"));
-    }
-    Ok(Token {
+    Token {
         channel,
         seq: count_on(tokens, channel) + 1,
         time,
         whole,
         origin: Some(tokens.len() as u32),
-    })
+    }
 }
 
-/// The play list of some messages, on the first so many channels.
-pub(crate) fn list(rt: &HostRuntime, inputs: u32, messages: &[Message]) -> Result<PlayList, Fail>
-    ensures tokens { IfOk result (λ l. AreTokens inputs l.tokens) }
-    ensures few { IfOk result (λ l. length l.tokens ≤ 1000) }
-{
-    if messages.len() > 1000 {
-        return Err(Fail::from("too many messages"));
-    }
+/// The play list of some messages, whose times rise.
+pub(crate) fn list(rt: &HostRuntime, messages: &[Message]) -> Result<PlayList, Fail> {
     let mut tokens = Vec::new(rt.alloc());
     let mut places = Vec::new(rt.alloc());
     for (place, message) in messages.iter().enumerate() {
-        tokens.push(next(&tokens, inputs, message)?)?;
+        tokens.push(next(&tokens, message))?;
         places.push(place as u32)?;
     }
     Ok(PlayList {
@@ -78,11 +44,7 @@ pub(crate) fn list(rt: &HostRuntime, inputs: u32, messages: &[Message]) -> Resul
 }
 
 /// How many messages a list has on each of so many channels.
-pub(crate) fn counts(rt: &HostRuntime, channels: u32, tokens: &[Token]) -> Result<Vec<u32>, Fail>
-    requires known { (n : ℕ) (t : Token) → slice_get tokens.now n ≡ Some t → t.channel < channels }
-    requires few { length tokens.now ≤ 1000 }
-    ensures { IfOk result (λ v. AreCounts channels tokens.now v.items) }
-{
+pub(crate) fn counts(rt: &HostRuntime, channels: u32, tokens: &[Token]) -> Result<Vec<u32>, Fail> {
     let mut counts = Vec::new(rt.alloc());
     for channel in 0..channels {
         counts.push(count_on(tokens, channel))?;
@@ -91,10 +53,7 @@ pub(crate) fn counts(rt: &HostRuntime, channels: u32, tokens: &[Token]) -> Resul
 }
 
 // One context, with components in this order.
-fn context(rt: &HostRuntime, order: &[u32]) -> Result<Placement, Fail>
-    requires { IsOnce order.now }
-    ensures { IfOk result (λ p. scan_of p.contexts ≡ order.now) }
-{
+fn context(rt: &HostRuntime, order: &[u32]) -> Result<Placement, Fail> {
     let context = ContextPlan {
         name: Text::new(rt.alloc(), "default_grp")?,
         pinned: false,
@@ -105,9 +64,7 @@ fn context(rt: &HostRuntime, order: &[u32]) -> Result<Placement, Fail>
 }
 
 /// One or two components in one context, in the order of their numbers or in the other one.
-pub(crate) fn placed(rt: &HostRuntime, size: usize, backwards: bool) -> Result<Placement, Fail>
-    ensures { IfOk result (λ p. IsScanOf size (scan_of p.contexts)) }
-{
+pub(crate) fn placed(rt: &HostRuntime, size: usize, backwards: bool) -> Result<Placement, Fail> {
     match (size, backwards) {
         (1, _) => context(rt, &[0]),
         (2, false) => context(rt, &[0, 1]),
@@ -117,9 +74,7 @@ pub(crate) fn placed(rt: &HostRuntime, size: usize, backwards: bool) -> Result<P
 }
 
 /// Two contexts of one processor each, for components 0 and 1.
-pub(crate) fn pinned(rt: &HostRuntime) -> Result<Placement, Fail>
-    ensures { IfOk result (λ p. IsScanOf 2 (scan_of p.contexts)) }
-{
+pub(crate) fn pinned(rt: &HostRuntime) -> Result<Placement, Fail> {
     let first = ContextPlan {
         name: Text::new(rt.alloc(), "first")?,
         pinned: true,

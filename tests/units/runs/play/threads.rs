@@ -1,14 +1,6 @@
 // Runs on threads: whether the calls of two components overlap, and that threads make the calls.
-ghost use Rattle.std.specs.Prelude.{ℕ, ◌≡◌, ◌≤◌, ◌-◌, None, length, IfOk};
-ghost use Rattle.cy_msg.specs.Placement.{scan_of};
-ghost use Rattle.wake_core.specs.Run.{routes_of};
-ghost use Rattle.wake_core.specs.Rest.{IsScanOf};
-ghost use Rattle.wake_core.specs.WorldOf.{plain_of, to_step};
-ghost use Rattle.cy_core_tests.specs.Rows.{AreRows};
-ghost use Rattle.cy_core_tests.specs.Lists.{AreTokens};
-
-use crate::played::{counts, list, pinned, placed};
-use crate::wired::wiring;
+use super::played::{counts, list, pinned, placed};
+use super::wired::wiring;
 use cy_comp::{Kind, Wiring};
 use cy_msg::{Placement, PlayList};
 use cy_run::{Gate, MeetGate, OpenGate, run_threads};
@@ -65,28 +57,14 @@ fn played<G: Gate, R: Threads + Wait + Sync>(
     list: &PlayList,
     placement: &Placement,
     gate: &G,
-) -> Result<World, Fail>
-    requires fits { length wiring.now.plans ≤ length wiring.now.names }
-    requires rows { AreRows (length wiring.now.names - length wiring.now.plans) wiring.now.plans }
-    requires tokens { AreTokens (length wiring.now.names - length wiring.now.plans)
-        list.now.tokens }
-    requires few { length list.now.tokens ≤ 1000 }
-    requires scan { IsScanOf (length wiring.now.plans) (scan_of placement.now.contexts) }
-    ensures routes { IfOk result (λ w. (plain_of w).routes ≡ routes_of wiring.now.plans) }
-    ensures stepped { IfOk result (λ w. (c : ℕ) → to_step w c ≡ None) }
-{
+) -> Result<World, Fail> {
     let counts = counts(host, wiring.names.count(), list.tokens.as_slice())?;
     let world = World::new(host.alloc(), wiring, &counts)?;
-    let world = run_threads(rt, host.alloc(), world, wiring, list, placement, gate)?;
-    world.sound();
-    Ok(world)
+    Ok(run_threads(rt, host.alloc(), world, wiring, list, placement, gate)?)
 }
 
 // How many calls the two components of a world have.
-fn calls_of_two(world: &World) -> [u64; 2]
-    requires routes { length (plain_of world.now).routes ≡ 2 }
-    requires stepped { (c : ℕ) → to_step world.now c ≡ None }
-{
+fn calls_of_two(world: &World) -> [u64; 2] {
     [
         world.routine(0).calls().len() as u64,
         world.routine(1).calls().len() as u64,
@@ -100,7 +78,7 @@ fn overlaps_the_calls_of_two_components(rt: HostRuntime) -> Result<(), Fail> {
         &["/a", "/o", "/p"],
         &[(Kind::Pass, &[0]), (Kind::Pass, &[0])],
     )?;
-    let list = list(&rt, wiring.names.count() - 2, &[(0, 1, Some(1))])?;
+    let list = list(&rt, &[(0, 1, Some(1))])?;
     let gate = MeetGate::new(0, 1, 10_000_000);
     let world = played(&rt, &rt, &wiring, &list, &pinned(&rt)?, &gate)?;
     assert!(rt; gate.met());
@@ -121,7 +99,7 @@ fn makes_all_calls_of_one_context_on_its_processor(rt: HostRuntime) -> Result<()
         (0, 3, Some(3)),
         (0, 4, Some(4)),
     ];
-    let list = list(&rt, wiring.names.count() - 2, &messages)?;
+    let list = list(&rt, &messages)?;
     let gate = CountGate::before(OpenGate);
     let world = played(&rt, &rt, &wiring, &list, &placed(&rt, 2, false)?, &gate)?;
     let calls = calls_of_two(&world);
@@ -143,7 +121,7 @@ fn plays_at_the_pace_of_the_processors(rt: HostRuntime) -> Result<(), Fail> {
     for time in 0..1000u64 {
         messages.push((0, time, Some(1)))?;
     }
-    let list = list(&rt, wiring.names.count() - 2, &messages)?;
+    let list = list(&rt, &messages)?;
     let gate = CountGate::before(OpenGate);
     let world = played(&rt, &rt, &wiring, &list, &pinned(&rt)?, &gate)?;
     let calls = calls_of_two(&world);
@@ -165,15 +143,13 @@ fn chain_calls<R: Threads + Wait + Sync>(
     rt: &R,
     host: &HostRuntime,
     placement: &Placement,
-) -> Result<([u64; 2], [u64; 2], bool), Fail>
-    requires { IsScanOf 2 (scan_of placement.now.contexts) }
-{
+) -> Result<([u64; 2], [u64; 2], bool), Fail> {
     let wiring = wiring(
         host,
         &["/a", "/o", "/z"],
         &[(Kind::Pass, &[0]), (Kind::Pass, &[1])],
     )?;
-    let list = list(host, wiring.names.count() - 2, &[(0, 1, Some(1))])?;
+    let list = list(host, &[(0, 1, Some(1))])?;
     let gate = CountGate::before(MeetGate::new(0, 1, 10));
     let world = played(rt, host, &wiring, &list, placement, &gate)?;
     Ok((calls_of_two(&world), gate.passed(), gate.then.met()))

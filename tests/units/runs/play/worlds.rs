@@ -1,15 +1,6 @@
 // Serial runs of components of any class, and the texts of their traces, as the rules give them.
-ghost use Rattle.std.specs.Prelude.{◌≡◌, ◌≤◌, ◌-◌, length, IfOk};
-ghost use Rattle.cy_msg.specs.Placement.{scan_of};
-ghost use Rattle.wake_core.specs.Run.{routes_of};
-ghost use Rattle.wake_core.specs.LawfulRun.{Quiet};
-ghost use Rattle.wake_core.specs.Rest.{IsScanOf};
-ghost use Rattle.wake_core.specs.WorldOf.{plain_of};
-ghost use Rattle.cy_core_tests.specs.Rows.{AreRows};
-ghost use Rattle.cy_core_tests.specs.Lists.{AreTokens};
-
-use crate::played::{Message, counts, list, placed};
-use crate::wired::wiring;
+use super::played::{Message, counts, list, placed};
+use super::wired::wiring;
 use cy_comp::{Kind, Wiring};
 use cy_msg::{Placement, PlayList};
 use cy_trace::trace_text;
@@ -23,17 +14,7 @@ fn played(
     wiring: &Wiring,
     list: &PlayList,
     placement: &Placement,
-) -> Result<World, Fail>
-    requires fits { length wiring.now.plans ≤ length wiring.now.names }
-    requires rows { AreRows (length wiring.now.names - length wiring.now.plans) wiring.now.plans }
-    requires tokens { AreTokens (length wiring.now.names - length wiring.now.plans)
-        list.now.tokens }
-    requires few { length list.now.tokens ≤ 1000 }
-    requires scan { IsScanOf (length wiring.now.plans) (scan_of placement.now.contexts) }
-    ensures quiet { IfOk result (λ w. Quiet (plain_of w)) }
-    ensures routes { IfOk result (λ w. (plain_of w).routes ≡ routes_of wiring.now.plans) }
-    ensures channels { IfOk result (λ w. length (plain_of w).counts ≡ length wiring.now.names) }
-{
+) -> Result<World, Fail> {
     let counts = counts(rt, wiring.names.count(), list.tokens.as_slice())?;
     let mut world = World::new(rt.alloc(), wiring, &counts)?;
     serial(&mut world, list, placement);
@@ -50,7 +31,7 @@ fn traced(
 ) -> Result<String, Fail> {
     let wiring = wiring(rt, channels, rows)?;
     let size = wiring.plans.as_slice().len();
-    let list = list(rt, wiring.names.count() - size as u32, messages)?;
+    let list = list(rt, messages)?;
     let world = played(rt, &wiring, &list, &placed(rt, size, backwards)?)?;
     let text = trace_text(rt.alloc(), &world, &wiring, list.shadowed)?;
     Ok(str::from_utf8(text.as_slice())?.to_string(rt.alloc())?)
@@ -304,9 +285,6 @@ fn keeps_sixteen_million_entries(rt: HostRuntime) -> Result<(), Fail> {
         (Kind::Pass, reads),
     ];
     let wiring = wiring(&rt, &["/a", "/z", "/1", "/2", "/3", "/4", "/5"], &rows)?;
-    if wiring.names.count() != 7 {
-        return Err(Fail::from("seven channels"));
-    }
     assert_eq!(rt;
         planned(&wiring, &[1_048_576, 0, 0, 0, 0, 0, 0]),
         16_777_216

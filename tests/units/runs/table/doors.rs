@@ -1,19 +1,13 @@
 // A message that is played, fetched and passed on behind the doors, and a component that parks.
-ghost use Rattle.std.specs.Prelude.{◌≡◌};
-
-use crate::holds::take_beside;
-use crate::tables::{one_more, table_of_one, take_in, world_of};
-use crate::walk::{play, turn};
+use super::holds::take_beside;
+use super::tables::table_of_one;
+use super::walk::{play, turn};
 use cy_comp::State;
 use cy_msg::{Token, Tuple};
 use std::test::Fail;
 
 // A message of /a at the time 1.
-fn message() -> Token
-    ensures channel { result.channel ≡ 0 }
-    ensures seq { result.seq ≡ 1 }
-    ensures time { result.time ≡ 1 }
-{
+fn message() -> Token {
     Token {
         channel: 0,
         seq: 1,
@@ -27,7 +21,7 @@ fn message() -> Token
 fn passes_a_message_on_behind_the_doors(rt: HostRuntime) -> Result<(), Fail> {
     let (table, mut player) = table_of_one(&rt, 1)?;
     play(&rt, &table, &mut player, message());
-    let mut other = one_more(&table, &mut player)?;
+    let mut other = table.split(&mut player)?;
     let passed = Token {
         channel: 1,
         ..message()
@@ -36,8 +30,8 @@ fn passes_a_message_on_behind_the_doors(rt: HostRuntime) -> Result<(), Fail> {
         turn(&rt, &table, &mut other),
         Some((State::Ready, Some((Tuple::One(message()), Some(passed)))))
     );
-    take_in(&table, &mut player, other);
-    let world = world_of(&rt, table, player)?;
+    table.join(&mut player, other);
+    let world = table.close(rt.alloc(), player)?;
     assert_eq!(rt; world.tape_list(), [message(), passed].as_slice());
     let calls = world.routine(0).calls();
     assert_eq!(rt; calls.len(), 1);
@@ -49,7 +43,7 @@ fn passes_a_message_on_behind_the_doors(rt: HostRuntime) -> Result<(), Fail> {
 #[test]
 fn parks_where_nothing_is_found(rt: HostRuntime) -> Result<(), Fail> {
     let (table, mut player) = table_of_one(&rt, 1)?;
-    let mut other = one_more(&table, &mut player)?;
+    let mut other = table.split(&mut player)?;
     assert_eq!(rt;
         take_beside(&table, &mut player, &mut other),
         Some((State::Ready, true))
@@ -59,8 +53,8 @@ fn parks_where_nothing_is_found(rt: HostRuntime) -> Result<(), Fail> {
         turn(&rt, &table, &mut other),
         Some((State::DataWait, None))
     );
-    take_in(&table, &mut player, other);
-    let world = world_of(&rt, table, player)?;
+    table.join(&mut player, other);
+    let world = table.close(rt.alloc(), player)?;
     assert_eq!(rt; world.routine(0).state(), State::DataWait);
     assert!(rt; world.spent(0));
     assert_eq!(rt; world.routine(0).calls().len(), 0);

@@ -1,11 +1,7 @@
 // Scans of a context beside another pass: one that ends at a croutine, and one in vain.
-ghost use Rattle.std.specs.Prelude.{◌≡◌, [], ◌∷◌, IfOk};
-ghost use Rattle.cy_table.specs.Calls.{number_of};
-ghost use Rattle.cy_table_tests.specs.Passes.{IsFree, IsOfOne};
-
-use crate::holds::take_beside;
-use crate::tables::{one_more, table_of_one, take_in, world_of};
-use crate::walk::{give, resume};
+use super::holds::take_beside;
+use super::tables::table_of_one;
+use super::walk::resume;
 use cy_comp::State;
 use cy_ctx::Context;
 use cy_msg::{ContextPlan, Items, Text, Token, Tuple};
@@ -14,9 +10,7 @@ use std::sync::Wait;
 use std::test::Fail;
 
 // The context of component 0.
-fn context_of_one(rt: &HostRuntime) -> Result<Context, Fail>
-    ensures { IfOk result (λ x. x ≡ 0 ∷ []) }
-{
+fn context_of_one(rt: &HostRuntime) -> Result<Context, Fail> {
     let plan = ContextPlan {
         name: Text::new(rt.alloc(), "default_grp")?,
         pinned: false,
@@ -33,18 +27,12 @@ fn resume_next<R: Wait>(
     table: &FlagTable,
     context: &Context,
     pass: &mut Pass,
-) -> Option<Option<(Tuple, Option<Token>)>>
-    requires free { IsFree table.now pass.old }
-    requires one { IsOfOne table.now }
-    requires order { context.now ≡ 0 ∷ [] }
-    ensures number { number_of pass.new ≡ number_of pass.old }
-    ensures free { IsFree table.now pass.new }
-{
+) -> Option<Option<(Tuple, Option<Token>)>> {
     let hold = context.next(table, pass)?;
     match hold.token() {
         None => Some(resume(rt, table, pass, hold)),
         Some(_) => {
-            give(table, pass, hold);
+            table.release(pass, hold);
             None
         }
     }
@@ -54,15 +42,15 @@ fn resume_next<R: Wait>(
 fn scans_until_nothing_is_ready(rt: HostRuntime) -> Result<(), Fail> {
     let context = context_of_one(&rt)?;
     let (table, mut player) = table_of_one(&rt, 1)?;
-    let mut other = one_more(&table, &mut player)?;
+    let mut other = table.split(&mut player)?;
     assert_eq!(rt;
         take_beside(&table, &mut player, &mut other),
         Some((State::Ready, true))
     );
     assert_eq!(rt; resume_next(&rt, &table, &context, &mut other), Some(None));
     assert_eq!(rt; resume_next(&rt, &table, &context, &mut other), None);
-    take_in(&table, &mut player, other);
-    let world = world_of(&rt, table, player)?;
+    table.join(&mut player, other);
+    let world = table.close(rt.alloc(), player)?;
     assert_eq!(rt; world.routine(0).state(), State::DataWait);
     assert!(rt; world.spent(0));
     assert_eq!(rt; world.routine(0).calls().len(), 0);

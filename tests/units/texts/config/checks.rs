@@ -1,6 +1,6 @@
 // The text that tells what configuration files say.
-use crate::texts::tree;
-use crate::wirings::configs;
+use super::texts::tree;
+use super::wirings::configs;
 use cy_check::{SchedulerFile, check_text};
 use cy_dag::{Dag, read_dag};
 use cy_msg::Text;
@@ -22,9 +22,6 @@ fn told(rt: &HostRuntime, text: &str, files: &[&str]) -> Result<String, Fail> {
     let dag = read_dag(rt.alloc(), &tree)?;
     let configs = configs(rt, &dag, files)?;
     let names = names(rt, &dag)?;
-    if names.len() > 64 {
-        return Err(Fail::from("at most 64 names"));
-    }
     let sched = Sched::default_grp(rt.alloc())?;
     let placement = place(rt.alloc(), &sched, &names)?;
     let unknown = [Text::new(rt.alloc(), "scheduler_conf.depth")?];

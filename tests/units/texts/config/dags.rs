@@ -1,5 +1,5 @@
 // DAG files and component files.
-use crate::texts::{parsed, tree};
+use super::texts::{parsed, tree};
 use cy_dag::{DagError, read_component_config, read_dag};
 use std::test::Fail;
 

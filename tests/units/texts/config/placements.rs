@@ -1,6 +1,6 @@
 // Where scheduler files place components.
-use crate::scheds::CLASSIC;
-use crate::texts::tree;
+use super::scheds::CLASSIC;
+use super::texts::tree;
 use cy_msg::{Placement, Text};
 use cy_sched::{Sched, place, read_sched};
 use std::test::Fail;
@@ -34,9 +34,6 @@ fn texts(rt: &HostRuntime, names: &[&str]) -> Result<Vec<Text>, Fail> {
 fn placed(rt: &HostRuntime, text: &str, names: &[&str]) -> Result<String, Fail> {
     let tree = tree(rt, text.as_bytes())?;
     let texts = texts(rt, names)?;
-    if texts.len() > 64 {
-        return Err(Fail::from("at most 64 names"));
-    }
     match read_sched(rt.alloc(), &tree) {
         Ok(sched) => {
             let placement = place(rt.alloc(), &sched, &texts)?;

@@ -1,5 +1,5 @@
 // Scheduler files.
-use crate::texts::{parsed, tree};
+use super::texts::{parsed, tree};
 use cy_msg::Text;
 use cy_sched::{Group, PinTask, Sched, SchedError, read_sched};
 use std::test::Fail;

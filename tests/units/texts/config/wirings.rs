@@ -1,18 +1,13 @@
 // Wirings of DAG files with their component files.
-ghost use Rattle.std.specs.Prelude.{IfOk};
-ghost use Rattle.cy_dag.specs.Wiring.{AreConfigs, IsOfClass};
-
-use crate::dags::{dag, refusal};
-use crate::texts::tree;
+use super::dags::{dag, refusal};
+use super::texts::tree;
 use cy_comp::Wiring;
 use cy_dag::{Config, Dag, read_component_config, read_dag, wire};
 use cy_msg::Text;
 use std::test::Fail;
 
 // The component files of a DAG, by their texts.
-pub(crate) fn configs(rt: &HostRuntime, dag: &Dag, texts: &[&str]) -> Result<Vec<Config>, Fail>
-    ensures { IfOk result (λ cs. AreConfigs dag.now.components cs.items) }
-{
+pub(crate) fn configs(rt: &HostRuntime, dag: &Dag, texts: &[&str]) -> Result<Vec<Config>, Fail> {
     let components = dag.components.as_slice();
     let mut configs = Vec::new(rt.alloc());
     for (place, component) in components.iter().enumerate() {
@@ -23,9 +18,7 @@ pub(crate) fn configs(rt: &HostRuntime, dag: &Dag, texts: &[&str]) -> Result<Vec
 }
 
 // The component file of a class, by its text.
-fn config(rt: &HostRuntime, class: &str, text: &str) -> Result<Config, Fail>
-    ensures { IfOk result (IsOfClass class.now) }
-{
+fn config(rt: &HostRuntime, class: &str, text: &str) -> Result<Config, Fail> {
     let tree = tree(rt, text.as_bytes())?;
     match read_component_config(rt.alloc(), &tree, 0, class) {
         Ok(config) => Ok(config),

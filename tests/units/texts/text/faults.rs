@@ -1,6 +1,5 @@
 // Each kind of fault at its place.
-use crate::fields::read;
-use cy_text::{BadKind, TextError};
+use cy_text::{BadKind, TextError, parse};
 use std::alloc::Global;
 use std::test::Fail;
 
@@ -44,7 +43,7 @@ fn finds_tokens_that_are_wrong_in_themselves(rt: HostRuntime) {
         (b"a: '\\".as_slice(), bad(1, 5, BadKind::Escape)),
         (b"a: '\\\n'".as_slice(), bad(1, 5, BadKind::Escape)),
     ] {
-        assert_eq!(rt; read(&rt, text).err(), want);
+        assert_eq!(rt; parse(rt.alloc(), text).err(), want);
     }
 }
 
@@ -74,7 +73,7 @@ fn finds_tokens_where_a_name_may_stand(rt: HostRuntime) {
         (b"a {\n".as_slice(), bad(2, 1, BadKind::Close)),
         (b"a { b: 'x'".as_slice(), bad(1, 11, BadKind::Close)),
     ] {
-        assert_eq!(rt; read(&rt, text).err(), want);
+        assert_eq!(rt; parse(rt.alloc(), text).err(), want);
     }
 }
 
@@ -106,7 +105,7 @@ fn finds_tokens_where_a_value_may_stand(rt: HostRuntime) {
         (b"a [ 1 ]".as_slice(), bad(1, 5, BadKind::Colon)),
         (b"a [ {}, 'x' ]".as_slice(), bad(1, 9, BadKind::Colon)),
     ] {
-        assert_eq!(rt; read(&rt, text).err(), want);
+        assert_eq!(rt; parse(rt.alloc(), text).err(), want);
     }
 }
 
@@ -121,7 +120,7 @@ fn finds_tokens_behind_an_item(rt: HostRuntime) {
         (b"a: [ 1".as_slice(), bad(1, 7, BadKind::Close)),
         (b"a: [ 'x'".as_slice(), bad(1, 9, BadKind::Close)),
     ] {
-        assert_eq!(rt; read(&rt, text).err(), want);
+        assert_eq!(rt; parse(rt.alloc(), text).err(), want);
     }
 }
 
@@ -129,7 +128,7 @@ fn finds_tokens_behind_an_item(rt: HostRuntime) {
 fn opens_64_messages_and_refuses_65(rt: HostRuntime) -> Result<(), Fail> {
     let closed: &[u8] = b"}}}}}}}}}}}}}}}}}}}}}}}}}}}}}}}}}}}}}}}}}}}}}}}}}}}}}}}}}}}}}}}}";
     let deep = opened(rt.alloc(), b"a{", 64, closed)?;
-    assert!(rt; read(&rt, &deep).is_ok());
+    assert!(rt; parse(rt.alloc(), &deep).is_ok());
     for (name, depth, rest, column) in [
         (b"a{", 65, b"".as_slice(), 130),
         (b"a<", 65, b"".as_slice(), 130),
@@ -140,7 +139,7 @@ fn opens_64_messages_and_refuses_65(rt: HostRuntime) -> Result<(), Fail> {
     ] {
         let deeper = opened(rt.alloc(), name, depth, rest)?;
         let want = TextError::TooDeep { line: 1, column };
-        assert_eq!(rt; read(&rt, &deeper).err(), Some(want));
+        assert_eq!(rt; parse(rt.alloc(), &deeper).err(), Some(want));
     }
     Ok(())
 }

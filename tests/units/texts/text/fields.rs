@@ -1,7 +1,7 @@
 // What texts give: their fields with places and values, and what is printed of them.
 use cy_msg::Text;
 use cy_text::{Entry, Span, TextError, Tree, Value, parse, print};
-use std::process::Abort;
+use std::alloc::Global;
 use std::test::Fail;
 
 // A scheduler file as Cyber RT has them.
@@ -83,16 +83,10 @@ const CLASSIC_PRINTED: &[u8] = b"scheduler_conf {
 }
 ";
 
-/// The tree of a text, all of which are short here.
-pub fn read(rt: &(impl Abort + AllocGlobal), text: &[u8]) -> Result<Tree, TextError> {
-    assert!(rt; text.len() < 100_000);
-    parse(rt.alloc(), text)
-}
-
 // The printed form of a text.
-fn printed(rt: &(impl Abort + AllocGlobal), text: &[u8]) -> Result<Vec<u8>, TextError> {
-    let tree = read(rt, text)?;
-    Ok(print(rt.alloc(), &tree)?.into_vec())
+fn printed(alloc: Global, text: &[u8]) -> Result<Vec<u8>, TextError> {
+    let tree = parse(alloc, text)?;
+    Ok(print(alloc, &tree)?.into_vec())
 }
 
 #[test]
@@ -121,24 +115,24 @@ fn prints_what_it_reads(rt: HostRuntime) -> Result<(), Fail> {
             b"a: \"\xC3\xA4\xF0\x9F\x98\x80\"\n",
         ),
     ] {
-        assert_eq!(rt; printed(&rt, text)?.as_slice(), want);
+        assert_eq!(rt; printed(rt.alloc(), text)?.as_slice(), want);
     }
     Ok(())
 }
 
 #[test]
 fn reads_a_classic_file(rt: HostRuntime) -> Result<(), Fail> {
-    let once = printed(&rt, CLASSIC)?;
+    let once = printed(rt.alloc(), CLASSIC)?;
     assert_eq!(rt; once.as_slice(), CLASSIC_PRINTED);
-    let twice = printed(&rt, &once)?;
+    let twice = printed(rt.alloc(), &once)?;
     assert_eq!(rt; twice.as_slice(), once.as_slice());
     Ok(())
 }
 
 #[test]
 fn reads_numbers_truths_and_texts(rt: HostRuntime) -> Result<(), Fail> {
-    let tree = read(
-        &rt,
+    let tree = parse(
+        rt.alloc(),
         b"a: -18446744073709551615 b: True c: 1 d: 'x' e: '\\377' f: 2.0 g: -true h: -1",
     )?;
     let entries = tree.entries();
@@ -162,7 +156,7 @@ fn reads_numbers_truths_and_texts(rt: HostRuntime) -> Result<(), Fail> {
 
 #[test]
 fn gives_the_places_of_fields(rt: HostRuntime) -> Result<(), Fail> {
-    let tree = read(&rt, b"ab: 'x' 'y' c: [ -1, {} ]")?;
+    let tree = parse(rt.alloc(), b"ab: 'x' 'y' c: [ -1, {} ]")?;
     let entries = tree.entries();
     assert_eq!(rt; entries.len(), 3);
     for (entry, span) in entries.iter().zip([(0, 11), (17, 19), (21, 23)]) {
