@@ -1,15 +1,10 @@
 #!/usr/bin/env bash
-# Lists the functions of a crate whose proofs take longest, by a check on one processor that begins with nothing; of a crate of tests
-# the tests.
+# Lists the functions of a crate whose proofs take longest, by a check on one processor that begins with nothing.
 # Usage: bench/slowest.sh CRATE [HOW_MANY]
 set -euo pipefail
 top=$(cd "$(dirname "$0")/.." && pwd)
 name=$1
 many=${2:-10}
-case $name in
-  *_tests) tests=--test ;;
-  *) tests= ;;
-esac
 work=$(mktemp -d)
 trap 'rm -rf "$work"' EXIT
 
@@ -23,7 +18,7 @@ for root in src/lib.rt src/main.rt; do
   fi
 done
 
-rt check $tests --jobs 1 --progress 2>&1 | python3 -c '
+rt check --jobs 1 --progress 2>&1 | python3 -c '
 import sys, time
 last, took = time.monotonic(), []
 for line in sys.stdin:

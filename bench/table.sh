@@ -1,6 +1,6 @@
 #!/usr/bin/env bash
 # Measures the way of half a million messages through one component on one thread, by a program that is made and proved here, in
-# one run: at the flag table, by the calls of its tests, and beside that in a world, by the serial run. Each message is played and
+# one run: at the flag table, by proved calls (`table/`), and beside that in a world, by the serial run. Each message is played and
 # arrives, and the component is taken three times: it is called on the message and sends its output, finds nothing more and parks,
 # and is left as it waits.
 set -euo pipefail
@@ -11,10 +11,10 @@ trap 'rm -rf "$work"' EXIT
 
 repository "$top" table_bench cy_msg cy_fuse cy_comp wake_core cy_table
 cd crates/table_bench
-for file in src/{tables,walk}.rt specs/{Passes,PassWiring}.antt proofs/{First,Readers}.antt \
-  proofs/tables/{pass_wiring/Invariants,table_of_one/Answers,world_of_one/Answers}.antt; do
+# Its files here end in .in, since the gate takes every file that ends in .rt or .antt for part of a crate.
+(cd "$top/bench/table" && find . -name '*.in') | while read -r file; do
   mkdir -p "$(dirname "$file")"
-  sed 's/cy_table_tests/table_bench/g' "$top/crates/cy_table_tests/$file" >"$file"
+  cp "$top/bench/table/$file" "${file%.in}"
 done
 mkdir -p proofs/in_world proofs/list proofs/pass_on
 cat >src/main.rt <<'P'

@@ -419,13 +419,6 @@ plays_at_random() { # how many records
   count $? "$name: $(head -n 1 report)"
 }
 
-# Worked and random lists of the events of a world, which no clause runs.
-drives_events() {
-  begin 'drives a world by its events'
-  "$top/tests/events.sh" >report 2>&1
-  count $? "$name: $(grep -m 1 FAILED report || tail -n 1 report)"
-}
-
 # Makes the files of a play, and compares all of them and the line with what Python scripts make.
 makes_as_described() { # how many messages, as the word has it
   begin "makes a play of $1 messages"
@@ -715,8 +708,6 @@ tells_of_standard_output 'is closed' '>&-'
 tells_of_standard_output 'cannot be written' '</dev/null >&0'
 fails_without_standard_error 'is full' '2>/dev/full'
 fails_without_standard_error 'is closed' '2>&-'
-
-drives_events
 
 echo "$passed passed, $failed failed"
 [ "$failed" -eq 0 ]

@@ -1,3 +1,0 @@
-pub mod ListSteps
-pub mod RowSteps
-pub mod Scenes

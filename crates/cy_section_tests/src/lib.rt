@@ -1,8 +1,0 @@
-//! Tests of `cy_section` by its public calls: the bytes of a whole record, and sections in each odd
-//! form.
-#![tactic(auto)]
-
-#[cfg(test)]
-mod reading;
-#[cfg(test)]
-mod writing;

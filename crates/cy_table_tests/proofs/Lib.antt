@@ -1,2 +1,0 @@
-mod First
-mod Readers

@@ -1,8 +1,0 @@
-//! Tests of the text form of Protocol Buffers: what texts give, and each kind of fault at its
-//! place.
-#![tactic(auto)]
-
-#[cfg(test)]
-mod faults;
-#[cfg(test)]
-mod fields;

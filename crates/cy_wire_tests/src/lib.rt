@@ -1,8 +1,0 @@
-//! Tests of `cy_wire` by its public calls: vectors of the Protocol Buffers documentation, and
-//! fields in each odd form.
-#![tactic(auto)]
-
-#[cfg(test)]
-mod reading;
-#[cfg(test)]
-mod writing;

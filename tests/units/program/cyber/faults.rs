@@ -1,0 +1,97 @@
+// Each call of the store fails in turn, and what stands then.
+use super::ran::{PASS, Ran, ends, run, store_of};
+use super::samples::{TRACE, in_record, open_record, out_record};
+use cy_store::MemStore;
+use cyber_cli::Status;
+use std::alloc::Global;
+use std::process::Abort;
+use std::test::Fail;
+
+/// The calls that make the record which is played.
+const CALLS_BEFORE: u64 = 2;
+
+/// A size, a read, the making of the record, its seven pieces, the making of the trace and its
+/// piece.
+const CALLS: usize = 12;
+
+/// The first call that puts a piece of the record.
+const FIRST_PUT: usize = 4;
+
+/// Where the pieces before each piece of the record end; the last one is put over the first.
+const ENDS: [usize; 7] = [0, 2064, 2089, 2115, 2139, 2182, 2271];
+
+// The run where this call of the program fails after it kept so many bytes.
+fn failing_at(alloc: Global, call: usize, keep: usize) -> Result<Ran<MemStore>, Fail> {
+    let mut store = store_of(alloc, &in_record(alloc)?)?;
+    store.fail_at(CALLS_BEFORE + call as u64, keep)?;
+    run(alloc, &PASS, store)
+}
+
+// The record where this piece kept so many bytes: those before it are whole, under the header of a
+// record that is being written.
+fn record_at(alloc: Global, piece: usize, keep: usize) -> Result<Vec<u8>, Fail> {
+    let mut bytes = open_record(alloc)?;
+    if piece + 1 == ENDS.len() {
+        let whole = out_record(alloc)?;
+        for (byte, new) in bytes.iter_mut().zip(whole.iter()).take(keep) {
+            *byte = *new;
+        }
+    } else {
+        bytes.truncate(ENDS[piece] + keep);
+    }
+    Ok(bytes)
+}
+
+// What is told where this call fails.
+fn line_at(call: usize) -> &'static [u8] {
+    match call {
+        1 | 2 => b"cyber: in.rec: the store failed\n".as_slice(),
+        3..=10 => b"cyber: out.rec: the store failed\n".as_slice(),
+        _ => b"cyber: t.txt: the store failed\n".as_slice(),
+    }
+}
+
+// The record that stands where this call failed and kept so many bytes.
+fn record_after(alloc: Global, call: usize, keep: usize) -> Result<Option<Vec<u8>>, Fail> {
+    Ok(match call {
+        1..=3 => None,
+        4..=10 => Some(record_at(alloc, call - FIRST_PUT, keep)?),
+        _ => Some(out_record(alloc)?),
+    })
+}
+
+// The trace that stands then.
+fn trace_after(call: usize, keep: usize) -> Option<&'static [u8]> {
+    let trace = TRACE.as_bytes();
+    if call < CALLS {
+        None
+    } else {
+        Some(&trace[..keep.min(trace.len())])
+    }
+}
+
+// What stands after a call that failed and kept so many bytes.
+fn stands(rt: &impl Abort, alloc: Global, call: usize, keep: usize) -> Result<(), Fail> {
+    let ran = failing_at(alloc, call, keep)?;
+    ends(rt, &ran, Status::StoreFault, b"", line_at(call));
+    let record = record_after(alloc, call, keep)?;
+    let want = record.as_ref().map(|bytes| bytes.as_slice());
+    assert!(rt; ran.store.file("out.rec") == want, "{call} {keep}");
+    assert!(rt;
+        ran.store.file("t.txt") == trace_after(call, keep),
+        "{call} {keep}"
+    );
+    Ok(())
+}
+
+#[test]
+fn fails_each_call_in_turn(rt: HostRuntime) -> Result<(), Fail> {
+    let alloc = rt.alloc();
+    for call in 1..=CALLS {
+        stands(&rt, alloc, call, 0)?;
+        stands(&rt, alloc, call, 9)?;
+    }
+    let done = failing_at(alloc, CALLS + 1, 0)?;
+    assert_eq!(rt; done.status, Status::Done);
+    Ok(())
+}

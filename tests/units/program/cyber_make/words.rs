@@ -1,0 +1,37 @@
+// Words that ask for `make`, and words that ask for nothing.
+use super::ran::run;
+use cy_store::{MemSink, MemStore};
+use cyber_cli::Status;
+use std::test::Fail;
+
+#[test]
+fn refuses_words_of_another_form(rt: HostRuntime) -> Result<(), Fail> {
+    let alloc = rt.alloc();
+    for words in [
+        ["make", "0", "m"],
+        ["make", "1048577", "m"],
+        ["make", "18446744073709551617", "m"],
+        ["make", "000000000000000000004", "m"],
+        ["make", "4x", "m"],
+        ["make", "-4", "m"],
+        ["make", "", "m"],
+        ["make", "4", ""],
+        ["make", "4", "-m"],
+        ["Make", "4", "m"],
+    ] {
+        let ran = run(alloc, &words, MemStore::new(alloc), MemSink::new(alloc))?;
+        let number = words[1];
+        assert_eq!(rt; ran.status, Status::Usage, "{number}");
+        assert_eq!(rt; ran.store.file("m.adder.conf"), None, "{number}");
+    }
+    Ok(())
+}
+
+#[test]
+fn takes_leading_zeros(rt: HostRuntime) -> Result<(), Fail> {
+    let alloc = rt.alloc();
+    let words = ["make", "00000000000000000001", "m"];
+    let ran = run(alloc, &words, MemStore::new(alloc), MemSink::new(alloc))?;
+    assert_eq!(rt; ran.status, Status::Done);
+    Ok(())
+}

@@ -1,0 +1,7 @@
+//! Tests of the record of a tape, of the files of a play, and of the program in memory.
+
+mod cyber;
+mod cyber_make;
+mod cyber_play;
+mod make;
+mod replay;

@@ -1,0 +1,162 @@
+// Records of tapes, byte by byte.
+use cy_comp::{Kind, Plan, Wiring};
+use cy_msg::{Items, Names, PlayList, Text, Token};
+use cy_reader::{Record, load};
+use cy_replay::{Played, write_record};
+use cy_store::MemStore;
+use cy_writer::RecordWriter;
+use std::test::Fail;
+
+/// The place behind the header.
+const HEADER_END: usize = 2064;
+
+/// The played message on `/in`, and behind it one on `/out` with the value -1.
+const BOTH_HEADER: &[u8] = b"\0\0\0\0\0\0\0\0\x27\0\0\0\0\0\0\0\
+    \x08\x01\x10\0\x18\0\x20\x80\x90\xdf\xc0\x4a\x28\0\x30\x89\x11\x38\x01\x40\x02\x48\x64\x50\x64\
+    \x58\x02\x60\xe5\x11\x68\x01\x70\x80\x84\xaf\x5f\x78\0";
+
+const BOTH_SECTIONS: &[u8] = b"\x04\0\0\0\0\0\0\0\x0b\0\0\0\0\0\0\0\x0a\x03/in\x12\x01T\x1a\x01D\
+    \x04\0\0\0\0\0\0\0\x0b\0\0\0\0\0\0\0\x0a\x04/out\x12\x01U\x1a\0\
+    \x01\0\0\0\0\0\0\0\x08\0\0\0\0\0\0\0\x08\x64\x10\x64\x18\x02\x20\x04\
+    \x02\0\0\0\0\0\0\0\x1b\0\0\0\0\0\0\0\
+    \x0a\x0b\x0a\x03/in\x10\x64\x1a\x02\x08\x0e\x0a\x0c\x0a\x04/out\x10\x64\x1a\x02\x08\x01\
+    \x03\0\0\0\0\0\0\0\x4c\0\0\0\0\0\0\0\
+    \x0a\x15\x08\x04\x10\x90\x10\xaa\x06\x0d\x08\x01\x12\x03/in\x1a\x01T\x22\x01D\
+    \x0a\x15\x08\x04\x10\xab\x10\xaa\x06\x0d\x08\x01\x12\x04/out\x1a\x01U\x22\0\
+    \x0a\x10\x08\x01\x10\xc6\x10\xb2\x06\x08\x08\x02\x10\x64\x18\x64\x20\x04\
+    \x0a\x0a\x08\x02\x10\xde\x10\xba\x06\x02\x08\x02";
+
+/// A message on `/out` without a value, and behind it the played message on `/in`.
+const TURNED_HEADER: &[u8] = b"\0\0\0\0\0\0\0\0\x27\0\0\0\0\0\0\0\
+    \x08\x01\x10\0\x18\0\x20\x80\x90\xdf\xc0\x4a\x28\0\x30\x87\x11\x38\x01\x40\x02\x48\x64\x50\x64\
+    \x58\x02\x60\xe3\x11\x68\x01\x70\x80\x84\xaf\x5f\x78\0";
+
+const TURNED_SECTIONS: &[u8] = b"\x04\0\0\0\0\0\0\0\x0b\0\0\0\0\0\0\0\x0a\x04/out\x12\x01U\x1a\0\
+    \x04\0\0\0\0\0\0\0\x0b\0\0\0\0\0\0\0\x0a\x03/in\x12\x01T\x1a\x01D\
+    \x01\0\0\0\0\0\0\0\x08\0\0\0\0\0\0\0\x08\x64\x10\x64\x18\x02\x20\x02\
+    \x02\0\0\0\0\0\0\0\x19\0\0\0\0\0\0\0\
+    \x0a\x0a\x0a\x04/out\x10\x64\x1a\0\x0a\x0b\x0a\x03/in\x10\x64\x1a\x02\x08\x0e\
+    \x03\0\0\0\0\0\0\0\x4c\0\0\0\0\0\0\0\
+    \x0a\x15\x08\x04\x10\x90\x10\xaa\x06\x0d\x08\x01\x12\x04/out\x1a\x01U\x22\0\
+    \x0a\x15\x08\x04\x10\xab\x10\xaa\x06\x0d\x08\x01\x12\x03/in\x1a\x01T\x22\x01D\
+    \x0a\x10\x08\x01\x10\xc6\x10\xb2\x06\x08\x08\x02\x10\x64\x18\x64\x20\x02\
+    \x0a\x0a\x08\x02\x10\xde\x10\xba\x06\x02\x08\x02";
+
+/// The played message alone.
+const ALONE_HEADER: &[u8] = b"\0\0\0\0\0\0\0\0\x27\0\0\0\0\0\0\0\
+    \x08\x01\x10\0\x18\0\x20\x80\x90\xdf\xc0\x4a\x28\0\x30\xe0\x10\x38\x01\x40\x01\x48\x64\x50\x64\
+    \x58\x01\x60\xa5\x11\x68\x01\x70\x80\x84\xaf\x5f\x78\0";
+
+const ALONE_SECTIONS: &[u8] = b"\x04\0\0\0\0\0\0\0\x0b\0\0\0\0\0\0\0\x0a\x03/in\x12\x01T\x1a\x01D\
+    \x01\0\0\0\0\0\0\0\x08\0\0\0\0\0\0\0\x08\x64\x10\x64\x18\x01\x20\x02\
+    \x02\0\0\0\0\0\0\0\x0d\0\0\0\0\0\0\0\x0a\x0b\x0a\x03/in\x10\x64\x1a\x02\x08\x0e\
+    \x03\0\0\0\0\0\0\0\x35\0\0\0\0\0\0\0\
+    \x0a\x15\x08\x04\x10\x90\x10\xaa\x06\x0d\x08\x01\x12\x03/in\x1a\x01T\x22\x01D\
+    \x0a\x10\x08\x01\x10\xab\x10\xb2\x06\x08\x08\x01\x10\x64\x18\x64\x20\x02\
+    \x0a\x0a\x08\x02\x10\xc3\x10\xba\x06\x02\x08\x01";
+
+// A record of a message on `/other` and behind it one on `/in`, at 100 with the value 7.
+fn small_record(rt: &HostRuntime) -> Result<Record, Fail> {
+    let mut store = MemStore::new(rt.alloc());
+    let mut writer = RecordWriter::start(rt.alloc(), &mut store, "in.rec")?;
+    writer.channel(rt.alloc(), &mut store, "/other", "S", b"")?;
+    writer.channel(rt.alloc(), &mut store, "/in", "T", b"D")?;
+    writer.message(rt.alloc(), &mut store, 0, 90, b"\x08\x02")?;
+    writer.message(rt.alloc(), &mut store, 1, 100, b"\x08\x0e")?;
+    writer.close(rt.alloc(), &mut store)?;
+    Ok(load(rt.alloc(), &mut store, "in.rec")?)
+}
+
+// A component that passes `/in` on to `/out`, whose messages have the type `U`.
+fn pass_wiring(rt: &HostRuntime) -> Result<Wiring, Fail> {
+    let mut names = Names::new(rt.alloc());
+    names.add(rt.alloc(), "/in")?;
+    names.add(rt.alloc(), "/out")?;
+    let plan = Plan {
+        name: Text::new(rt.alloc(), "pass")?,
+        kind: Kind::Pass,
+        readers: Items::new(vec![in rt.alloc(); 0]?),
+        queue: 1,
+        out: 1,
+        out_type: Text::new(rt.alloc(), "U")?,
+    };
+    Ok(Wiring::of_one(names, Items::new(vec![in rt.alloc(); plan]?)))
+}
+
+// The played message of `/in`.
+fn in_message() -> Token {
+    Token {
+        channel: 0,
+        seq: 1,
+        time: 100,
+        whole: Some(7),
+        origin: Some(0),
+    }
+}
+
+// A message of `/out` with a value, or without one.
+fn out_message(whole: Option<i64>) -> Token {
+    Token {
+        channel: 1,
+        seq: 1,
+        time: 100,
+        whole,
+        origin: None,
+    }
+}
+
+// The second message of the record, played.
+fn one_played(rt: &HostRuntime) -> Result<PlayList, Fail> {
+    Ok(PlayList {
+        tokens: Items::new(vec![in rt.alloc(); in_message()]?),
+        places: Items::new(vec![in rt.alloc(); 1]?),
+        shadowed: 0,
+    })
+}
+
+// A store with the record of a tape.
+fn write_tape(rt: &HostRuntime, tape: &[Token]) -> Result<MemStore, Fail> {
+    let record = small_record(rt)?;
+    let wiring = pass_wiring(rt)?;
+    let list = one_played(rt)?;
+    let played = Played {
+        whole: &record,
+        wiring: &wiring,
+        list: &list,
+    };
+    let mut store = MemStore::new(rt.alloc());
+    write_record(rt.alloc(), &mut store, "out.rec", &played, tape)?;
+    Ok(store)
+}
+
+// Whether the file is this header, zeros up to the sections, and the sections.
+fn holds(store: &MemStore, header: &[u8], sections: &[u8]) -> bool {
+    let Some(bytes) = store.file("out.rec") else {
+        return false;
+    };
+    let (front, rest) = bytes.split_at(bytes.len().min(HEADER_END));
+    front.starts_with(header)
+        && front[header.len()..].iter().all(|byte| *byte == 0)
+        && rest == sections
+}
+
+#[test]
+fn writes_a_played_and_a_made_message(rt: HostRuntime) -> Result<(), Fail> {
+    let store = write_tape(&rt, &[in_message(), out_message(Some(-1))])?;
+    assert!(rt; holds(&store, BOTH_HEADER, BOTH_SECTIONS));
+    Ok(())
+}
+
+#[test]
+fn writes_channels_in_the_order_of_their_messages(rt: HostRuntime) -> Result<(), Fail> {
+    let store = write_tape(&rt, &[out_message(None), in_message()])?;
+    assert!(rt; holds(&store, TURNED_HEADER, TURNED_SECTIONS));
+    Ok(())
+}
+
+#[test]
+fn writes_no_channel_without_a_message(rt: HostRuntime) -> Result<(), Fail> {
+    let store = write_tape(&rt, &[in_message()])?;
+    assert!(rt; holds(&store, ALONE_HEADER, ALONE_SECTIONS));
+    Ok(())
+}

@@ -1,0 +1,53 @@
+// Wirings, written row by row.
+use cy_comp::{Kind, Plan, Wiring};
+use cy_msg::{Items, Names, Text};
+use std::str;
+use std::test::Fail;
+
+// Channels with these names, which are different.
+fn names(rt: &HostRuntime, channels: &[&str]) -> Result<Names, Fail> {
+    let mut names = Names::new(rt.alloc());
+    for channel in channels {
+        names.add(rt.alloc(), channel)?;
+    }
+    Ok(names)
+}
+
+// A letter for a row, from `a` on.
+fn letter(rt: &HostRuntime, row: u8) -> Result<Text, Fail> {
+    let bytes = [b'a' + row];
+    Ok(Text::new(rt.alloc(), str::from_utf8(&bytes)?)?)
+}
+
+// The component of a row, which writes the next channel behind those that nobody writes.
+fn plan(rt: &HostRuntime, inputs: u32, row: u8, kind: Kind, readers: &[u32]) -> Result<Plan, Fail> {
+    Ok(Plan {
+        name: letter(rt, row)?,
+        kind,
+        readers: Items::new(Vec::from_slice(rt.alloc(), readers)?),
+        queue: 1,
+        out: inputs + u32::from(row),
+        out_type: Text::new(rt.alloc(), "")?,
+    })
+}
+
+// The components of some rows.
+fn plans(rt: &HostRuntime, inputs: u32, rows: &[(Kind, &[u32])]) -> Result<Vec<Plan>, Fail> {
+    let mut plans = Vec::new(rt.alloc());
+    for (row, (kind, readers)) in rows.iter().enumerate() {
+        plans.push(plan(rt, inputs, row as u8, *kind, readers)?)?;
+    }
+    Ok(plans)
+}
+
+/// A wiring of components that are called `a`, `b` and so on: each has a class and reads channels
+/// with lower numbers, in rising order; and the last channels are those that they write, in turn.
+pub(crate) fn wiring(
+    rt: &HostRuntime,
+    channels: &[&str],
+    rows: &[(Kind, &[u32])],
+) -> Result<Wiring, Fail> {
+    let names = names(rt, channels)?;
+    let plans = plans(rt, (channels.len() - rows.len()) as u32, rows)?;
+    Ok(Wiring::new(names, Items::new(plans)))
+}

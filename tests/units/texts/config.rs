@@ -1,0 +1,10 @@
+//! Tests of configuration files: `cy_dag`, `cy_sched` and `cy_check` over texts that `cy_text`
+//! reads.
+//! Each expected value is written out by hand from the rules of the formats.
+
+mod checks;
+mod dags;
+mod placements;
+mod scheds;
+mod texts;
+mod wirings;

@@ -1,0 +1,66 @@
+// The text that tells what configuration files say.
+use super::texts::tree;
+use super::wirings::configs;
+use cy_check::{SchedulerFile, check_text};
+use cy_dag::{Dag, read_dag};
+use cy_msg::Text;
+use cy_sched::{Sched, place};
+use std::test::Fail;
+
+// The names of a DAG's components.
+fn names(rt: &HostRuntime, dag: &Dag) -> Result<Vec<Text>, Fail> {
+    let mut names = Vec::new(rt.alloc());
+    for component in dag.components.as_slice() {
+        names.push(Text::new(rt.alloc(), component.name.as_str())?)?;
+    }
+    Ok(names)
+}
+
+// What a DAG and component files say, where no scheduler file is given.
+fn told(rt: &HostRuntime, text: &str, files: &[&str]) -> Result<String, Fail> {
+    let tree = tree(rt, text.as_bytes())?;
+    let dag = read_dag(rt.alloc(), &tree)?;
+    let configs = configs(rt, &dag, files)?;
+    let names = names(rt, &dag)?;
+    let sched = Sched::default_grp(rt.alloc())?;
+    let placement = place(rt.alloc(), &sched, &names)?;
+    let unknown = [Text::new(rt.alloc(), "scheduler_conf.depth")?];
+    let scheduler = SchedulerFile {
+        file: "s.conf",
+        unknown: &unknown,
+    };
+    let text = check_text(rt.alloc(), "d.dag", &dag, &configs, &placement, scheduler)?;
+    Ok(String::from_utf8(text.into_vec())?)
+}
+
+#[test]
+fn tells_components_contexts_and_unknown_fields(rt: HostRuntime) -> Result<(), Fail> {
+    for (dag, files, want) in [
+        (
+            "module_config { module_library: \"x\" components { class_name: \"PassComponent\" \
+            config { name: \"p\" config_file_path: \"p.conf\" readers { channel: \"/a\" \
+            pending_queue_size: 0 } } } }",
+            &["out: \"/o\" colour: 3"] as &[&str],
+            "component \"p\" class PassComponent reads \"/a\" queue 1 writes \"/o\"\n\
+            context \"default_grp\" processors 2 order \"p\"\nunknown p.conf colour\n\
+            unknown s.conf scheduler_conf.depth\nok\n",
+        ),
+        (
+            "module_config { components { class_name: \"SumComponent\" \
+            config { name: \"s\\n\" config_file_path: \"s\" \
+            readers { channel: \"/a\" pending_queue_size: 7 } readers { channel: \"/b\" } } } \
+            components { class_name: \"TakeComponent\" \
+            config { name: \"t\" config_file_path: \"t\" readers { channel: \"/a\" } } } } \
+            depth { }",
+            &["out: \"/o\"", "out: \"\" n: 3"],
+            "component \"s\\n\" class SumComponent reads \"/a\" \"/b\" queue 7 writes \"/o\"\n\
+            component \"t\" class TakeComponent reads \"/a\" queue 1 writes \"\"\n\
+            context \"default_grp\" processors 2 order \"s\\n\" \"t\"\nunknown d.dag depth\n\
+            unknown s.conf scheduler_conf.depth\nok\n",
+        ),
+    ] {
+        let text = told(&rt, dag, files)?;
+        assert_eq!(rt; text.as_str(), want);
+    }
+    Ok(())
+}
