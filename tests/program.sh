@@ -380,7 +380,15 @@ plays_as_described() { # the words, but those for the files that are written
   holds out.trace trace
 }
 
-# Plays the drive on threads: any lawful run may come of it, so the files are looked at by `info` and by the numbers of the line.
+# Whether a play of the drive ended well, with the calls that its trace has: any lawful run may come of threads, so the files are looked at
+# by `info` and by the numbers of the line.
+has_played_the_drive() { # the record, the trace
+  grep -Eqx 'done: played 3205, shadowed 0, calls [1-9][0-9]*, written [0-9]+' out &&
+    "$program" info "$1" >told && grep -q ' complete yes ' told && ! grep -q '^differs' told &&
+    grep -q "messages $(sed 's/.* written //' out)$" told &&
+    [ "$(grep -c '^call ' "$2")" = "$(sed 's/.* calls \([0-9]*\),.*/\1/' out)" ]
+}
+
 plays_on_threads() { # how often
   begin "plays on threads, $1 times"
   local here=$PWD time
@@ -388,13 +396,32 @@ plays_on_threads() { # how often
     rm -f out.rec out.trace
     (cd "$top" && exec timeout 60 "$program" play --dag examples/drive/drive.dag --record examples/drive/drive.rec \
       --sched examples/drive/drive.sched --out "$here/out.rec" --trace "$here/out.trace") >out 2>err || break
-    grep -Eqx 'done: played 3205, shadowed 0, calls [0-9]+, written [0-9]+' out || break
-    "$program" info out.rec >told && grep -q ' complete yes ' told && ! grep -q '^differs' told || break
-    grep -q "messages $(sed 's/.* written //' out)$" told || break
-    [ "$(grep -c '^call ' out.trace)" = "$(sed 's/.* calls \([0-9]*\),.*/\1/' out)" ] || break
+    has_played_the_drive out.rec out.trace || break
   done
   [ "$time" -eq "$1" ]
   count $? "$name: the run $time was not as expected: $(head -c 200 out err)"
+}
+
+# Plays the drive as a user of its own, of whom so many threads may run at once, the player's among them. What has no thread beside the
+# player is done behind it.
+plays_where_threads_are_few() { # how many
+  begin "plays where $1 threads may run at once"
+  if [ "$(id -u)" -ne 0 ]; then
+    echo "left out, since root alone may try it: $name"
+    return
+  fi
+  mkdir files
+  cp -r "$top/examples" files/
+  cp "$program" program
+  chmod 711 "$work" .
+  chmod 755 program
+  chown -R 60000:60000 files
+  (cd files && exec timeout 60 setpriv --reuid=60000 --regid=60000 --clear-groups prlimit --nproc="$1" ../program play \
+    --dag examples/drive/drive.dag --record examples/drive/drive.rec --sched examples/drive/drive.sched \
+    --out out.rec --trace out.trace) >out 2>err
+  count $? "$name: it ended otherwise: $(head -c 200 err)"
+  has_played_the_drive files/out.rec files/out.trace
+  count $? "$name: the run was not as expected: $(head -c 200 out err)"
 }
 
 # One message leaves no choice: threads write what one thread writes.
@@ -599,6 +626,9 @@ plays_as_described "${drive[@]}" --drop /map/limit --end 1700000005000000000
 python3 "$top/bench/made.py" 3000 "$work/made"
 plays_as_described --dag "$work/made.dag" --record "$work/made.record"
 plays_on_threads 25
+for threads in 1 2 3 4; do
+  plays_where_threads_are_few "$threads"
+done
 plays_one_message_alike
 plays_at_random 100
 plays_one_component 'a record' two.rec '' 'done: played 2, shadowed 0, calls 2, written 4' \
