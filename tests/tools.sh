@@ -1,0 +1,139 @@
+#!/usr/bin/env bash
+# Tests what stands around the program: tools/, release/ and batch/. Usage: tests/tools.sh [SECTION...], by default all sections.
+# What a section needs beside Python's standard library is taken from the machine's Python, or installed into a virtual environment
+# in $TOOLS_ENVIRONMENT (by default in the user's cache); where neither can be done the section is skipped, which is said.
+# PROGRAM is the proved program, by default the one that the gate left; without one, a section that needs it is skipped.
+set -uo pipefail
+top=$(cd "$(dirname "$0")/.." && pwd)
+program=$(readlink -f "${PROGRAM:-$top/crates/cyber/out/cyber}")
+environment=${TOOLS_ENVIRONMENT:-${XDG_CACHE_HOME:-$HOME/.cache}/zektrob-tools}
+work=$(mktemp -d)
+trap 'rm -rf "$work"' EXIT
+passed=0
+failed=0
+
+# Counts one comparison, and tells of one that failed.
+count() { # whether it is well: 0, and what was compared
+  if [ "$1" -eq 0 ]; then
+    passed=$((passed + 1))
+  else
+    failed=$((failed + 1))
+    echo "FAILED: $2"
+  fi
+}
+
+# Says that a section is left out.
+skip() { # its name, and what is missing
+  echo "skipped: $1: $2"
+}
+
+# Finds a Python that has some modules, and puts its name into `python`; the virtual environment is asked last.
+find_python() { # the modules, with commas between them, and the packages that have them
+  local it
+  for it in python3 /usr/bin/python3 "$environment/bin/python"; do
+    python=$it
+    "$it" -c "import $1" 2>/dev/null && return
+  done
+  [ -x "$environment/bin/python" ] || python3 -m venv "$environment" || return 1
+  # shellcheck disable=SC2086
+  "$environment/bin/pip" install --quiet --retries 0 --timeout 20 $2 >/dev/null 2>&1 && "$python" -c "import $1" 2>/dev/null
+}
+
+# Runs a command in the test's folder, and compares its status.
+try() { # the status, and the command
+  local want=$1
+  shift
+  "$@" >out 2>err
+  status=$?
+  [ "$status" -eq "$want" ]
+  count $? "$name: status $status, not $want, of '$*': $(head -c 300 err)"
+}
+
+# Looks that a file has a line that fits.
+says() { # the file, and the pattern
+  grep -Eqx -- "$2" "$1"
+  count $? "$name: no line '$2' in $1: $(head -c 300 "$1")"
+}
+
+# Begins a test in an empty folder.
+begin() { # what it shows
+  name=$1
+  cd "$(mktemp -d -p "$work")" || exit 1
+}
+
+# Makes the record and the trace of a drive in the test's folder, as the rules say, and what `check` prints for it.
+replay_drive() {
+  (cd "$top" && python3 tests/replay.py "$OLDPWD/out.rec" "$OLDPWD/out.trace" "$OLDPWD/line" \
+    --dag examples/drive/drive.dag --sched examples/drive/drive.sched --record examples/drive/drive.rec)
+  sed -n '/^    component "smooth"/,/^    ok$/s/^    //p' "$top/examples/README.md" >drive.check
+}
+
+DRIVE='/wheel/speed /smooth/sum /smooth/sum,/map/limit /margin /map/limit /limit/new /camera/frame /late/frame /late/frame /frames'
+
+timeline() {
+  local line="$top/tools/timeline.py" check="$top/tests/tools/check_timeline.py"
+  begin 'a timeline has the calls, tuples and outputs of a drive'
+  replay_drive
+  try 0 python3 "$line" out.trace --record out.rec --wiring drive.check -o run.json
+  # shellcheck disable=SC2086
+  try 0 python3 "$check" run.json out.trace $DRIVE
+  try 0 python3 "$line" out.trace --record out.rec --wiring drive.check -o run.json.gz
+  gzip -dc run.json.gz | cmp -s - run.json
+  count $? "$name: the compressed timeline is another one"
+  begin 'the channels of four components are deduced, and skipped tuples are counted'
+  python3 "$top/bench/made.py" 300 made
+  python3 "$top/tests/replay.py" out.rec out.trace line --record made.record --dag made.dag
+  try 0 python3 "$line" out.trace --record out.rec -o run.json
+  try 0 python3 "$check" run.json out.trace /a,/b /sum /sum /band /band /win /a /late
+  says run.json '\{"ph":"C","name":"skipped late","pid":1,"ts":[0-9.]+,"args":\{"tuples":149\}\},'
+  begin 'a trace alone has its calls'
+  replay_drive
+  try 0 python3 "$line" out.trace -o run.json
+  try 0 python3 "$check" run.json out.trace
+  begin 'channels that can be told apart by nothing are named'
+  replay_drive
+  try 0 python3 "$line" out.trace --record out.rec -o run.json
+  says err '.*of margin, frames; some flows are left out.*'
+  begin 'what is no trace, or another record, is refused'
+  replay_drive
+  echo x >text
+  try 1 python3 "$line" text -o run.json
+  says err 'timeline: text: line 1: not a trace'
+  try 1 python3 "$line" out.trace --record "$top/examples/drive/drive.rec" -o run.json
+  says err '.*: not the record of this trace'
+  sed '5s/call/cull/' out.trace >bad.trace
+  try 1 python3 "$line" bad.trace -o run.json
+  says err 'timeline: bad.trace: line 5: .*'
+  begin 'a timeline of a hundred thousand calls takes less than 200 MB'
+  python3 "$top/tests/tools/long_run.py" 100000 long
+  try 0 python3 "$top/tests/tools/measure.py" usage python3 "$line" long.trace --record long.rec -o long.json
+  [ "$(sed -n 's/^memory //p' usage)" -lt 200000000 ]
+  count $? "$name: $(cat usage)"
+  try 0 python3 "$check" long.json long.trace /in /out
+  pictures
+}
+
+pictures() {
+  begin 'a picture of a drive is the one of docs/pictures'
+  if ! find_python matplotlib matplotlib; then
+    skip 'pictures of timelines' 'no matplotlib'
+    return
+  fi
+  replay_drive
+  try 0 "$python" "$top/tools/timeline.py" out.trace --record out.rec --wiring drive.check --end 3 -o drive.svg
+  # Other versions of matplotlib put the same marks elsewhere by a hair, so only what the picture says is compared.
+  diff <(grep -o '<text[^>]*>[^<]*' drive.svg | sed 's/.*>//') <(grep -o '<text[^>]*>[^<]*' "$top/docs/pictures/drive.svg" | sed 's/.*>//') >texts
+  count $? "$name: the texts differ: $(head -c 300 texts)"
+  [ "$(stat -c %s "$top/docs/pictures/drive.svg")" -lt 300000 ]
+  count $? "$name: docs/pictures/drive.svg is too large"
+  try 0 "$python" "$top/tools/timeline.py" out.trace -o run.png
+  [ "$(head -c 4 run.png | tail -c 3)" = PNG ]
+  count $? "$name: run.png is no picture"
+}
+
+[ $# -gt 0 ] || set -- timeline
+for section in "$@"; do
+  "$section"
+done
+echo "$passed passed, $failed failed"
+[ "$failed" -eq 0 ]
