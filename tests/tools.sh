@@ -131,7 +131,59 @@ pictures() {
   count $? "$name: run.png is no picture"
 }
 
-[ $# -gt 0 ] || set -- timeline
+messages() {
+  local tool="$top/tools/messages.py"
+  if ! find_python google.protobuf protobuf; then
+    skip messages 'no Protocol Buffers package'
+    return
+  fi
+  begin 'messages are decoded by the descriptors of their channels'
+  try 0 "$python" "$top/tests/tools/described_record.py" a.rec
+  try 0 "$python" "$top/tests/tools/described_record.py" b.rec 4
+  try 0 "$python" "$tool" a.rec
+  printf '%s\n' '/chassis 1 10 {"header": {"frame": "map", "stamp": "18446744073709551615"}, "speed": 1.5, "wheels": [1, -2], "gear": "DRIVE"}' \
+    '/chassis 2 20 {"header": {"frame": "größe"}}' '/chassis 3 30 {"speed": 3.25}' '/bad 1 40 0x78' '/odd 1 50 0x' '/whole 1 60 -7' \
+    '/raw 1 70 0xff00' | cmp -s - out
+  count $? "$name: $(cat out)"
+  says err 'messages: a.rec: /bad: no descriptor of demo.Bad: .*'
+  says err 'messages: a.rec: /odd: no descriptor of demo.Odd: .*'
+  try 0 "$python" "$tool" a.rec --json --channel /whole
+  says out '\{"channel": "/whole", "number": 1, "time": "60", "whole": "-7"\}'
+  try 0 "$python" "$tool" a.rec --csv --channel /chassis
+  says out 'channel,number,time,header.frame,header.stamp,speed,wheels,gear'
+  says out '/chassis,1,10,map,18446744073709551615,1.5,"\[1, -2\]",DRIVE'
+  says out '/chassis,3,30,,,3.25,,'
+  try 0 "$python" "$tool" a.rec --csv
+  says out '/raw,1,70,0xff00'
+  begin 'the messages of a drive are decoded'
+  try 0 "$python" "$tool" "$top/examples/drive/drive.rec" --channel /wheel/speed
+  says out '/wheel/speed 1 1700000000000079088 \{"value": "8045"\}'
+  [ "$(wc -l <out)" -eq 1000 ]
+  count $? "$name: $(wc -l <out) lines"
+  compares_records "$tool"
+}
+
+compares_records() { # the tool
+  begin 'two records are compared message by message'
+  "$python" "$top/tests/tools/described_record.py" a.rec
+  "$python" "$top/tests/tools/described_record.py" b.rec 4
+  try 0 "$python" "$1" --diff a.rec a.rec
+  says out 'same: 7 messages on 5 channels'
+  try 1 "$python" "$1" --diff a.rec b.rec
+  says out '/chassis 3 at 30: \{"speed": 3.25\} and \{"speed": 4.0\}'
+  [ "$(wc -l <out)" -eq 1 ]
+  count $? "$name: more than one line: $(cat out)"
+  try 0 "$python" "$1" --diff a.rec b.rec --channel /whole
+  replay_drive
+  try 1 "$python" "$1" --diff out.rec "$top/examples/drive/drive.rec" --channel /margin
+  says out '/margin 1: only in out.rec, which has 965 in place of 0'
+  begin 'what is no record is told'
+  try 2 "$python" "$1" "$top/README.md"
+  says err 'messages: not a record'
+  try 2 "$python" "$1" none
+}
+
+[ $# -gt 0 ] || set -- timeline messages
 for section in "$@"; do
   "$section"
 done

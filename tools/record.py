@@ -101,6 +101,17 @@ def fields_of(data):
     return found
 
 
+def header_of(data):
+    """The numbers of a record's header, by field; a ValueError where it is no uncompressed record."""
+    size = int.from_bytes(data[8:16], "little")
+    if len(data) < HEADER_END or data[:4] != bytes(4) or size > HEADER_END - 16:
+        raise ValueError("not a record")
+    header = dict(fields_of(data[16 : 16 + size]))
+    if header.get(3, 0) != 0:
+        raise ValueError(f"compressed chunks of kind {header[3]}")
+    return header
+
+
 def sections_of(data):
     """The sections behind the header, up to an index: their types and bodies."""
     at, found = HEADER_END, []
