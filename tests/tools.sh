@@ -183,7 +183,107 @@ compares_records() { # the tool
   try 2 "$python" "$1" none
 }
 
-[ $# -gt 0 ] || set -- timeline messages
+# Puts the libraries that a program asks for into a root, so that it can be run there.
+copy_libraries() { # the program, and the root
+  ldd "$1" | grep -o '/[^ ]*' | while read -r library; do
+    install -D "$library" "$2$library"
+  done
+}
+
+# Installs the package into an empty root, which has nothing but what dpkg needs, and says how its program is run there.
+install_package() { # the package
+  mkdir -p root/var/lib/dpkg/info root/var/lib/dpkg/updates
+  touch root/var/lib/dpkg/status
+  if [ "$(id -u)" -eq 0 ] && ldd "$program" >/dev/null 2>&1; then
+    # The libraries are the only thing that the package asks for, and they are copied.
+    try 0 dpkg --root="$PWD/root" --force-depends --force-script-chrootless --log=/dev/null -i "$1"
+    try 0 dpkg --root="$PWD/root" --verify zektrob
+    [ ! -s out ]
+    count $? "$name: files are not as packed: $(cat out)"
+    copy_libraries "$program" root
+    call=(chroot root /usr/bin/cyber)
+  else
+    try 0 dpkg-deb -x "$1" root
+    call=("$PWD/root/usr/bin/cyber")
+  fi
+  cp -r root/usr/share/doc/zektrob/examples root/
+}
+
+release() {
+  if [ ! -x "$program" ]; then
+    skip release "no program at $program"
+    return
+  fi
+  begin 'a release has the program, its page, its completions and what was proved'
+  printf 'x logic=proved functions=1 sum=0123456789abcdef native=nat\n1 passed, 0 failed\n' >gate.log
+  try 0 "$top/release/make.sh" --out "$PWD/made" --gate gate.log "$program"
+  mkdir tar
+  tar -xzf made/*.tar.gz -C tar --strip-components 1
+  cmp -s tar/bin/cyber "$program"
+  count $? "$name: the program is another one"
+  says tar/share/doc/zektrob/PROVED "commit $(git -C "$top" rev-parse HEAD)( with changes.*)?"
+  says tar/share/doc/zektrob/PROVED 'logic 0123456789abcdef'
+  says tar/share/doc/zektrob/PROVED 'gate 1 passed, 0 failed'
+  (cd tar && sed -n 's/^\([0-9a-f]\{64\}  \)/\1/p' share/doc/zektrob/PROVED | sha256sum -c --quiet) >sums 2>&1
+  count $? "$name: $(head -n 3 sums)"
+  [ "$(grep -c '^[0-9a-f]\{64\}  ' tar/share/doc/zektrob/PROVED)" -eq $(($(find tar -type f | wc -l) - 1)) ]
+  count $? "$name: PROVED doesn't have the sum of each file"
+  try 0 "$top/release/make.sh" --out "$PWD/again" --gate gate.log "$program"
+  diff -r made again >/dev/null
+  count $? "$name: made again it is another one"
+  try 1 "$top/release/make.sh" --out "$PWD/made" none
+  reads_manual tar/share/man/man1/cyber.1.gz
+  completes tar/share
+  begin 'the tour of the examples runs where the package alone is installed'
+  if ! command -v dpkg-deb >/dev/null; then
+    skip 'the package' 'no dpkg-deb'
+    return
+  fi
+  "$top/release/make.sh" --out "$PWD" "$program" >/dev/null
+  install_package ./*.deb
+  if [ "${call[0]}" = chroot ]; then
+    try 0 python3 "$top/tests/tools/tour.py" root/examples/README.md . /usr/sbin/chroot root /usr/bin/cyber
+  else
+    try 0 python3 "$top/tests/tools/tour.py" root/examples/README.md root "${call[@]}"
+  fi
+  says out '[0-9]+ lines typed'
+  cat out
+}
+
+reads_manual() { # the page
+  if ! command -v man >/dev/null; then
+    skip 'the manual page' 'no man'
+    return
+  fi
+  MANWIDTH=100 man --warnings -l "$1" >page 2>warnings
+  [ ! -s warnings ]
+  count $? "$name: the manual page: $(head -n 3 warnings)"
+  for it in NAME SYNOPSIS PLAY PASS CHECK INFO MAKE; do
+    says page "$it"
+  done
+}
+
+# Each option that the commands have is completed, and no other one.
+completes() { # the folder with the completions
+  local options
+  options=$(sed -n '/^    cyber /,/^$/p' "$top/docs/COMMANDS.md" | grep -o -- '--[a-z]*' | sort -u)
+  # shellcheck disable=SC2016
+  bash -c '. "$1"; COMP_WORDS=(cyber play --); COMP_CWORD=2; _cyber; printf "%s\n" "${COMPREPLY[@]}"' - \
+    "$1/bash-completion/completions/cyber" | sort -u | diff - <(echo "$options") >difference
+  count $? "$name: bash completes other options: $(cat difference)"
+  # shellcheck disable=SC2016
+  bash -c '. "$1"; COMP_WORDS=(cyber ""); COMP_CWORD=1; _cyber; echo "${COMPREPLY[*]}"' - "$1/bash-completion/completions/cyber" >commands
+  says commands 'play pass check info make'
+  grep -o -- "'--[a-z]*" "$1/zsh/vendor-completions/_cyber" | tr -d "'" | sort -u | diff - <(echo "$options") >difference
+  count $? "$name: zsh completes other options: $(cat difference)"
+  if command -v zsh >/dev/null; then
+    try 0 zsh -n "$1/zsh/vendor-completions/_cyber"
+  else
+    skip 'the syntax of the completions of zsh' 'no zsh'
+  fi
+}
+
+[ $# -gt 0 ] || set -- timeline messages release
 for section in "$@"; do
   "$section"
 done
