@@ -23,7 +23,11 @@ while [ $# -gt 0 ]; do
   esac
 done
 [ -x "$program" ] || fail "no program at $program"
-[ -z "$gate" ] || [ -r "$gate" ] || fail "no log at $gate"
+if [ -n "$gate" ]; then
+  [ -r "$gate" ] || fail "no log at $gate"
+  faults=$(grep -m 1 -E '^rt: FAILED|^[0-9]+ passed, [1-9][0-9]* failed' "$gate" || true)
+  [ -z "$faults" ] || fail "the gate failed: $faults"
+fi
 
 commit=$(git -C "$top" rev-parse HEAD)
 date=$(git -C "$top" show -s --format=%ct HEAD)
@@ -38,12 +42,13 @@ write_proved() {
   local state='' logic='not known: no log of the gate was given' said='none was given'
   [ -z "$(git -C "$top" status --porcelain -- crates crates.txt HANDLES)" ] || state=' with changes that are not committed'
   if [ -n "$gate" ]; then
-    said=$(tail -n 1 "$gate")
+    # What measured the gate may have printed its times behind that.
+    said=$(grep -E '^[0-9]+ passed, 0 failed$' "$gate" | tail -n 1 || true)
     logic=$(sed -n 's/.*logic=proved .*sum=\([0-9a-f]*\).*/\1/p' "$gate" | tail -n 1)
   fi
   echo "commit $commit$state"
   echo "logic ${logic:-not named in the log of the gate}"
-  echo "gate $said"
+  echo "gate ${said:-has no last line in its log}"
   echo "sha256 of the files beside this one:"
   (cd "$stage/usr" && find . -type f ! -name PROVED -printf '%P\n' | LC_ALL=C sort | xargs -d '\n' sha256sum)
 }
