@@ -91,11 +91,16 @@ class Record:
         return json.dumps(value, ensure_ascii=False) if key == "message" else value if key == "whole" else f"0x{value}"
 
 
+def is_repeated(field):
+    """Whether a field is a list; newer packages have a word of their own for it."""
+    return field.is_repeated if hasattr(field, "is_repeated") else field.label == FieldDescriptor.LABEL_REPEATED
+
+
 def columns_of(descriptor, prefix="", depth=1):
     """The names of a message's fields; those of a message in it behind a point, and repeated ones as they are."""
     found = []
     for field in descriptor.fields:
-        is_single = field.type == FieldDescriptor.TYPE_MESSAGE and field.label != FieldDescriptor.LABEL_REPEATED
+        is_single = field.type == FieldDescriptor.TYPE_MESSAGE and not is_repeated(field)
         if is_single and depth < DEEPEST:
             found += columns_of(field.message_type, f"{prefix}{field.name}.", depth + 1)
         else:

@@ -113,15 +113,14 @@ def header_of(data):
 
 
 def sections_of(data):
-    """The sections behind the header, up to an index: their types and bodies."""
-    at, found = HEADER_END, []
+    """The sections behind the header, up to an index, one by one: their types and bodies."""
+    at = HEADER_END
     while at < len(data):
         kind, size = int.from_bytes(data[at : at + 4], "little"), int.from_bytes(data[at + 8 : at + 16], "little")
         if kind == 3:
             break
-        found.append((kind, data[at + 16 : at + 16 + size]))
+        yield kind, data[at + 16 : at + 16 + size]
         at += 16 + size
-    return found
 
 
 def message_of(data):

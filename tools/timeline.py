@@ -19,6 +19,9 @@ from run import read_run
 COMPONENTS, CHANNELS = 1, 2  # the two processes of the timeline
 
 
+BEGIN, STEP, FINISH = (
+    f'{{"ph":"{phase}","cat":"flow","name":"message","id":' for phase in ("s", "t", 'f","bp":"e')
+)
 COUNTED = 50_000  # how many events are made at once
 
 
@@ -161,32 +164,35 @@ class Timeline:
                 lines.append(f'{{"ph":"C","name":{name},"pid":{COMPONENTS},"ts":{text},"args":{{"tuples":{skipped}}}}}')
         self.put(lines)
 
-    def flow(self, number, phase, process, track, text):
-        """An event of a flow; the last one of it is bound to the slice that it stands in."""
-        bound = ',"bp":"e"' if phase == "f" else ""
-        return f'{{"ph":"{phase}"{bound},"cat":"flow","name":"message","id":{number},"pid":{process},"tid":{track},"ts":{text}}}'
-
     def put_flows(self, calls, texts):
         """The flows from the messages of each tuple to its call; the first one goes on to the output, or else begins at the call."""
-        it, flow, tracks = calls.component, self.flow, calls.tracks
-        known = [(role, self.texts[channel], self.track[channel]) for role, channel in enumerate(calls.readers) if channel is not None]
-        sent = calls.sent
-        for place, (role, sources, source) in enumerate(known):
+        it, sent = calls.component, calls.sent
+        known = [(role, channel) for role, channel in enumerate(calls.readers) if channel is not None]
+        onward = range(self.flows + 1, self.flows + 1 + len(texts))
+        phases = [STEP if on else FINISH for on in sent]
+        for role, channel in known:
             ids = range(self.flows + 1, self.flows + 1 + len(texts))
-            self.flows = ids[-1] if ids else self.flows
-            self.put(flow(n, "s", CHANNELS, source, sources[seq - 1]) for n, seq in zip(ids, it.sequences[role :: it.width]))
-            ends = ["t" if on else "f" for on in sent] if place == 0 else repeat("f")
-            self.put(flow(n, end, COMPONENTS, tracks[lane], text) for n, end, lane, text in zip(ids, ends, calls.lanes, texts))
-            onward = ids if place == 0 else onward
-        if not known:
-            onward = range(self.flows + 1, self.flows + 1 + len(texts))
             self.flows += len(texts)
-            rows = zip(onward, sent, calls.lanes, texts)
-            self.put(flow(n, "s", COMPONENTS, tracks[lane], text) for n, on, lane, text in rows if on)
+            sources, lane = self.texts[channel], f'"pid":{CHANNELS},"tid":{self.track[channel]}'
+            self.put(f'{BEGIN}{n},{lane},"ts":{sources[seq - 1]}}}' for n, seq in zip(ids, it.sequences[role :: it.width]))
+            self.put(map(self.CALL_END, phases, ids, self.lanes_of(calls), texts))
+            phases = repeat(FINISH)
+        if not known:
+            self.flows += len(texts)
+            rows = zip(onward, sent, self.lanes_of(calls), texts)
+            self.put(f'{BEGIN}{n},{lane},"ts":{text}}}' for n, on, lane, text in rows if on)
         if calls.out is not None:
-            targets, target = self.texts[calls.out], self.track[calls.out]
+            targets, lane = self.texts[calls.out], f'"pid":{CHANNELS},"tid":{self.track[calls.out]}'
             rows = zip(onward, sent, it.outputs)
-            self.put(flow(n, "f", CHANNELS, target, targets[out - 1]) for n, on, out in rows if on)
+            self.put(f'{FINISH}{n},{lane},"ts":{targets[out - 1]}}}' for n, on, out in rows if on)
+
+    CALL_END = '{}{},{},"ts":{}}}'.format
+
+    @staticmethod
+    def lanes_of(calls):
+        """The lane of each call, as events name it."""
+        names = [f'"pid":{COMPONENTS},"tid":{track}' for track in calls.tracks]
+        return map(names.__getitem__, calls.lanes)
 
     def put_names(self):
         """Names the lanes; those of one component stand together."""

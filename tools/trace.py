@@ -2,9 +2,12 @@
 import re
 from array import array
 from dataclasses import dataclass, field
+from itertools import chain, islice
 
 QUOTED = re.compile(rb'"((?:[^"\\]|\\.)*)"')
 ESCAPE = re.compile(rb"\\([0-7]{3}|.)", re.DOTALL)
+MARKS_TO_SPACES = bytes.maketrans(b"/@=", b"   ")
+CALLS = 20_000  # lines that are read at once
 MARKS = {b"n": b"\n", b"t": b"\t", b"r": b"\r"}
 
 
@@ -90,6 +93,28 @@ def read_call(component, line):
     component.valued.append(value != b"")
 
 
+def read_calls(component, lines):
+    """Puts many lines of calls, column by column where all have outputs with values; answers whether they are of that form."""
+    text = b"".join(lines)
+    if text.count(b"=") != len(lines):
+        return False
+    words = text.translate(MARKS_TO_SPACES).split()
+    step = len(words) // len(lines)
+    width = step - 6
+    if len(words) != step * len(lines) or not 1 <= width <= 4 or component.width not in (0, width) or set(words[::step]) != {b"call"}:
+        return False
+    columns = [list(map(int, words[k::step])) for k in range(1, step)]
+    component.width = width
+    component.positions.extend(columns[0])
+    component.tails.extend(columns[1])
+    component.sequences.extend(chain.from_iterable(zip(*columns[2 : 2 + width])))
+    component.outputs.extend(columns[-3])
+    component.times.extend(columns[-2])
+    component.values.extend(columns[-1])
+    component.valued.extend(b"\1" * len(lines))
+    return True
+
+
 def read_component(component, line):
     """Takes a line of a component that is none of a call."""
     words = line.split()
@@ -121,17 +146,34 @@ class Reader:
     def read_rest(self, file):
         """The lines of the components, and then those of the tape."""
         components = self.trace.components
-        for line in file:
+        rest = self.other_lines(file)
+        for line in rest:
             self.line += 1
-            if line.startswith(b"call "):
-                read_call(components[-1], line)
-            elif line.startswith(b'tape "'):
+            if line.startswith(b'tape "'):
                 self.read_tape(line)
-                self.read_tapes(file)
+                self.read_tapes(rest)
             elif line.startswith(b'component "'):
                 components.append(Component(names_in(line)[0]))
             else:
                 read_component(components[-1], line)
+
+    def other_lines(self, file):
+        """The lines that are none of a call; calls are read on the way."""
+        while lines := list(islice(file, CALLS)):
+            if len(lines) == CALLS and lines[0].startswith(b"call ") and lines[-1].startswith(b"call "):
+                if read_calls(self.trace.components[-1], lines):
+                    self.line += CALLS
+                    continue
+            lines = iter(lines)
+            for line in lines:
+                if line.startswith(b"call "):
+                    self.line += 1
+                    read_call(self.trace.components[-1], line)
+                elif line.startswith(b'tape "'):
+                    yield from chain([line], lines)
+                    yield from file
+                else:
+                    yield line
 
     def read_tapes(self, file):
         """The lines of the tape behind its first one, up to the end; most are of a channel that is known."""
