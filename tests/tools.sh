@@ -285,7 +285,121 @@ completes() { # the folder with the completions
   fi
 }
 
-[ $# -gt 0 ] || set -- timeline messages release
+# Finds a Snakemake of the release that the profiles are for, and puts its name into `snakemake`.
+find_snakemake() {
+  local it
+  for it in snakemake "$environment/bin/snakemake"; do
+    snakemake=$it
+    [[ $("$it" --version 2>/dev/null) == 7.* ]] && return
+  done
+  [ -x "$environment/bin/python" ] || python3 -m venv "$environment" || return 1
+  "$environment/bin/pip" install --quiet --retries 0 --timeout 20 'snakemake<8' 'pulp<2.8' >/dev/null 2>&1 &&
+    [[ $("$snakemake" --version 2>/dev/null) == 7.* ]]
+}
+
+# How many drives have a row.
+rows() {
+  find batch.out -name row.json 2>/dev/null | wc -l
+}
+
+# Begins a batch, and stops it at once when some drives are done, with all that it started.
+interrupt() { # how many drives, and the command
+  local process
+  setsid "${@:2}" >log 2>&1 &
+  process=$!
+  until [ "$(rows)" -ge "$1" ] || ! kill -0 "$process" 2>/dev/null; do
+    sleep 0.1
+  done
+  kill -KILL -- "-$process" 2>/dev/null
+  wait "$process" 2>/dev/null
+}
+
+# Looks that a batch of 200 drives, of which the 7th and the 11th are broken, is told as it is.
+is_summed_up() {
+  says out '200 drives: 198 well, 2 failed, 0 not done, 0 unlike the good run'
+  [ "$(wc -l <batch.out/summary.csv)" -eq 201 ]
+  count $? "$name: not a row for each drive"
+  says batch.out/summary.csv 'd7,1,,,,,[0-9.]+,[0-9.]+,[0-9]+,,(no good run|),cyber: 7.rec: at 2137: Cut'
+  says batch.out/summary.csv 'd11,3,,,,,[0-9.]+,[0-9.]+,[0-9]+,,(no good run|),cyber: 11.rec: the store failed'
+  says batch.out/summary.csv 'd3,0,32,0,64,96,[0-9.]+,[0-9.]+,[0-9]+,,,"done: played 32, shadowed 0, calls 64, written 96"'
+}
+
+batch() {
+  if [ ! -x "$program" ]; then
+    skip batch "no program at $program"
+    return
+  elif ! find_snakemake; then
+    skip batch 'no Snakemake 7'
+    return
+  fi
+  local call=("$snakemake" -s "$top/batch/Snakefile" --profile "$top/batch/profiles/local")
+  plays_200_drives
+  changes_drives
+  plays_on_slurm
+}
+
+plays_200_drives() {
+  local before after
+  begin 'a batch of 200 drives is stopped in the middle and begun again'
+  python3 "$top/tests/tools/drives.py" 200 .
+  interrupt 60 "${call[@]}" --config program="$program"
+  before=$(rows)
+  [ "$before" -ge 60 ] && [ "$before" -lt 200 ]
+  count $? "$name: it was stopped with $before drives done"
+  find batch.out -name row.json -printf '%p %T@\n' | sort >first
+  try 0 "${call[@]}" --unlock --config program="$program"
+  try 0 "${call[@]}" --config program="$program"
+  is_summed_up
+  find batch.out -name row.json -printf '%p %T@\n' | sort >second
+  after=$(comm -12 first second | wc -l)
+  # Of the drives that were being played one may have had its row just then; these are played again.
+  [ "$after" -ge $((before - $(nproc))) ]
+  count $? "$name: of $before drives only $after were left as they were"
+  try 0 "${call[@]}" --config program="$program"
+  find batch.out -name row.json -printf '%p %T@\n' | sort | cmp -s - second
+  count $? "$name: a batch that was done has played drives again"
+  batch_folder=$PWD
+}
+
+changes_drives() {
+  begin 'a batch tells what differs from a good one, and a drive whose files change is played again'
+  cp -r "$batch_folder/." .
+  mv batch.out good
+  sed -n '1p;4,7p' drives.csv >few.csv
+  cp 4.rec 5.rec
+  try 0 "${call[@]}" --config program="$program" table=few.csv good=good verify='info {out}'
+  says out '4 drives: 4 well, 0 failed, 0 not done, 1 unlike the good run'
+  says batch.out/summary.csv 'd5,0,.*,verified,"message 1: /a at 10 0x0808, was /a at 10 0x080a","done: .*"'
+  says batch.out/summary.csv 'd3,0,.*,verified,,"done: .*"'
+  cp 4.rec 6.rec
+  find batch.out -name row.json -printf '%p %T@\n' | sort >first
+  try 0 "${call[@]}" --config program="$program" table=few.csv good=good verify='info {out}'
+  find batch.out -name row.json -printf '%p %T@\n' | sort | comm -13 first - | cut -d ' ' -f 1 >changed
+  [ "$(cat changed)" = batch.out/d6/row.json ]
+  count $? "$name: played again: $(cat changed)"
+  sed -i 's,^d4.*,d4;4.rec;d.dag;;/a;;;;,; s/;/,/g' few.csv
+  find batch.out -name row.json -printf '%p %T@\n' | sort >first
+  try 0 "${call[@]}" --config program="$program" table=few.csv
+  find batch.out -name row.json -printf '%p %T@\n' | sort | comm -13 first - | cut -d ' ' -f 1 >changed
+  [ "$(cat changed)" = batch.out/d4/row.json ]
+  count $? "$name: with other words: $(cat changed)"
+}
+
+plays_on_slurm() {
+  if [ "$(id -u)" -ne 0 ] || ! PATH=$PATH:/usr/sbin command -v slurmctld slurmd munged >/dev/null; then
+    skip 'batches on Slurm' 'no slurmctld, slurmd and munged, or not root'
+    return
+  fi
+  begin 'a batch of 200 drives is played on a Slurm of one node'
+  python3 "$top/tests/tools/drives.py" 200 .
+  try 0 "$top/tests/tools/slurm.sh" "$snakemake" -s "$top/batch/Snakefile" --profile "$top/batch/profiles/slurm" \
+    --config program="$program"
+  is_summed_up
+  [ "$(find . -maxdepth 1 -name 'slurm-*.log' | wc -l)" -eq 50 ]
+  count $? "$name: not fifty jobs of four drives: $(ls slurm-*.log)"
+}
+
+[ $# -gt 0 ] || set -- timeline messages release batch
 for section in "$@"; do
   "$section"
 done
