@@ -9,7 +9,7 @@ makes PREFIX.record, PREFIX.dag and a component file for each of adder, band, la
 import os
 import sys
 
-sys.path.insert(0, os.path.join(os.path.dirname(os.path.abspath(__file__)), "..", "tests"))
+sys.path.insert(0, os.path.join(os.path.dirname(os.path.abspath(__file__)), "..", "tools"))
 from record import number, record
 
 COMPONENTS = [

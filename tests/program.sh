@@ -155,7 +155,7 @@ passes_on() { # what it is, the two channels, the line, and the command
 
 # A command that writes the record of these messages, in Python, and the types and descriptions of channels.
 write_record() { # the messages, and the forms
-  echo "PYTHONPATH='$top/tests' python3 -c 'from record import *; import sys; sys.stdout.buffer.write(record($1, $2))' >in.rec"
+  echo "PYTHONPATH='$top/tools' python3 -c 'from record import *; import sys; sys.stdout.buffer.write(record($1, $2))' >in.rec"
 }
 
 names_the_record() { # what befalls it, and a command that does it
@@ -485,7 +485,7 @@ makes_without() { # what befalls it, the prefix, what stands behind it in the fi
 plans_too_many() {
   begin 'refuses to plan more entries than a run keeps'
   mkdir files
-  python3 - "$top/tests" <<'P'
+  python3 - "$top/tools" <<'P'
 import sys
 sys.path.insert(0, sys.argv[1])
 from record import number, record

@@ -13,6 +13,7 @@ import re
 import sys
 from dataclasses import dataclass, field
 
+sys.path.insert(0, os.path.join(os.path.dirname(os.path.abspath(__file__)), "..", "tools"))
 from record import content_of, forms_of, messages_of, record, whole_of
 
 LOWEST, GREATEST = -(2**63), 2**63 - 1

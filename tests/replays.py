@@ -12,9 +12,10 @@ import subprocess
 import sys
 import tempfile
 
+HERE = os.path.dirname(os.path.abspath(__file__))
+sys.path.insert(0, os.path.join(HERE, "..", "tools"))
 from record import content_of, record
 
-HERE = os.path.dirname(os.path.abspath(__file__))
 KINDS = {"Pass": 1, "Filter": 1, "Sum": 1, "Count": 1, "Max": 1, "Window": 1, "Change": 1, "Select": 3, "Hold": 1, "Take": 1}
 CHANNELS = ["/a", "/b", "/c", "/d"]
 BAD_CONTENTS = [b"", b"\xff", b"\x08", b"\x10\x02", b"\x0a\x01x"]

@@ -1,4 +1,7 @@
-"""Uncompressed Cyber RT records, read and written as docs/FORMATS.md says; nothing here is taken from the program."""
+"""Uncompressed Cyber RT records, read and written as docs/FORMATS.md says; nothing here is taken from the program.
+
+The tools and the tests share it. Names of channels and contents are bytes, times are in nanoseconds.
+"""
 from collections import Counter
 
 HEADER_END = 2064
@@ -98,27 +101,72 @@ def fields_of(data):
     return found
 
 
+def header_of(data):
+    """The numbers of a record's header, by field; a ValueError where it is no uncompressed record."""
+    size = int.from_bytes(data[8:16], "little")
+    if len(data) < HEADER_END or data[:4] != bytes(4) or size > HEADER_END - 16:
+        raise ValueError("not a record")
+    header = dict(fields_of(data[16 : 16 + size]))
+    if header.get(3, 0) != 0:
+        raise ValueError(f"compressed chunks of kind {header[3]}")
+    return header
+
+
 def sections_of(data):
-    """The sections behind the header, up to an index: their types and bodies."""
-    at, found = HEADER_END, []
+    """The sections behind the header, up to an index, one by one: their types and bodies."""
+    at = HEADER_END
     while at < len(data):
         kind, size = int.from_bytes(data[at : at + 4], "little"), int.from_bytes(data[at + 8 : at + 16], "little")
         if kind == 3:
             break
-        found.append((kind, data[at + 16 : at + 16 + size]))
+        yield kind, data[at + 16 : at + 16 + size]
         at += 16 + size
-    return found
+
+
+def message_of(data):
+    """A message of a chunk: its channel, its time and its content."""
+    fields = dict(fields_of(data))
+    return fields.get(1, b""), fields.get(2, 0), fields.get(3, b"")
+
+
+# Nine bytes of a varint, the first eight of which say that more follow, are the times of our day in nanoseconds.
+MORE = 0x8080808080808080
+
+
+def plain_message(data, at, end):
+    """The message in data[at:end] where it has just its three fields in their order and a time of nine bytes; else None."""
+    name = at + 2 + data[at + 1]
+    content = name + 12
+    if content > end or data[at] != 10 or data[name] != 16 or data[name + 10] != 26 or content + data[name + 11] != end:
+        return None
+    time = int.from_bytes(data[name + 1 : name + 9], "little")
+    if data[at + 1] > 127 or data[name + 9] > 127 or data[name + 11] > 127 or time & MORE != MORE:
+        return None
+    time = (time & 0x007F007F007F007F) | (time & 0x7F007F007F007F00) >> 1  # seven bits of each byte come together
+    time = (time & 0x00003FFF00003FFF) | (time & 0x3FFF00003FFF0000) >> 2
+    time = (time & 0x000000000FFFFFFF) | (time & 0x0FFFFFFF00000000) >> 4 | data[name + 9] << 56
+    return data[at + 2 : name], time, data[content:end]
+
+
+def each_message(data):
+    """The messages of a record one by one, each a channel, a time and a content."""
+    for kind, body in sections_of(data):
+        at = 0
+        while kind == 2 and at < len(body):
+            if body[at] != 10:
+                raise ValueError("a chunk with something else than messages")
+            size, start = body[at + 1], at + 2
+            if size > 127:
+                size, start = read_varint(body, at + 1)
+            at = start + size
+            if at > len(body):
+                raise ValueError("a chunk that is cut")
+            yield size > 12 and plain_message(body, start, at) or message_of(body[start:at])
 
 
 def messages_of(data):
-    """The messages of a record, each a channel, a time and a content."""
-    found = []
-    for kind, body in sections_of(data):
-        if kind == 2:
-            for _, message in fields_of(body):
-                fields = dict(fields_of(message))
-                found.append((fields.get(1, b""), fields.get(2, 0), fields.get(3, b"")))
-    return found
+    """The messages of a record in a list."""
+    return list(each_message(data))
 
 
 def forms_of(data):

@@ -1,0 +1,124 @@
+#!/usr/bin/env python3
+"""Plays one drive of a table, and leaves a row that tells what came of it.
+
+    play.py --table F --drive NAME --program F --out DIR [--good DIR] [--verify WORDS]
+
+writes DIR/NAME/row.json last and in one piece, so that a drive with a row is done. A play that ends with a status, whichever, is done; one
+that a signal ended isn't, and then this ends with status 1. GOOD is the folder of an earlier batch, with whose record this one is compared.
+WORDS are those of a further command of the program, with {record}, {dag}, {out} and {trace} in place of the files.
+"""
+import argparse
+import hashlib
+import json
+import mmap
+import os
+import re
+import shlex
+import subprocess
+import sys
+import time
+
+sys.path.insert(0, os.path.join(os.path.dirname(os.path.abspath(__file__)), "..", "tools"))
+from drives import read_table, row_of, words_of
+from record import each_message
+
+COUNTS = re.compile(r"done: played (?P<played>\d+), shadowed (?P<shadowed>\d+), calls (?P<calls>\d+), written (?P<written>\d+)")
+LONGEST_LINE = 2000
+
+
+def run(command):
+    """Runs a command: its status, its line, the seconds, the processor's seconds, and its most memory in bytes."""
+    start = time.monotonic()
+    with subprocess.Popen(command, stdin=subprocess.DEVNULL, stdout=subprocess.PIPE, stderr=subprocess.STDOUT) as process:
+        line = process.stdout.read(LONGEST_LINE).decode("utf-8", "replace")
+        process.stdout.read()
+        _, ended, used = os.wait4(process.pid, 0)
+        process.returncode = os.waitstatus_to_exitcode(ended)
+    return {
+        "status": process.returncode,
+        "line": line.strip(),
+        "seconds": round(time.monotonic() - start, 3),
+        "processor": round(used.ru_utime + used.ru_stime, 3),
+        "memory": used.ru_maxrss * 1024,
+    }
+
+
+def digest_of(path):
+    """A sum of a file; of those that can be trusted it takes least time."""
+    found = hashlib.blake2b(digest_size=32)
+    with open(path, "rb") as file:
+        while piece := file.read(1 << 20):
+            found.update(piece)
+    return found.hexdigest()
+
+
+def first_difference(path, good):
+    """The first message in which two records differ, or a text that says that only their files do."""
+    # The files are mapped, so that of each no more than a chunk is in memory.
+    with open(path, "rb") as one, open(good, "rb") as other:
+        files = [mmap.mmap(it.fileno(), 0, access=mmap.ACCESS_READ) for it in (one, other)]
+    messages, others = map(each_message, files)
+    at = 0
+    while True:
+        message, wanted = next(messages, None), next(others, None)
+        if message is None and wanted is None:
+            return "none of the messages, but the files"
+        if message != wanted:
+            shown = [it and f"{it[0].decode('utf-8', 'replace')} at {it[1]} 0x{it[2][:32].hex()}" or "the end" for it in (message, wanted)]
+            return f"message {at + 1}: {shown[0]}, was {shown[1]}"
+        at += 1
+
+
+def compare(row, folder, good, name):
+    """What differs from an earlier batch: nothing, `no good run`, or the first difference."""
+    before = row_of(good, name) if good else None
+    if not before or before["status"] != 0:
+        return "no good run" if good else ""
+    if row["status"] != 0:
+        return f"status {row['status']}, was 0"
+    if row["digest"] == before["digest"]:
+        return "trace" if row["trace digest"] != before["trace digest"] else ""
+    record = os.path.join(good, name, "out.rec")
+    if not os.path.isfile(record):
+        return "the record, whose good one isn't kept"
+    return first_difference(os.path.join(folder, "out.rec"), record)
+
+
+def play(words, drive):
+    """The row of a drive, None where a signal ended its play."""
+    folder = os.path.join(words.out, words.drive)
+    out, trace = os.path.join(folder, "out.rec"), os.path.join(folder, "out.trace")
+    os.makedirs(folder, exist_ok=True)
+    row = {"drive": words.drive} | run([words.program] + words_of(drive, out, trace))
+    if row["status"] < 0:
+        return None
+    if row["status"] == 0:
+        row |= {key: int(value) for key, value in COUNTS.match(row["line"]).groupdict().items()}
+        row |= {"digest": digest_of(out), "trace digest": digest_of(trace)}
+    if row["status"] == 0 and words.verify:
+        names = {"{record}": drive["record"], "{dag}": drive["dag"], "{out}": out, "{trace}": trace}
+        verified = run([words.program] + [names.get(it, it) for it in shlex.split(words.verify)])
+        row["verify"] = "verified" if verified["status"] == 0 else f"status {verified['status']}: {verified['line']}"
+    row["difference"] = compare(row, folder, words.good, words.drive)
+    return row
+
+
+def main():
+    reader = argparse.ArgumentParser(description=__doc__.split("\n")[0])
+    for name in ("--table", "--drive", "--program", "--out"):
+        reader.add_argument(name, required=True)
+    reader.add_argument("--good", default="")
+    reader.add_argument("--verify", default="")
+    words = reader.parse_args()
+    row = play(words, read_table(words.table)[words.drive])
+    if row is None:
+        print(f"play.py: a signal ended the play of {words.drive}", file=sys.stderr)
+        return 1
+    path = os.path.join(words.out, words.drive, "row.json")
+    with open(f"{path}.new", "w", encoding="utf-8") as file:
+        json.dump(row, file, indent=1)
+    os.replace(f"{path}.new", path)
+    return 0
+
+
+sys.exit(main())

@@ -1,0 +1,25 @@
+# Completions of `cyber` for bash: its commands, their options, and files where files are named.
+_cyber() {
+  local word=${COMP_WORDS[COMP_CWORD]} before=${COMP_WORDS[COMP_CWORD - 1]} options=
+  COMPREPLY=()
+  if [ "$COMP_CWORD" -eq 1 ]; then
+    mapfile -t COMPREPLY < <(compgen -W 'play pass check info make' -- "$word")
+    return
+  fi
+  case ${COMP_WORDS[1]} in
+    play) options='--serial --dag --record --out --trace --sched --channels --drop --begin --end' ;;
+    check) options='--dag --sched' ;;
+  esac
+  case $before in
+    --channels | --drop | --begin | --end) return ;;
+  esac
+  if [[ $word == -* ]]; then
+    mapfile -t COMPREPLY < <(compgen -W "$options" -- "$word")
+  elif [ "${COMP_WORDS[1]}" = make ] && [ "$COMP_CWORD" -eq 2 ]; then
+    return
+  else
+    compopt -o filenames 2>/dev/null
+    mapfile -t COMPREPLY < <(compgen -f -- "$word")
+  fi
+}
+complete -F _cyber cyber

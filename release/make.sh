@@ -1,0 +1,115 @@
+#!/usr/bin/env bash
+# Packs the proved program: a tarball and, where there is dpkg-deb, a Debian package, with the manual page, the completions of two shells,
+# the examples and the file PROVED. Usage: release/make.sh [--out DIR] [--gate LOG] [PROGRAM]
+# PROGRAM is by default what the gate left in this repository, DIR is release/out, and LOG what the gate printed.
+set -euo pipefail
+top=$(cd "$(dirname "$0")/.." && pwd)
+out=$top/release/out
+gate=
+program=$top/crates/cyber/out/cyber
+name=zektrob
+
+fail() {
+  echo "release/make.sh: $1" >&2
+  exit 1
+}
+
+while [ $# -gt 0 ]; do
+  case $1 in
+    --out) out=$2; shift 2 ;;
+    --gate) gate=$2; shift 2 ;;
+    -*) fail "no such option: $1" ;;
+    *) program=$1; shift ;;
+  esac
+done
+[ -x "$program" ] || fail "no program at $program"
+if [ -n "$gate" ]; then
+  [ -r "$gate" ] || fail "no log at $gate"
+  faults=$(grep -m 1 -E '^rt: FAILED|^[0-9]+ passed, [1-9][0-9]* failed' "$gate" || true)
+  [ -z "$faults" ] || fail "the gate failed: $faults"
+fi
+
+commit=$(git -C "$top" rev-parse HEAD)
+date=$(git -C "$top" show -s --format=%ct HEAD)
+version=0~$(date -u -d "@$date" +%Y%m%d).${commit:0:8}
+machine=$(uname -m)
+stage=$(mktemp -d)
+trap 'rm -rf "$stage"' EXIT
+doc=$stage/usr/share/doc/$name
+
+# What was built from what, by which toolchain, and what the gate said; only what is at hand is claimed.
+write_proved() {
+  local state='' logic='not known: no log of the gate was given' said='none was given'
+  [ -z "$(git -C "$top" status --porcelain -- crates crates.txt HANDLES)" ] || state=' with changes that are not committed'
+  if [ -n "$gate" ]; then
+    # What measured the gate may have printed its times behind that.
+    said=$(grep -E '^[0-9]+ passed, 0 failed$' "$gate" | tail -n 1 || true)
+    logic=$(sed -n 's/.*logic=proved .*sum=\([0-9a-f]*\).*/\1/p' "$gate" | tail -n 1)
+  fi
+  echo "commit $commit$state"
+  echo "logic ${logic:-not named in the log of the gate}"
+  echo "gate ${said:-has no last line in its log}"
+  echo "sha256 of the files beside this one:"
+  (cd "$stage/usr" && find . -type f ! -name PROVED -printf '%P\n' | LC_ALL=C sort | xargs -d '\n' sha256sum)
+}
+
+fill_stage() {
+  mkdir -p "$stage/usr/bin" "$stage/usr/share/man/man1" "$stage/usr/share/bash-completion/completions" \
+    "$stage/usr/share/zsh/vendor-completions" "$doc"
+  install -m 755 "$program" "$stage/usr/bin/cyber"
+  python3 "$top/release/manual.py" "$top/docs/COMMANDS.md" "$version" "$date" | gzip -9n >"$stage/usr/share/man/man1/cyber.1.gz"
+  install -m 644 "$top/release/cyber.bash" "$stage/usr/share/bash-completion/completions/cyber"
+  install -m 644 "$top/release/cyber.zsh" "$stage/usr/share/zsh/vendor-completions/_cyber"
+  (cd "$top" && git ls-files examples docs README.md) | while read -r file; do
+    install -D -m 644 "$top/$file" "$doc/$file"
+  done
+  write_proved >"$doc/PROVED"
+  find "$stage/usr" -exec touch -h -d "@$date" {} +
+}
+
+make_tarball() {
+  local folder=$name-${version#0~}
+  tar --sort=name --owner=0 --group=0 --numeric-owner --mtime="@$date" --transform "s,^usr,$folder," -C "$stage" -cf - usr |
+    gzip -9n >"$out/$folder-$machine.tar.gz"
+  echo "$out/$folder-$machine.tar.gz"
+}
+
+# The least version of the C library that the program's symbols ask for; nothing where it asks for none.
+library_version() {
+  { grep -ao 'GLIBC_[0-9][0-9.]*' "$program" || true; } | sed 's/GLIBC_//' | sort -V | tail -n 1
+}
+
+make_package() {
+  local least architecture package
+  architecture=$(dpkg --print-architecture)
+  least=$(library_version)
+  package=$out/${name}_${version}_$architecture.deb
+  mkdir "$stage/DEBIAN"
+  (cd "$stage" && find usr -type f | LC_ALL=C sort | xargs -d '\n' md5sum) >"$stage/DEBIAN/md5sums"
+  cat >"$stage/DEBIAN/control" <<CONTROL
+Package: $name
+Version: $version
+Architecture: $architecture
+Maintainer: The Zektrob project <zektrob@localhost>
+Section: science
+Priority: optional
+Installed-Size: $(du -sk "$stage/usr" | cut -f 1)
+${least:+Depends: libc6 (>= $least)
+}Description: proved component runtime that replays recorded messages
+ The program cyber plays records of Apollo Cyber RT through components and
+ writes a record of all messages and a trace of all calls. What it promises
+ of a replay is proved; the file PROVED says of what commit and by what.
+CONTROL
+  SOURCE_DATE_EPOCH=$date dpkg-deb --root-owner-group --build "$stage" "$package" >/dev/null
+  echo "$package"
+}
+
+umask 022
+mkdir -p "$out"
+fill_stage
+make_tarball
+if command -v dpkg-deb >/dev/null; then
+  make_package
+else
+  echo "release/make.sh: no dpkg-deb, so no Debian package" >&2
+fi

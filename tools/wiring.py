@@ -1,0 +1,74 @@
+"""Which channels the components of a trace read and write: as `cyber check` prints it, or as far as a run itself shows it."""
+import re
+
+from trace import QUOTED, unquoted
+
+COMPONENT = re.compile(
+    rb'component (?P<name>"(?:[^"\\]|\\.)*") class \S+ reads (?P<reads>"(?:[^"\\]|\\.)*"(?: "(?:[^"\\]|\\.)*")*)'
+    rb' queue \d+ writes (?P<writes>"(?:[^"\\]|\\.)*")'
+)
+
+
+def read_wiring(path):
+    """By the name of each component in a text of `check`: the list of the channels that it reads, and the one that it writes."""
+    with open(path, "rb") as file:
+        found = [match for match in map(COMPONENT.match, file) if match]
+    if not found:
+        raise ValueError(f"{path}: no component; this has to be what `cyber check` prints")
+    return {
+        unquoted(it["name"][1:-1]): ([unquoted(text) for text in QUOTED.findall(it["reads"])], unquoted(it["writes"][1:-1]))
+        for it in found
+    }
+
+
+class Deduction:
+    """Finds the channels that fit the calls of a component: by counts, times and values, and since causes stand first on the tape."""
+
+    def __init__(self, trace, times, values):
+        """`times` has, by channel, the times of its messages in their order, and `values` the whole numbers of the first ones."""
+        self.trace, self.times, self.values = trace, times, values
+        self.places = {channel: [] for channel in times}
+        for place, number in enumerate(trace.tape_channels):
+            self.places[trace.channels[number]].append(place)
+
+    def writes(self, component, channel):
+        """Whether the messages of a channel may be the outputs of a component: as many, with the same times and values."""
+        calls = [call for call, output in enumerate(component.outputs) if output]
+        if not calls or [component.times[call] for call in calls] != list(self.times[channel]):
+            return False
+        values = [component.values[call] if component.valued[call] else None for call in calls[: len(self.values[channel])]]
+        return values == self.values[channel]
+
+    def reads(self, component, role, channel, out):
+        """Whether a reader of a component that writes `out` may have been filled with a channel."""
+        times, width, places = self.times[channel], component.width, self.places[channel]
+        if channel == out or component.roles.count(b"%d" % role) != len(times):
+            return False
+        made = self.places.get(out, [])
+        for call, sequence in enumerate(component.sequences[role::width] if width else []):
+            output = component.outputs[call]
+            if sequence > len(times) or (output and role == 0 and times[sequence - 1] > component.times[call]):
+                return False
+            if output and made and places[sequence - 1] > made[output - 1]:
+                return False
+        return True
+
+    def fits(self, component):
+        """Each channel that a component may write, with the channels that each of its readers may then read."""
+        found = []
+        for out in [it for it in self.times if self.writes(component, it)] or [None]:
+            readers = [[it for it in self.times if self.reads(component, role, it, out)] for role in range(component.readers)]
+            if all(readers):
+                found.append((out, readers))
+        return found
+
+    def wiring(self):
+        """As `read_wiring`; a channel is None where none or more than one fits. And the names of the components with such a one."""
+        found, doubts = {}, []
+        for it in self.trace.components:
+            fits = self.fits(it)
+            out, readers = fits[0] if len(fits) == 1 else (None, [[]] * it.readers)
+            found[it.name] = ([channels[0] if len(channels) == 1 else None for channels in readers], out)
+            if it.width and (out is None and any(it.outputs) or None in found[it.name][0]):
+                doubts.append(it.name)
+        return found, doubts
