@@ -1,9 +1,11 @@
 -- What a world begins with.
 use Rattle.std.specs.Prelude.{ℕ, ◌≡◌, ◌≤◌, List, [], length, map, sum, slice_get, Some}
-use Rattle.std.specs.Prelude.{vec_capacity}
+use Rattle.std.specs.Prelude.{vec_capacity, Bool, false, Option, None, replicate}
 use Rattle.cy_fuse.specs.Visitor.{VisitorView, prepared}
 use Rattle.cy_comp.specs.Routine.{RoutineView, new_routine}
+use Rattle.wake_core.specs.declared.found.Found.{Found}
 use Rattle.wake_core.specs.declared.owed.Owed.{Owed}
+use Rattle.wake_core.specs.declared.phase.Hand.{Hand}
 use Rattle.wake_core.specs.Run.{Route}
 use Rattle.wake_core.specs.Planned.{planned_count, first_reader}
 use Rattle.wake_core.specs.Plain.{blank}
@@ -32,3 +34,11 @@ pub record IsNothing (room : ℕ) (o : Owed) : Type 0 where
 pub record AreNothing (room count : ℕ) (owed : List Owed) : Type 0 where
   pub many : length owed ≡ count
   pub each : (p : ℕ) (o : Owed) → slice_get owed p ≡ Some o → IsNothing room o
+
+-- So many components, of which nobody holds one, and threads that owe nothing.
+pub record AreUnheld (size room : ℕ) (f : List (Option Found)) (h : List Bool)
+    (hs : List (Option Hand)) (o : List Owed) : Type 0 where
+  pub found : f ≡ replicate size None
+  pub held : h ≡ replicate size false
+  pub hands : hs ≡ replicate 65 None
+  pub owed : AreNothing room 65 o

@@ -3,7 +3,7 @@ ghost use Rattle.std.specs.Prelude.{◌≡◌, map, IfOk, IfErr};
 ghost use Rattle.wake_core.specs.declared.error.CoreError.TheVariants as CoreError;
 ghost use Rattle.wake_core.specs.Sent.{outputs_of, sent_of as sent_by_calls, IsCounted, AreCounted};
 
-use super::opening::{THREADS, owed_for};
+use super::opening::{Unheld, held_by_nobody};
 use crate::{CoreError, Parts, World};
 use cy_comp::{Call, Routine};
 use cy_msg::Items;
@@ -48,12 +48,18 @@ impl Parts {
     {
         let size = self.routines.as_slice().len();
         let sent = sent_by(alloc, self.routines.as_slice())?;
+        let Unheld {
+            found,
+            held,
+            hands,
+            owed,
+        } = held_by_nobody(alloc, size, 4 * size)?;
         Ok(World {
-            found: vec![in alloc; None; size]?,
+            found,
             sent,
-            held: vec![in alloc; false; size]?,
-            hands: vec![in alloc; None; THREADS]?,
-            owed: owed_for(alloc, 4 * size)?,
+            held,
+            hands,
+            owed,
             fixed: self.fixed,
             visitors: self.visitors.into_vec(),
             routines: self.routines.into_vec(),

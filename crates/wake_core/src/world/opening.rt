@@ -5,10 +5,13 @@ ghost use Rattle.wake_core.specs.declared.entries.TheConstants.{MOST_PLANNED};
 ghost use Rattle.wake_core.specs.Run.{routes_of};
 ghost use Rattle.wake_core.specs.Planned.{planned as planned_entries};
 ghost use Rattle.wake_core.specs.Opening.{first_visitor, first_routine, IsNothing, AreNothing};
+ghost use Rattle.wake_core.specs.Opening.{AreUnheld};
 
 use crate::entries::{planned_at, planned_messages, planned_on};
 use crate::fixed::Fixed;
+use crate::found::Found;
 use crate::owed::Owed;
+use crate::phase::Hand;
 use crate::{CoreError, MOST_PLANNED, World, planned};
 use cy_comp::{Routine, Wiring};
 use cy_fuse::Visitor;
@@ -16,7 +19,7 @@ use cy_msg::Token;
 use std::alloc::Global;
 
 // The threads: the player and 64 others.
-pub(super) const THREADS: usize = 65;
+const THREADS: usize = 65;
 
 impl World {
     ghost use Rattle.std.specs.Prelude.{◌≡◌, ◌≤◌, ◌↔◌, ℕ, length, IfOk, IfErr, IsErrOf};
@@ -54,22 +57,56 @@ impl World {
     {
         let fixed = Fixed::new(alloc, wiring, counts)?;
         let size = wiring.plans.as_slice().len();
+        let visitors = visitors_for(alloc, wiring, counts)?;
+        let routines = routines_for(alloc, wiring, counts)?;
+        let spent = vec![in alloc; true; size]?;
+        let sent = vec![in alloc; 0; size]?;
+        let tape = Vec::with_capacity(alloc, planned_messages(wiring, counts) as usize)?;
+        let Unheld {
+            found,
+            held,
+            hands,
+            owed,
+        } = held_by_nobody(alloc, size, 4 * size)?;
         Ok(World {
             fixed,
-            visitors: visitors_for(alloc, wiring, counts)?,
-            routines: routines_for(alloc, wiring, counts)?,
-            found: vec![in alloc; None; size]?,
-            spent: vec![in alloc; true; size]?,
-            sent: vec![in alloc; 0; size]?,
-            held: vec![in alloc; false; size]?,
-            hands: vec![in alloc; None; THREADS]?,
-            owed: owed_for(alloc, 4 * size)?,
-            tape: Vec::with_capacity(alloc, planned_messages(wiring, counts) as usize)?,
+            visitors,
+            routines,
+            found,
+            spent,
+            sent,
+            held,
+            hands,
+            owed,
+            tape,
             played: 0,
             clock: 0,
             closing: false,
         })
     }
+}
+
+// What a world has of its threads while nobody holds a croutine or owes anything.
+#[derive(Drop)]
+pub(super) struct Unheld {
+    pub(super) found: Vec<Option<Found>>,
+    pub(super) held: Vec<bool>,
+    pub(super) hands: Vec<Option<Hand>>,
+    pub(super) owed: Vec<Owed>,
+}
+
+// The same for so many components, with room for so many of them in each list.
+pub(super) fn held_by_nobody(alloc: Global, size: usize, room: usize) -> Result<Unheld, CoreError>
+    ensures unheld { IfOk result (λ u.
+        AreUnheld size room u.found.items u.held.items u.hands.items u.owed.items) }
+    ensures memory { IfErr result (λ e. e ≡ CoreError.Memory) }
+{
+    Ok(Unheld {
+        found: vec![in alloc; None; size]?,
+        held: vec![in alloc; false; size]?,
+        hands: vec![in alloc; None; THREADS]?,
+        owed: owed_for(alloc, room)?,
+    })
 }
 
 // The visitors, before anything arrived: each keeps as many tuples as its component's queue, or as
@@ -116,7 +153,7 @@ fn routines_for(alloc: Global, wiring: &Wiring, counts: &[u32]) -> Result<Vec<Ro
 }
 
 // What the threads owe, which is nothing, with room for so many components in each list.
-pub(super) fn owed_for(alloc: Global, room: usize) -> Result<Vec<Owed>, CoreError>
+fn owed_for(alloc: Global, room: usize) -> Result<Vec<Owed>, CoreError>
     ensures owed { IfOk result (λ v. AreNothing room 65 v.items) }
     ensures memory { IfErr result (λ e. e ≡ CoreError.Memory) }
 {

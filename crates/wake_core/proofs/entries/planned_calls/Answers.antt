@@ -1,8 +1,17 @@
-use Rattle.std.proofs.Common.{◌∙◌, ◌<◌, ap, length, slice_index, List, ℕ, arith}
+use Rattle.std.proofs.Common.{◌≡◌, ◌∙◌, ◌<◌, ap, length, slice_index, List, ℕ, arith}
 use Rattle.wake_core.specs.Run.{Route, route_of, routes_of}
 use Rattle.wake_core.specs.Planned.{planned_count, first_reader}
 use Rattle.wake_core.proofs.Counting.{sum_added, plan_at, route_at}
 use Rattle.wake_core.proofs.entries.planned_calls.Goals as goal
+
+pub bounds-as_slice-0 : goal.bounds-as_slice-0
+bounds-as_slice-0 c =
+    let plans = c.args.wiring.now.plans in
+    let within : c.loop-plan.plan-index < length c.as_slice-plan-items.result.now = omega (arith, c.loop-plan-test.true) in
+    let at = plan_at plans c.as_slice-plan-items.result.now c.loop-plan.plan-index c.plan-item.result c.as_slice-plan-items.ensures within c.plan-item.is in
+    let some = c.args.wiring.now.lawful.some_reader c.loop-plan.plan-index c.plan-item.result at in
+    let is : length c.as_slice.result.now ≡ length c.plan-item.result.readers = ap length c.as_slice.ensures in
+    omega (arith, is, some)
 
 pub loop-plan-preserved : goal.loop-plan-preserved
 loop-plan-preserved c =

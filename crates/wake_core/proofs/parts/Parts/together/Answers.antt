@@ -23,10 +23,11 @@ invariant_of-result c =
     let visitors = c.into_vec.ensures in
     let routines = c.into_vec-2.ensures in
     let spent = c.into_vec-3.ensures in
-    let found : c.in_ok-vec.field-0.items ≡ replicate n None = c.in_ok-vec.ensures.items_if_clones_equal (none_alone _ (λ x e. e)) in
-    let held : c.in_ok-vec-2.field-0.items ≡ replicate n false = c.in_ok-vec-2.ensures.items_if_clones_equal (λ y e. e) in
-    let hands : c.in_ok-vec-3.field-0.items ≡ replicate 65 None = c.in_ok-vec-3.ensures.items_if_clones_equal (none_alone _ (λ x e. e)) in
-    let owed = c.in_ok-owed_for.ensures.owed in
+    let unheld = c.in_ok-found.ensures.unheld in
+    let found = unheld.found in
+    let held = unheld.held in
+    let hands = unheld.hands in
+    let owed = unheld.owed in
     let sent = c.in_ok-sent.ensures.sent ∙ ap (Rattle.std.proofs.Common.map sent_of) c.as_slice.ensures in
     record {
       sized = record {
@@ -54,9 +55,9 @@ unfolding plain_of to_step
 returns-clause-world c =
     let p = c.args.self in
     let n = length c.as_slice-size.result.now in
-    let found : c.in_ok-vec.field-0.items ≡ replicate n None = c.in_ok-vec.ensures.items_if_clones_equal (none_alone _ (λ x e. e)) in
-    let hands : c.in_ok-vec-3.field-0.items ≡ replicate 65 None = c.in_ok-vec-3.ensures.items_if_clones_equal (none_alone _ (λ x e. e)) in
+    let unheld = c.in_ok-found.ensures.unheld in
+    let found = unheld.found in
     record {
-      shown = together_shown p c.requires c.into_vec.ensures c.into_vec-2.ensures c.into_vec-3.ensures n _ found hands c.in_ok-owed_for.ensures.owed;
+      shown = together_shown p c.requires c.into_vec.ensures c.into_vec-2.ensures c.into_vec-3.ensures n _ found unheld.hands unheld.owed;
       stepped = λ k. ap (λ (fs : List (Option Found)). option_map (λ (f : Found). f.tuple) (read (λ f. f) None fs k)) found ∙ ap (λ (fs : ℕ → Option Found). option_map (λ (f : Found). f.tuple) (fs k)) (read_equal None n);
     }

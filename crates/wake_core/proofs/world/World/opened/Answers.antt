@@ -16,16 +16,17 @@ invariant_of-result c =
     let plans = c.args.wiring.now.plans in
     let routes = c.in_ok-fixed.ensures.routes in
     let counts = c.in_ok-fixed.ensures.counts in
-    let visitors = c.in_ok-visitors_for.ensures.visitors in
-    let routines = c.in_ok-routines_for.ensures.routines in
+    let visitors = c.in_ok-visitors.ensures.visitors in
+    let routines = c.in_ok-routines.ensures.routines in
     let n = length c.as_slice-size.result.now in
-    let found : c.in_ok-vec.field-0.items ≡ replicate n None = c.in_ok-vec.ensures.items_if_clones_equal (none_alone _ (λ x e. e)) in
-    let spent : c.in_ok-vec-2.field-0.items ≡ replicate n true = c.in_ok-vec-2.ensures.items_if_clones_equal (λ y e. e) in
-    let sent : c.in_ok-vec-3.field-0.items ≡ replicate n 0 = c.in_ok-vec-3.ensures.items_if_clones_equal (λ y e. e) in
-    let held : c.in_ok-vec-4.field-0.items ≡ replicate n false = c.in_ok-vec-4.ensures.items_if_clones_equal (λ y e. e) in
-    let hands : c.in_ok-vec-5.field-0.items ≡ replicate 65 None = c.in_ok-vec-5.ensures.items_if_clones_equal (none_alone _ (λ x e. e)) in
-    let owed = c.in_ok-owed_for.ensures.owed in
-    let tape = c.in_ok-with_capacity.ensures.items in
+    let unheld = c.in_ok-found.ensures.unheld in
+    let found = unheld.found in
+    let spent : c.in_ok-spent.spent.items ≡ replicate n true = c.in_ok-spent.ensures.items_if_clones_equal (λ y e. e) in
+    let sent : c.in_ok-sent.sent.items ≡ replicate n 0 = c.in_ok-sent.ensures.items_if_clones_equal (λ y e. e) in
+    let held = unheld.held in
+    let hands = unheld.hands in
+    let owed = unheld.owed in
+    let tape = c.in_ok-tape.ensures.items in
     let size : n ≡ length c.in_ok-fixed.fixed.routes.items = ap length c.as_slice-size.ensures ∙ sym (length-map plans route_of) ∙ ap length (sym routes) in
     record {
       sized = record {
@@ -42,7 +43,7 @@ invariant_of-result c =
       stepping = stepping_from n found;
       waiting = waiting_from c.args.counts.now n routes routines found sent tape;
       visited = visited_from routes counts visitors;
-      roomy = roomy_from routes counts visitors routines (omega (arith, c.planned_messages.ensures.sum, c.in_ok-with_capacity.ensures.capacity));
+      roomy = roomy_from routes counts visitors routines (omega (arith, c.planned_messages.ensures.sum, c.in_ok-tape.ensures.capacity));
       owing = owing_from size owed;
       counted = counted_from c.in_ok-fixed.fixed.routes.items tape;
       sound = sound_from (plain_from n routes counts visitors routines found spent hands owed tape)
@@ -53,10 +54,10 @@ pub returns-clause-opening : goal.returns-clause-opening
 unfolding plain_of to_step
 returns-clause-opening c =
     let n = length c.as_slice-size.result.now in
-    let found : c.in_ok-vec.field-0.items ≡ replicate n None = c.in_ok-vec.ensures.items_if_clones_equal (none_alone _ (λ x e. e)) in
-    let spent : c.in_ok-vec-2.field-0.items ≡ replicate n true = c.in_ok-vec-2.ensures.items_if_clones_equal (λ y e. e) in
-    let hands : c.in_ok-vec-5.field-0.items ≡ replicate 65 None = c.in_ok-vec-5.ensures.items_if_clones_equal (none_alone _ (λ x e. e)) in
+    let unheld = c.in_ok-found.ensures.unheld in
+    let found = unheld.found in
+    let spent : c.in_ok-spent.spent.items ≡ replicate n true = c.in_ok-spent.ensures.items_if_clones_equal (λ y e. e) in
     record {
-      opens = plain_from n c.in_ok-fixed.ensures.routes c.in_ok-fixed.ensures.counts c.in_ok-visitors_for.ensures.visitors c.in_ok-routines_for.ensures.routines found spent hands c.in_ok-owed_for.ensures.owed c.in_ok-with_capacity.ensures.items;
+      opens = plain_from n c.in_ok-fixed.ensures.routes c.in_ok-fixed.ensures.counts c.in_ok-visitors.ensures.visitors c.in_ok-routines.ensures.routines found spent unheld.hands unheld.owed c.in_ok-tape.ensures.items;
       stepped = λ k. ap (λ (fs : List (Option Found)). option_map (λ (f : Found). f.tuple) (read (λ f. f) None fs k)) found ∙ ap (λ (fs : ℕ → Option Found). option_map (λ (f : Found). f.tuple) (fs k)) (read_equal None n);
     }

@@ -1,4 +1,4 @@
-use Rattle.std.proofs.Common.{◌<◌, ◌++◌, ◌∷◌, [], ◌∙◌, sym, ap, length, take, map, List, arith}
+use Rattle.std.proofs.Common.{◌≡◌, ◌<◌, ◌++◌, ◌∷◌, [], ◌∙◌, sym, ap, length, take, map, List, arith}
 use Rattle.cy_comp.specs.Routine.{RoutineView}
 use Rattle.wake_core.specs.Run.{route_of, routes_of}
 use Rattle.wake_core.specs.Opening.{first_routine}
@@ -6,6 +6,15 @@ use Rattle.wake_core.proofs.Counting.{plan_at, route_at}
 use Rattle.wake_core.proofs.Listing.{take_next}
 use Rattle.wake_core.proofs.Beginning.{routine_is, made_at}
 use Rattle.wake_core.proofs.world.opening.routines_for.Goals as goal
+
+pub bounds-as_slice-0 : goal.bounds-as_slice-0
+bounds-as_slice-0 c =
+    let plans = c.args.wiring.now.plans in
+    let within : c.loop-plan.plan-index < length c.as_slice-plan-items.result.now = omega (arith, c.loop-plan-test.true) in
+    let at = plan_at plans c.as_slice-plan-items.result.now c.loop-plan.plan-index c.plan-item.result c.as_slice-plan-items.ensures within c.plan-item.is in
+    let some = c.args.wiring.now.lawful.some_reader c.loop-plan.plan-index c.plan-item.result at in
+    let is : length c.as_slice-in-loop-plan.result.now ≡ length c.plan-item.result.readers = ap length c.as_slice-in-loop-plan.ensures in
+    omega (arith, is, some)
 
 pub loop-plan-preserved : goal.loop-plan-preserved
 loop-plan-preserved c =

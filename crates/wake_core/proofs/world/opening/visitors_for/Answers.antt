@@ -1,4 +1,4 @@
-use Rattle.std.proofs.Common.{◌≡◌, ◌<◌, ◌++◌, ◌∷◌, [], ◌∙◌, sym, ap, length, take, map, sum, List, ℕ, arith}
+use Rattle.std.proofs.Common.{◌≡◌, ◌<◌, subst, Some, slice_get, ◌++◌, ◌∷◌, [], ◌∙◌, sym, ap, length, take, map, sum, List, ℕ, arith}
 use Rattle.cy_fuse.specs.Visitor.{VisitorView}
 use Rattle.wake_core.specs.declared.entries.TheConstants.{MOST_PLANNED}
 use Rattle.wake_core.specs.Run.{route_of, routes_of}
@@ -8,6 +8,32 @@ use Rattle.wake_core.proofs.Counting.{plan_at, route_at}
 use Rattle.wake_core.proofs.Listing.{take_next}
 use Rattle.wake_core.proofs.Beginning.{visitor_is, arrivals_limit, made_at}
 use Rattle.wake_core.proofs.world.opening.visitors_for.Goals as goal
+
+pub bounds-readers-0 : goal.bounds-readers-0
+bounds-readers-0 c =
+    let plans = c.args.wiring.now.plans in
+    let within : c.loop-plan.plan-index < length c.as_slice-plan-items.result.now = omega (arith, c.loop-plan-test.true) in
+    let at = plan_at plans c.as_slice-plan-items.result.now c.loop-plan.plan-index c.plan-item.result c.as_slice-plan-items.ensures within c.plan-item.is in
+    let some = c.args.wiring.now.lawful.some_reader c.loop-plan.plan-index c.plan-item.result at in
+    let is : length c.as_slice-readers.result.now ≡ length c.plan-item.result.readers = ap length c.as_slice-readers.ensures in
+    omega (arith, is, some)
+
+pub planned_at-spare-requires-clause-few : goal.planned_at-spare-requires-clause-few
+planned_at-spare-requires-clause-few c =
+    let plans = c.args.wiring.now.plans in
+    let within : c.loop-plan.plan-index < length c.as_slice-plan-items.result.now = omega (arith, c.loop-plan-test.true) in
+    let at = plan_at plans c.as_slice-plan-items.result.now c.loop-plan.plan-index c.plan-item.result c.as_slice-plan-items.ensures within c.plan-item.is in
+    let few = c.args.wiring.now.lawful.few_readers c.loop-plan.plan-index c.plan-item.result at in
+    let is : length c.as_slice-readers.result.now ≡ length c.plan-item.result.readers = ap length c.as_slice-readers.ensures in
+    omega (arith, is, few)
+
+pub planned_at-spare-requires-clause-known : goal.planned_at-spare-requires-clause-known
+planned_at-spare-requires-clause-known c = λ j r e.
+    let plans = c.args.wiring.now.plans in
+    let within : c.loop-plan.plan-index < length c.as_slice-plan-items.result.now = omega (arith, c.loop-plan-test.true) in
+    let at = plan_at plans c.as_slice-plan-items.result.now c.loop-plan.plan-index c.plan-item.result c.as_slice-plan-items.ensures within c.plan-item.is in
+    let named = c.args.wiring.now.lawful.readers_named c.loop-plan.plan-index c.plan-item.result at j r (subst (λ (rs : List ℕ). slice_get rs j ≡ Some r) c.as_slice-readers.ensures e) in
+    omega (arith, named, c.requires.counts)
 
 pub overflow_cast-spare : goal.overflow_cast-spare
 overflow_cast-spare c =
