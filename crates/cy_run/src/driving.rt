@@ -15,8 +15,9 @@ use cy_table::{FlagTable, Pass};
 use std::sync::Wait;
 use std::thread::{Threads, join_mut};
 
-/// The player plays a list at the table, while each worker works, in a thread of its own where one
-/// can be made. The player comes first, so that it ends on one thread too. It takes no memory.
+/// The player plays a list at the table, in this thread, while each worker works, in a thread of
+/// its own where one can be made. Where none can be made the workers' turn comes behind the player,
+/// who has closed the run by then, so that it ends on one thread too. It takes no memory.
 pub fn drive<G: Gate, R: Threads + Wait + Sync>(
     rt: &R,
     table: &FlagTable,
@@ -36,10 +37,10 @@ pub fn drive<G: Gate, R: Threads + Wait + Sync>(
 {
     join_mut(
         rt,
-        &mut || play_all(rt, table, player, idle, wiring, list),
         &mut ||
             requires made { IsMadeOf table.now wiring.now.plans }
             requires crew { AreManned table.now contexts.now idle.now crew.now }
         { work_all(rt, table, crew, contexts, idle, wiring, gate) },
+        &mut || play_all(rt, table, player, idle, wiring, list),
     );
 }
