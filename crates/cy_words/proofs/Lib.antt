@@ -6,6 +6,5 @@ pub mod ClapProgram
 pub mod ClapWalk
 pub mod InForm
 pub mod Named
-pub mod NoCommand
 pub mod OptionsRead
 pub mod Read

@@ -5,6 +5,7 @@ ghost use Rattle.clap.specs.Words.{found_of, rows_of};
 ghost use Rattle.cy_words.specs.Kept.{IsFlag, flag_kept, play_in};
 ghost use Rattle.cy_words.specs.PlayWords.{with_digit, number_of, number_or, is_list};
 ghost use Rattle.cy_words.specs.PlayWords.{is_list_or_none, is_no_config, is_other, is_play};
+ghost use Rattle.cy_words.specs.PlayWords.{is_some_of};
 ghost use Rattle.cy_words.specs.PlayWords.{where_play, play_words, asked_by};
 ghost use Rattle.cy_words.specs.PlayViews.{play_words_of, options_of};
 ghost use Rattle.cy_words.specs.Scan.{play_of};
@@ -95,18 +96,22 @@ fn is_list_or_none(text: Option<&str>) -> bool
     }
 }
 
+// Whether a name is the other one, where there is another.
+fn is_some_of(name: &str, other: Option<&str>) -> bool
+    ensures { result ≡ is_some_of name.now (option_map (λ v. v.now) other.entry) }
+{
+    match other {
+        Some(other) => name == other,
+        None => false,
+    }
+}
+
 // Whether a name is none of the files that say which components there are.
 fn is_no_config(name: &str, components: &Components) -> bool
     ensures { result ≡ is_no_config name.now (components_of components.now) }
 {
     match *components {
-        Components::Files { dag, sched } => {
-            let is_sched = match sched {
-                Some(sched) => name == sched,
-                None => false,
-            };
-            name != dag && !is_sched
-        }
+        Components::Files { dag, sched } => name != dag && !is_some_of(name, sched),
         Components::Pass { .. } => true,
     }
 }

@@ -1,11 +1,12 @@
 // How the program's commands are told to `clap`.
-ghost use Rattle.std.specs.Prelude.{◌≡◌, Some, true, is_some, IfOk, fold, map, option_map};
-ghost use Rattle.clap.specs.Words.{app_of, found_of, new_rule, rows_of};
+ghost use Rattle.std.specs.Prelude.{◌≡◌, Some, true, false, is_some, IfOk, fold, map, option_map};
+ghost use Rattle.clap.specs.Words.{app_of, found_of, new_rule, rows_of, rule_of};
 ghost use Rattle.clap.specs.declared.builder.command.Command.TheViews.{out-Command};
 ghost use Rattle.clap.specs.Words.{subcommand_of, takes, with_rule};
 ghost use Rattle.clap.specs.Walk.{texts};
 ghost use Rattle.cy_words.specs.Program.{IsCommand, check_app, info_app, make_app};
-ghost use Rattle.cy_words.specs.Program.{option_rule, pass_app, play_app, program};
+ghost use Rattle.cy_words.specs.Program.{flag_rule, option_rule, pass_app, play_app, program};
+ghost use Rattle.cy_words.specs.Program.{serial_name};
 
 use crate::WordsError;
 use clap::{Arg, ArgAction, ArgMatches, Command};
@@ -21,6 +22,24 @@ const PASSED: [&str; 5] = ["record", "out", "trace", "from", "to"];
 
 const MADE: [&str; 2] = ["count", "prefix"];
 
+// An option with a value.
+fn value_option<'a>(alloc: Global, name: &'a str) -> Arg<'a>
+    ensures rule { rule_of result ≡ option_rule name.entry.now }
+    ensures local { result.global ≡ false }
+{
+    Arg::new(alloc, name).long(name)
+}
+
+// The flag `--serial`.
+fn serial_flag<'a>(alloc: Global) -> Arg<'a>
+    ensures rule { rule_of result ≡ flag_rule serial_name }
+    ensures local { result.global ≡ false }
+{
+    Arg::new(alloc, "serial")
+        .long("serial")
+        .action(ArgAction::SetTrue)
+}
+
 // A command with further options that have a value.
 fn with_options<'a>(
     alloc: Global,
@@ -33,7 +52,7 @@ fn with_options<'a>(
         ≡ (out-Command command.entry).has_globals) }
 {
     for name in names {
-        command = command.arg(Arg::new(alloc, *name).long(*name))?;
+        command = command.arg(value_option(alloc, name))?;
     }
     Ok(command)
 }
@@ -66,10 +85,7 @@ fn play<'a>(alloc: Global) -> Result<Command<'a>, AllocError>
 {
     let command = with_options(alloc, Command::new(alloc, "play"), &FILES)?;
     let command = with_options(alloc, command, &OTHERS)?;
-    let serial = Arg::new(alloc, "serial")
-        .long("serial")
-        .action(ArgAction::SetTrue);
-    command.arg(serial)
+    command.arg(serial_flag(alloc))
 }
 
 fn info<'a>(alloc: Global) -> Result<Command<'a>, AllocError>

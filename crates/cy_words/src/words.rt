@@ -1,5 +1,5 @@
 // The words that the program takes, command by command.
-ghost use Rattle.std.specs.Prelude.{◌≡◌, option_map};
+ghost use Rattle.std.specs.Prelude.{◌≡◌, ◌∷◌, option_map};
 ghost use Rattle.clap.specs.Words.{found_of, rows_of};
 ghost use Rattle.cy_words.specs.Kept.{IsFlag, asked_in, flag_kept, info_in};
 ghost use Rattle.cy_words.specs.Words.{is_word, info_of};
@@ -72,14 +72,11 @@ impl<'a> Info<'a> {
     }
 }
 
-/// What the words ask for; None where they are of no known form. It takes no memory.
-pub(crate) fn command_of<'a>(words: &'a [Text]) -> Option<Command<'a>>
-    ensures { option_map command_asked result ≡ command_of words.now }
+// What the words behind the name of a command ask for.
+fn command_named<'a>(name: &str, words: &'a [Text]) -> Option<Command<'a>>
+    ensures { option_map command_asked result ≡ command_of (name.now ∷ words.now) }
 {
-    let [name, words @ ..] = words else {
-        return None;
-    };
-    match name.as_str() {
+    match name {
         "pass" => Some(Command::Play(pass_words(words)?)),
         "check" => Some(Command::Check(check_words(words)?)),
         "info" => Some(Command::Info(info_words(words)?)),
@@ -87,6 +84,16 @@ pub(crate) fn command_of<'a>(words: &'a [Text]) -> Option<Command<'a>>
         "make" => Some(Command::Make(make_words(words)?)),
         _ => None,
     }
+}
+
+/// What the words ask for; None where they are of no known form. It takes no memory.
+pub(crate) fn command_of<'a>(words: &'a [Text]) -> Option<Command<'a>>
+    ensures { option_map command_asked result ≡ command_of words.now }
+{
+    let [name, words @ ..] = words else {
+        return None;
+    };
+    command_named(name.as_str(), words)
 }
 
 /// What the words ask for where there are no threads; None where they are of no known form, or ask
