@@ -1,5 +1,6 @@
 // The texts of what is wrong with the files of a replay.
 ghost use Rattle.std.specs.Prelude.{◌≡◌, ◌++◌, IfOk, OnOk, codes};
+ghost use Rattle.std.specs.Fmt.{decimal};
 ghost use Rattle.cy_msg.specs.Quoted.{quoted};
 ghost use Rattle.cyber_cli.specs.Lines.{file_line, store_line as line_of_store};
 ghost use Rattle.cyber_cli.specs.ConfigText.{numbers_text, named_text, kind_text};
@@ -26,13 +27,20 @@ pub fn push_limit(to: &mut Vec<u8>, what: &str, count: u64) -> io::Result<()>
     write!(to, "limit {what} passed: {count}")
 }
 
+// A number behind a space, at the end of others.
+fn push_number(to: &mut Vec<u8>, number: u32) -> io::Result<()>
+    ensures { OnOk result (to.new.items ≡ to.old.items ++ (codes " " ++ decimal number)) }
+{
+    write!(to, " {number}")
+}
+
 // A name and numbers behind it, at the end of others.
 fn push_numbers(to: &mut Vec<u8>, what: &str, numbers: &[u32]) -> io::Result<()>
     ensures { OnOk result (to.new.items ≡ to.old.items ++ numbers_text what.now numbers.now) }
 {
     write!(to, "{what}")?;
     for number in numbers {
-        write!(to, " {number}")?;
+        push_number(to, *number)?;
     }
     Ok(())
 }

@@ -67,7 +67,8 @@ fn unknown_in(sched: &Sched) -> &[Text]
     ensures { result.now ≡ unknown_in sched.now }
 {
     match sched {
-        Sched::Classic { unknown, .. } | Sched::Choreography { unknown, .. } => unknown.as_slice(),
+        Sched::Classic { unknown, .. } => unknown.as_slice(),
+        Sched::Choreography { unknown, .. } => unknown.as_slice(),
     }
 }
 

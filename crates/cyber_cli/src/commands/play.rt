@@ -54,7 +54,11 @@ struct Told {
 fn parts_of<'a>(alloc: Global, list: &'a str) -> Result<Vec<&'a str>, AllocError>
     ensures { IfOk result (λ parts. map (λ part. part.now) parts.items ≡ names_in list.now) }
 {
-    list.split(',').collect(alloc)
+    let mut parts = Vec::new(alloc);
+    for part in list.split(',') {
+        parts.push(part)?;
+    }
+    Ok(parts)
 }
 
 // The names of a list.
