@@ -12,7 +12,7 @@ use Rattle.cy_section.specs.Chunks.{chunk_raw_size}
 use Rattle.cy_section.specs.RecordText.{least_time, greatest_time, raw_size, chunk_header_of}
 use Rattle.cy_section.proofs.Lengths.{length-section, length-of-message_field, length-message_fields, length-message_field, length-chunk_body-more}
 use Rattle.cy_section.specs.declared.types.SectionKind.{SectionKind}
-use Rattle.cy_section.specs.Section.{section}
+use Rattle.cy_section.specs.Section.{section, head_bytes}
 use Rattle.cy_section.specs.declared.types.SectionKind.TheVariants as kind
 use Rattle.cy_writer.specs.declared.chunk.Chunk.{Chunk}
 use Rattle.cy_writer.specs.Counted.{counted_with}
@@ -141,3 +141,28 @@ pub some_first : (c : Chunk) (messages : List BodyMessage) → IsChunkOf c messa
     → (m : BodyMessage) × ((rest : List BodyMessage) × (messages ≡ m ∷ rest))
 some_first c [] held some = absurd (some (ap (λ (h : ChunkHeader). h.message_number) held.header))
 some_first c (m ∷ rest) held some = (m, (rest, refl))
+
+-- a chunk with no message yet, whose body is empty
+pub begun : (c d : Chunk) (messages : List BodyMessage) → IsChunkOf c messages → c.header.message_number ≡ 0 → d.header ≡ c.header
+    → drop 16 d.section ≡ [] → IsChunkOf d messages
+begun c d messages held none header body =
+    let empty : messages ≡ [] = no_first c messages held none in
+    record {
+      header = header ∙ held.header;
+      first = λ m rest e. absurd (no_cons m rest (sym e ∙ empty));
+      body = body ∙ ap chunk_body (sym empty);
+    }
+
+-- and its first time
+pub begun_first : (c : Chunk) (time : ℕ) (messages : List BodyMessage) (m : BodyMessage) → IsChunkOf c messages → c.header.message_number ≡ 0
+    → m.time ≡ time → BeginsAt time (messages ++ m ∷ [])
+begun_first c time messages m held none same =
+    let empty : messages ≡ [] = no_first c messages held none in
+    λ n later e. sym same ∙ ap (λ (x : BodyMessage). x.time) (head_of m [] n later (ap (λ (ms : List BodyMessage). ms ++ m ∷ []) (sym empty) ∙ e))
+
+-- a head alone has no body
+pub head_alone : (k : SectionKind) (old whole : List ℕ) → old ≡ [] → whole ≡ old ++ head_bytes k 0 → drop 16 whole ≡ []
+head_alone k old whole none e = ap (drop 16) (e ∙ ap (λ (bytes : List ℕ). bytes ++ head_bytes k 0) none)
+
+pub head_whole : (k : SectionKind) (old whole : List ℕ) → old ≡ [] → whole ≡ old ++ head_bytes k 0 → 16 ≤ length whole
+head_whole k old whole none e = omega (arith, ap length e, ap length none, length-append old (head_bytes k 0))

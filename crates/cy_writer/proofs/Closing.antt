@@ -1,7 +1,7 @@
 -- What is put when a writer is closed, and the file that this leaves.
-use Rattle.std.proofs.Common.{◌≡◌, ℕ, suc, ◌+◌, true, List, [], ◌∷◌, ◌++◌, length, map, refl, sym, ap, ◌∙◌, arith, append_assoc, append-nil, length-append}
+use Rattle.std.proofs.Common.{◌≡◌, ℕ, suc, ◌+◌, ◌<◌, true, List, take, get_or, [], ◌∷◌, ◌++◌, length, map, refl, sym, ap, ◌∙◌, arith, append_assoc, append-nil, length-append}
 use Rattle.std.specs.List.{flat_map}
-use Rattle.std.proofs.lemmas.List.{drop_at, map-append}
+use Rattle.std.proofs.lemmas.List.{drop_at, map-append, flat_map_more, take_more}
 use Rattle.cy_store.specs.Write.{written_at}
 use Rattle.cy_section.specs.declared.types.SectionKind.TheVariants as kind
 use Rattle.cy_section.specs.declared.types.Channel.{Channel}
@@ -9,7 +9,7 @@ use Rattle.cy_section.specs.declared.types.Header.{Header}
 use Rattle.cy_section.specs.declared.types.ChunkHeader.{ChunkHeader}
 use Rattle.cy_section.specs.declared.types.IndexEntry.{IndexEntry}
 use Rattle.cy_section.specs.declared.types.BodyMessage.{BodyMessage}
-use Rattle.cy_section.specs.Section.{section, channel_body, header_section}
+use Rattle.cy_section.specs.Section.{section, channel_body, header_section, index_body}
 use Rattle.cy_section.specs.Chunks.{messages_in}
 use Rattle.cy_section.specs.RecordText.{Part, parts_of, bytes_of, entries_from, channel_part, chunk_header_part, chunk_body_part, index_section, incomplete_header, complete_header, record_bytes, chunk_header_of}
 use Rattle.cy_section.proofs.Lengths.{length-header_section}
@@ -61,6 +61,29 @@ entries_put o g held none =
     ∙ ap (λ (es : List IndexEntry). entries_from 2064 channels ++ es) (chunk_entries (channels_end g.channels) g.closed)
     ∙ ap (λ (n : ℕ). entries_from 2064 channels ++ entries_from n (flat_map chunk_parts g.closed)) end
     ∙ sym (entries_from-append 2064 channels (flat_map chunk_parts g.closed))
+
+-- the entries of one chunk more
+pub entries_more : (front : List IndexEntry) (chunks : List KeptChunk) (i : ℕ) (d : KeptChunk) (before mid new : List IndexEntry) (header body : IndexEntry)
+    → before ≡ front ++ flat_map (λ (k : KeptChunk). header_entry k ∷ body_entry k ∷ []) (take i chunks) → mid ≡ before ++ header ∷ [] → new ≡ mid ++ body ∷ []
+    → header ≡ header_entry (get_or chunks i d) → body ≡ body_entry (get_or chunks i d) → i < length chunks
+    → new ≡ front ++ flat_map (λ (k : KeptChunk). header_entry k ∷ body_entry k ∷ []) (take (i + 1) chunks)
+entries_more front chunks i d before mid new header body so_far one other of_header of_body there =
+    let f : KeptChunk → List IndexEntry = λ k. header_entry k ∷ body_entry k ∷ [] in
+    let both : new ≡ before ++ header ∷ body ∷ [] = other ∙ ap (λ (es : List IndexEntry). es ++ body ∷ []) one ∙ append_assoc before (header ∷ []) (body ∷ []) in
+    both
+    ∙ ap (λ (es : List IndexEntry). es ++ header ∷ body ∷ []) so_far
+    ∙ ap (λ (h : IndexEntry). (front ++ flat_map f (take i chunks)) ++ h ∷ body ∷ []) of_header
+    ∙ ap (λ (b : IndexEntry). (front ++ flat_map f (take i chunks)) ++ header_entry (get_or chunks i d) ∷ b ∷ []) of_body
+    ∙ append_assoc front (flat_map f (take i chunks)) (f (get_or chunks i d))
+    ∙ ap (λ (es : List IndexEntry). front ++ es) (flat_map_more f [] (take i chunks) (get_or chunks i d))
+    ∙ ap (λ (ks : List KeptChunk). front ++ flat_map f ks) (sym (take_more chunks i d there))
+
+-- the section of the index, put behind nothing
+pub indexed : (whole old : List ℕ) (entries items expected : List IndexEntry) → whole ≡ old ++ section kind.Index (index_body entries) → old ≡ []
+    → entries ≡ items → items ≡ expected → whole ≡ section kind.Index (index_body expected)
+indexed whole old entries items expected put none of_items same =
+    put ∙ ap (λ (bytes : List ℕ). bytes ++ section kind.Index (index_body entries)) none
+    ∙ ap (λ (es : List IndexEntry). section kind.Index (index_body es)) (of_items ∙ same)
 
 -- The complete header.
 

@@ -10,3 +10,6 @@ pub mod RecordChunks
 pub mod RecordCalls
 pub mod Giving
 pub mod Starting
+pub mod Stopping
+pub mod Unput
+pub mod Beginning

@@ -1,5 +1,5 @@
 // The writer of a record.
-ghost use Rattle.std.specs.Prelude.{◌≡◌, OnOk, IsErrOf};
+ghost use Rattle.std.specs.Prelude.{◌≡◌, IfOk, OnOk, IsErrOf, IsOkUnless};
 ghost use Rattle.cy_writer.specs.Stands.{Stands, IsBroken, HasChannel, channel_count, IsThere};
 ghost use Rattle.cy_writer.specs.Calls.{Starts, PutsChannel, TakesMessage, Closes, IsRefusedBroken};
 ghost use Rattle.cy_writer.specs.Calls.{GoesOn};
@@ -21,6 +21,27 @@ use std::alloc::Global;
 #[derive(Drop)]
 pub struct RecordWriter {
     writing: Option<Writing>,
+}
+
+// A channel with copies of its name, its type and its description.
+fn channel_of(
+    alloc: Global,
+    name: &str,
+    message_type: &str,
+    proto_desc: &[u8],
+) -> Result<Channel, WriteError>
+    ensures channel { IfOk result (λ c. c ≡ record {
+      name = name.now;
+      message_type = message_type.now;
+      proto_desc = proto_desc.now;
+    }) }
+    ensures only_memory { IsOkUnless result WriteError.Memory }
+{
+    Ok(Channel {
+        name: Text::new(alloc, name).map_err(no_memory_for_text)?,
+        message_type: Text::new(alloc, message_type).map_err(no_memory_for_text)?,
+        proto_desc: Bytes::new(alloc, proto_desc).map_err(no_memory_for_text)?,
+    })
 }
 
 impl RecordWriter {
@@ -71,11 +92,7 @@ impl RecordWriter {
         let Some(writing) = &mut self.writing else {
             return Err(WriteError::Broken);
         };
-        let channel = Channel {
-            name: Text::new(alloc, name).map_err(no_memory_for_text)?,
-            message_type: Text::new(alloc, message_type).map_err(no_memory_for_text)?,
-            proto_desc: Bytes::new(alloc, proto_desc).map_err(no_memory_for_text)?,
-        };
+        let channel = channel_of(alloc, name, message_type, proto_desc)?;
         let put = writing.channel(alloc, store, channel);
         self.broken_by(put)
     }

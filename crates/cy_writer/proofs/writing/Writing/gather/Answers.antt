@@ -1,8 +1,13 @@
-use Rattle.std.proofs.Common.{rules, ◌≡◌, ◌+◌, ◌++◌, ◌∷◌, [], List, ℕ, refl, ap, subst, slice_set, get_or, ◌∙◌}
+use Rattle.std.proofs.Common.{rules, IsOkUnless, ◌≡◌, ◌+◌, ◌++◌, ◌∷◌, [], List, ℕ, refl, ap, subst, slice_set, get_or, ◌∙◌}
+use Rattle.std.proofs.lemmas.Result.{err_from_is_err_and, IfErr-at_err}
+use Rattle.std.proofs.lemmas.List.{length-set}
+use Rattle.cy_writer.specs.declared.error.WriteError.{WriteError}
+use Rattle.cy_writer.specs.declared.error.WriteError.TheVariants as write_error
 use Rattle.cy_writer.specs.Given.{message_on, messages_of}
 use Rattle.cy_writer.specs.Kept.{IsChunkOf}
 use Rattle.cy_writer.specs.declared.kept.KeptChannel.{KeptChannel}
 use Rattle.cy_writer.proofs.Standing.{stands_message, name_at, one_more}
+use Rattle.cy_writer.proofs.Stopping.{not_gathered, stands_same, written_back}
 use Rattle.cy_writer.proofs.writing.Writing.gather.Goals as goal
 
 pub returns : goal.returns
@@ -31,3 +36,27 @@ returns c = record {
   channels = search rules;
   only_memory = search rules;
 }
+
+pub returns-in_err-all : goal.returns-in_err-all
+returns-in_err-all c =
+    let p = err_from_is_err_and c.from_residual.result c.from_residual.ensures.1 in
+    not_gathered c.args.self.now _ c.args.channel c.args.time c.args.content.now c.from_residual.result _ p.1 (p.2 ∙ c.in_err-all.ensures.only_memory) (λ given held. held) refl refl refl
+
+pub returns-in_err-number : goal.returns-in_err-number
+returns-in_err-number c =
+    let items = c.args.self.now.channels.items in
+    let kept : KeptChannel = c.index_mut-kept.result.now in
+    let p = err_from_is_err_and c.from_residual-in_err-number.result c.from_residual-in_err-number.ensures.1 in
+    let only : IsOkUnless c.from_residual-in_err-number.result write_error.Memory = search rules in
+    not_gathered c.args.self.now _ c.args.channel c.args.time c.args.content.now c.from_residual-in_err-number.result _ p.1 (IfErr-at_err (λ (e : WriteError). e ≡ write_error.Memory) p.1 only)
+    (λ given held. stands_same c.args.self.now _ given held refl (written_back items c.args.channel kept c.index_mut-kept.ensures.value) refl refl held.chunk refl)
+    refl refl (length-set items c.args.channel kept)
+
+pub returns-in_err-add : goal.returns-in_err-add
+returns-in_err-add c =
+    let items = c.args.self.now.channels.items in
+    let kept : KeptChannel = c.index_mut-kept.result.now in
+    let p = err_from_is_err_and c.from_residual-in_err-add.result c.from_residual-in_err-add.ensures.1 in
+    not_gathered c.args.self.now _ c.args.channel c.args.time c.args.content.now c.from_residual-in_err-add.result _ p.1 (p.2 ∙ c.in_err-add.ensures.only_memory)
+    (λ given held. stands_same c.args.self.now _ given held refl (written_back items c.args.channel kept c.index_mut-kept.ensures.value) refl refl (c.in_err-add.ensures.same given.gathered held.chunk) refl)
+    refl refl (length-set items c.args.channel kept)
