@@ -2,7 +2,7 @@
 """Runs `rt ci --anew` in a repository, and prints what each crate takes.
 
 usage: gate.py REPOSITORY
-A table in Markdown: for each crate its lines of code, definitions and proofs, the number of its must-fail edits, the processor minutes of
+A table in Markdown: for each crate its lines of code, definitions and proofs (without comments), the number of its must-fail edits, the processor minutes of
 its proof, of the second proof that its edits begin with, of these and of its tests, and the most memory that a check took, in GB. The
 processes of the prover are looked at twice a second, so the last half second of each is not counted.
 """
@@ -50,9 +50,10 @@ def watch(seen, is_over):
 
 
 def lines_in(folder, ending):
-    """Counts the lines of the files below a folder whose names end so."""
+    """Counts the lines of the files below a folder whose names end so, without empty lines and comments."""
     files = [f"{at}/{name}" for at, _, names in os.walk(folder) for name in names if name.endswith(ending)]
-    return sum(len(open(it, encoding="utf-8").read().splitlines()) for it in files)
+    lines = [line.strip() for it in files for line in open(it, encoding="utf-8")]
+    return sum(1 for it in lines if it and not it.startswith(("//", "--")))
 
 
 def row_of(crate, folder, seen):
