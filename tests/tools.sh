@@ -192,21 +192,21 @@ copy_libraries() { # the program, and the root
 
 # Installs the package into an empty root, which has nothing but what dpkg needs, and says how its program is run there.
 install_package() { # the package
-  mkdir -p root/var/lib/dpkg/info root/var/lib/dpkg/updates
-  touch root/var/lib/dpkg/status
+  mkdir -p empty/var/lib/dpkg/info empty/var/lib/dpkg/updates
+  touch empty/var/lib/dpkg/status
   if [ "$(id -u)" -eq 0 ] && ldd "$program" >/dev/null 2>&1; then
     # The libraries are the only thing that the package asks for, and they are copied.
-    try 0 dpkg --root="$PWD/root" --force-depends --force-script-chrootless --log=/dev/null -i "$1"
-    try 0 dpkg --root="$PWD/root" --verify zektrob
+    try 0 dpkg --root="$PWD/empty" --force-depends --force-script-chrootless --log=/dev/null -i "$1"
+    try 0 dpkg --root="$PWD/empty" --verify zektrob
     [ ! -s out ]
     count $? "$name: files are not as packed: $(cat out)"
-    copy_libraries "$program" root
-    call=(chroot root /usr/bin/cyber)
+    copy_libraries "$program" empty
+    call=(chroot empty /usr/bin/cyber)
   else
-    try 0 dpkg-deb -x "$1" root
-    call=("$PWD/root/usr/bin/cyber")
+    try 0 dpkg-deb -x "$1" empty
+    call=("$PWD/empty/usr/bin/cyber")
   fi
-  cp -r root/usr/share/doc/zektrob/examples root/
+  cp -r empty/usr/share/doc/zektrob/examples empty/
 }
 
 release() {
@@ -245,9 +245,9 @@ release() {
   "$top/release/make.sh" --out "$PWD" "$program" >/dev/null
   install_package ./*.deb
   if [ "${call[0]}" = chroot ]; then
-    try 0 python3 "$top/tests/tools/tour.py" root/examples/README.md . /usr/sbin/chroot root /usr/bin/cyber
+    try 0 python3 "$top/tests/tools/tour.py" empty/examples/README.md . /usr/sbin/chroot empty /usr/bin/cyber
   else
-    try 0 python3 "$top/tests/tools/tour.py" root/examples/README.md root "${call[@]}"
+    try 0 python3 "$top/tests/tools/tour.py" empty/examples/README.md empty "${call[@]}"
   fi
   says out '[0-9]+ lines typed'
 }
