@@ -8,7 +8,7 @@ use Rattle.cy_table.specs.declared.pass.Pass.{Pass}
 use Rattle.cy_table.specs.declared.hold.Hold.{Hold}
 use Rattle.cy_table.specs.declared.table.FlagTable.{FlagTable}
 use Rattle.cy_table.specs.Seats.{Entry, Seat}
-use Rattle.cy_table.specs.Seats.Entry.{Busy, Found, Clock, Closing}
+use Rattle.cy_table.specs.Seats.Entry.{Busy, Found, Saw, Clock, Closing}
 use Rattle.cy_table.specs.Calls.{seat_of, component_of}
 use Rattle.cy_ctx.specs.Note.{found_in, closings_in, was_ready, IsVain, EndsAt, GrewBy}
 use Rattle.cy_ctx.specs.Scan.{Looked, Passes, Takes}
@@ -17,6 +17,7 @@ found_append : (xs ys : List Entry) → found_in (xs ++ ys) ≡ found_in xs ++ f
 found_append [] ys = refl
 found_append (Busy c ∷ xs) ys = ap (λ l. (c, None) ∷ l) (found_append xs ys)
 found_append (Found c state ∷ xs) ys = ap (λ l. (c, Some state) ∷ l) (found_append xs ys)
+found_append (Saw c visitor ∷ xs) ys = found_append xs ys
 found_append (Clock time ∷ xs) ys = found_append xs ys
 found_append (Closing b ∷ xs) ys = found_append xs ys
 
@@ -24,6 +25,7 @@ closings_append : (xs ys : List Entry) → closings_in (xs ++ ys) ≡ closings_i
 closings_append [] ys = refl
 closings_append (Busy c ∷ xs) ys = closings_append xs ys
 closings_append (Found c state ∷ xs) ys = closings_append xs ys
+closings_append (Saw c visitor ∷ xs) ys = closings_append xs ys
 closings_append (Clock time ∷ xs) ys = closings_append xs ys
 closings_append (Closing b ∷ xs) ys = ap (λ l. b ∷ l) (closings_append xs ys)
 

@@ -6,7 +6,7 @@ use Rattle.cy_comp.specs.declared.state.State.{State}
 use Rattle.cy_comp.specs.declared.state.State.TheVariants.{Ready}
 use Rattle.wake_core.specs.Turns.{is_ready}
 use Rattle.cy_table.specs.Seats.{Entry}
-use Rattle.cy_table.specs.Seats.Entry.{Busy, Found, Clock, Closing}
+use Rattle.cy_table.specs.Seats.Entry.{Busy, Found, Saw, Clock, Closing}
 
 -- The croutines that were taken or found held, in order, each with its state after the update; with
 -- none where it was held.
@@ -14,6 +14,7 @@ abbrev pub found_in : List Entry → List (ℕ × Option State)
 found_in [] = []
 found_in (Busy c ∷ rest) = (c, None) ∷ found_in rest
 found_in (Found c state ∷ rest) = (c, Some state) ∷ found_in rest
+found_in (Saw c visitor ∷ rest) = found_in rest
 found_in (Clock time ∷ rest) = found_in rest
 found_in (Closing found ∷ rest) = found_in rest
 
@@ -22,6 +23,7 @@ abbrev pub closings_in : List Entry → List Bool
 closings_in [] = []
 closings_in (Busy c ∷ rest) = closings_in rest
 closings_in (Found c state ∷ rest) = closings_in rest
+closings_in (Saw c visitor ∷ rest) = closings_in rest
 closings_in (Clock time ∷ rest) = closings_in rest
 closings_in (Closing found ∷ rest) = found ∷ closings_in rest
 

@@ -50,7 +50,8 @@ impl MeetGate {
     }
 
     /// Whether the first call of `first`, while it was held, found that of `second` entered. That
-    /// one may have been entered before it, and have returned by then.
+    /// one may have been entered before it, and have returned by then; a [`PairGate`] tells whether
+    /// both are in hand at once.
     pub fn met(&self) -> bool {
         self.met.load(Ordering::SeqCst)
     }
@@ -77,6 +78,65 @@ impl Gate for MeetGate {
         }
         if component == self.first {
             self.hold();
+        }
+    }
+}
+
+/// A gate that holds the first call of each of two components until that of the other is held, or
+/// until it has looked for that so many times: so it tells whether both are in hand at once.
+#[derive(Drop)]
+pub struct PairGate {
+    first: u32,
+    second: u32,
+    turns: u32,
+    holds_first: AtomicBool,
+    holds_second: AtomicBool,
+    paired: AtomicBool,
+}
+
+impl PairGate {
+    /// The gate that holds the first calls of components `first` and `second` for each other, each
+    /// for at most so many turns. A turn is one look that finds the other one not held.
+    pub fn new(first: u32, second: u32, turns: u32) -> Self {
+        PairGate {
+            first,
+            second,
+            turns,
+            holds_first: AtomicBool::new(false),
+            holds_second: AtomicBool::new(false),
+            paired: AtomicBool::new(false),
+        }
+    }
+
+    /// Whether both calls were held at once. A processor that makes both, one after the other,
+    /// never holds both.
+    pub fn paired(&self) -> bool {
+        self.paired.load(Ordering::SeqCst)
+    }
+
+    // Holds one call, which shows itself until it is let go, but for one that met the other.
+    fn hold(&self, mine: &AtomicBool, other: &AtomicBool) {
+        mine.store(true, Ordering::SeqCst);
+        for _ in 0..self.turns {
+            if other.load(Ordering::SeqCst) {
+                self.paired.store(true, Ordering::SeqCst);
+                return;
+            }
+            thread::yield_now();
+        }
+        mine.store(false, Ordering::SeqCst);
+    }
+}
+
+impl Gate for PairGate {
+    fn before_call<R: Wait>(&self, _rt: &R, component: u32, call: u32, _hold: &Hold) {
+        if call != 1 {
+            return;
+        }
+        if component == self.first {
+            self.hold(&self.holds_first, &self.holds_second);
+        } else if component == self.second {
+            self.hold(&self.holds_second, &self.holds_first);
         }
     }
 }

@@ -1,11 +1,12 @@
 // Where processors rest, and how the player keeps pace with them. No clause rests on it: what a
 // processor does is known from its pass alone.
 use crate::RunError;
-use crate::pace::{Pace, bits_of, lowest};
+use crate::pace::{BITS, Pace, bits_of, lowest};
 use crate::patience::{LOOKS, Patience};
 use crate::place::{ASLEEP, AWAKE, AWAY, LOOKING, Place};
 use crossbeam_utils::CachePadded;
 use std::alloc::Global;
+use std::hint;
 use std::marker::Model;
 use std::sync::atomic::Ordering::SeqCst;
 use std::sync::atomic::{AtomicBool, AtomicU64};
@@ -19,8 +20,11 @@ const PAUSE: u64 = 10;
 
 const PAUSES: u32 = 100;
 
+// A context for each component that may be its first, and one for those that serve none.
+const CONTEXTS: usize = BITS + 1;
+
 // How many looks are one try of the player. Calls that take longer are long ones.
-const PLAYER_LOOKS: u32 = 5_000;
+const PLAYER_LOOKS: u32 = 1_000;
 
 /// The places of the processors of a run. Contracts see it as their number.
 ///
@@ -37,9 +41,11 @@ const PLAYER_LOOKS: u32 = 5_000;
 /// rests at once where calls take long.
 #[derive(Drop)]
 pub struct Idle {
-    places: Vec<Place>,
+    places: Vec<CachePadded<Place>>,
     door: Mutex<()>,
-    news: CachePadded<AtomicU64>,
+    // How often there was news for each context, by the first component that it serves; the last is
+    // for those that serve none.
+    news: Vec<CachePadded<AtomicU64>>,
     pace: Pace,
     player: Parker,
     resting: AtomicBool,
@@ -64,12 +70,12 @@ impl Idle {
     {
         let mut places = Vec::with_capacity(alloc, processors as usize)?;
         for _ in 0..processors {
-            places.push_reserved(Place::new());
+            places.push_reserved(CachePadded::new(Place::new()));
         }
         Ok(Idle {
             places,
             door: Mutex::new(()),
-            news: CachePadded::new(AtomicU64::new(0)),
+            news: no_news(alloc)?,
             pace: Pace::new(alloc)?,
             player: Parker::new(),
             resting: AtomicBool::new(false),
@@ -88,9 +94,31 @@ impl Idle {
         self.player.unpark();
     }
 
-    // The news so far, which a processor asks for before it scans.
-    pub(crate) fn news(&self) -> u64 {
-        self.news.load(SeqCst)
+    // How often there was news so far for the context of a processor, which asks before it scans.
+    pub(crate) fn news(&self, me: u32) -> u64
+        requires { me < self.now }
+    {
+        self.news_at(self.places[me as usize].context())
+    }
+
+    fn news_at(&self, context: usize) -> u64 {
+        match self.news.get(context) {
+            Some(count) => count.load(SeqCst),
+            None => 0,
+        }
+    }
+
+    // There is news for the contexts of these components, once for each.
+    fn count_news(&self, components: u64) {
+        let mut left = components;
+        for place in &self.places {
+            if place.serves(left) != 0 {
+                left &= !place.serves(left);
+                if let Some(count) = self.news.get(place.context()) {
+                    count.fetch_add(1, SeqCst);
+                }
+            }
+        }
     }
 
     // Components have something to do, which is said when they were filled and before they are
@@ -106,19 +134,19 @@ impl Idle {
     // called.
     pub(crate) fn tell<R: Wait>(&self, rt: &R, components: u64) {
         if components != 0 {
-            self.news.fetch_add(1, SeqCst);
+            self.count_news(components);
             self.call_for(rt, components);
         }
     }
 
-    // A component has nothing to do any more; or it sleeps until the clock is at this time.
+    // A component has nothing to do any more; or it sleeps until the clock is past this time.
     pub(crate) fn close(&self, component: u32) {
         self.pace.close(component);
         self.tell_player();
     }
 
-    pub(crate) fn sleep(&self, component: u32, first: u64) {
-        self.pace.sleep(component, first);
+    pub(crate) fn sleep(&self, component: u32, until: u64) {
+        self.pace.sleep(component, until);
         self.tell_player();
     }
 
@@ -144,7 +172,9 @@ impl Idle {
     // them any more, so one is called for each component that has news.
     pub(crate) fn tell_closing<R: Wait>(&self, rt: &R) {
         self.patience.give_up();
-        self.news.fetch_add(1, SeqCst);
+        for count in &self.news {
+            count.fetch_add(1, SeqCst);
+        }
         let _door = self.door.lock(rt);
         self.call_all(AWAKE);
     }
@@ -224,6 +254,7 @@ impl Idle {
             if !self.is_any(AWAY) {
                 return true;
             }
+            hint::spin_loop();
         }
         false
     }
@@ -260,6 +291,7 @@ impl Idle {
                     self.patience.win();
                     return true;
                 }
+                hint::spin_loop();
             }
             self.patience.lose();
         }
@@ -291,8 +323,13 @@ impl Idle {
     pub(crate) fn hears_soon(&self, me: u32, seen: u64) -> bool
         requires { me < self.now }
     {
-        let place = &self.places[me as usize];
-        self.is_last_awake(place) && place.hears_soon(&self.news, seen, &self.player_is_due)
+        let place: &Place = &self.places[me as usize];
+        match self.news.get(place.context()) {
+            Some(news) => {
+                self.is_last_awake(place) && place.hears_soon(news, seen, &self.player_is_due)
+            }
+            None => false,
+        }
     }
 
     // A processor that scanned in vain rests until it is called, and then stays. It goes, which is
@@ -300,7 +337,7 @@ impl Idle {
     pub(crate) fn rest<R: Wait>(&self, rt: &R, me: u32, seen: u64, closing: bool) -> bool
         requires { me < self.now }
     {
-        let place = &self.places[me as usize];
+        let place: &Place = &self.places[me as usize];
         if !self.comes_to_rest(rt, place, seen, closing) {
             return false;
         }
@@ -332,7 +369,7 @@ impl Idle {
     fn comes_to_rest<R: Wait>(&self, rt: &R, place: &Place, seen: u64, closing: bool) -> bool {
         let _door = self.door.lock(rt);
         place.begin(LOOKING);
-        if self.news() != seen {
+        if self.news_at(place.context()) != seen {
             place.begin(AWAKE);
             return false;
         }
@@ -341,4 +378,13 @@ impl Idle {
         }
         true
     }
+}
+
+// No news yet, for any context. Its only error is `Memory`.
+fn no_news(alloc: Global) -> Result<Vec<CachePadded<AtomicU64>>, RunError> {
+    let mut news = Vec::with_capacity(alloc, CONTEXTS)?;
+    for _ in 0..CONTEXTS {
+        news.push_reserved(CachePadded::new(AtomicU64::new(0)));
+    }
+    Ok(news)
 }

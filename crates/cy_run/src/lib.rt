@@ -24,7 +24,7 @@ mod serve;
 pub use crew::Worker;
 pub use driving::drive;
 pub use error::RunError;
-pub use gate::{Gate, MeetGate, OpenGate};
+pub use gate::{Gate, MeetGate, OpenGate, PairGate};
 pub use idle::Idle;
 pub use processor::work;
 pub use run::{run_serial, run_threads};

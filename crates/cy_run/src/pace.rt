@@ -8,10 +8,10 @@ use std::sync::atomic::Ordering::SeqCst;
 
 // A mask has a bit for each component, by its number. There are at most 64; if there were more,
 // several would be taken for one.
-const BITS: usize = 64;
+pub(crate) const BITS: usize = 64;
 
 // The components that are open, those that some processor serves and those that sleep, as masks;
-// the first clock at which each of these wakes; and the clock.
+// the time until which each of these sleeps; and the clock.
 //
 // A component is open from when a message triggered it, or its sleep ended, until it has fetched
 // all that its buffer keeps and what it put out of that has opened others.
@@ -20,22 +20,22 @@ pub(crate) struct Pace {
     open: CachePadded<AtomicU64>,
     served: AtomicU64,
     asleep: AtomicU64,
-    wakes: Vec<AtomicU64>,
+    until: Vec<AtomicU64>,
     clock: AtomicU64,
 }
 
 impl Pace {
     // Nothing is open. Its only error is `Memory`.
     pub(crate) fn new(alloc: Global) -> Result<Self, RunError> {
-        let mut wakes = Vec::with_capacity(alloc, BITS)?;
+        let mut until = Vec::with_capacity(alloc, BITS)?;
         for _ in 0..BITS {
-            wakes.push_reserved(AtomicU64::new(0));
+            until.push_reserved(AtomicU64::new(0));
         }
         Ok(Pace {
             open: CachePadded::new(AtomicU64::new(0)),
             served: AtomicU64::new(0),
             asleep: AtomicU64::new(0),
-            wakes,
+            until,
             clock: AtomicU64::new(0),
         })
     }
@@ -58,11 +58,12 @@ impl Pace {
         }
     }
 
-    // A component sleeps until the clock is at least at this time. Whoever has it in hand says so
-    // before it gives it back, and that it is awake before it sends what it held.
-    pub(crate) fn sleep(&self, component: u32, first: u64) {
-        if let Some(wakes) = self.wakes.get(component as usize % BITS) {
-            wakes.store(first, SeqCst);
+    // A component sleeps until the clock is past this time, which it never is where this is the
+    // greatest. Whoever has it in hand says so before it gives it back, and that it is awake before
+    // it sends what it held.
+    pub(crate) fn sleep(&self, component: u32, until: u64) {
+        if let Some(kept) = self.until.get(component as usize % BITS) {
+            kept.store(until, SeqCst);
         }
         self.asleep.fetch_or(bit_of(component as usize), SeqCst);
     }
@@ -107,8 +108,8 @@ impl Pace {
 
     // Whether a component that sleeps is to wake when the clock is at this time.
     fn wakes_by(&self, component: u32, clock: u64) -> bool {
-        match self.wakes.get(component as usize) {
-            Some(first) => first.load(SeqCst) <= clock,
+        match self.until.get(component as usize) {
+            Some(until) => until.load(SeqCst) < clock,
             None => false,
         }
     }

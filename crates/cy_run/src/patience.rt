@@ -1,14 +1,14 @@
 // How long a thread looks for what it waits for before it sleeps. No clause rests on it.
 use std::sync::atomic::Ordering::SeqCst;
 use std::sync::atomic::{AtomicBool, AtomicU64};
-use std::thread;
+use std::{hint, thread};
 
 // How many looks are one try of a processor. They take some tens of microseconds, more than the
 // next message does to come where the player has to wait for a processor of the machine first.
-pub(crate) const LOOKS: u32 = 30_000;
+pub(crate) const LOOKS: u32 = 6_000;
 
 // After how many looks each time it is asked whether the player is to run.
-const TURN: u32 = 100;
+const TURN: u32 = 20;
 
 // How many tries are left out at most after one in vain. Where calls stay long, each try of the
 // player takes a processor of the machine from a call, and those that wait for that call fall
@@ -81,5 +81,7 @@ impl Patience {
 pub(crate) fn after_look(look: u32, player_is_due: &AtomicBool) {
     if look % TURN == TURN - 1 && player_is_due.load(SeqCst) {
         thread::yield_now();
+    } else {
+        hint::spin_loop();
     }
 }

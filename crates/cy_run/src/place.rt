@@ -46,6 +46,12 @@ impl Place {
         self.serves.load(SeqCst) & components
     }
 
+    // Its context, by the first component that this serves, or by 64 where it serves none. Contexts
+    // share no component.
+    pub(crate) fn context(&self) -> usize {
+        self.serves.load(SeqCst).trailing_zeros() as usize
+    }
+
     pub(crate) fn is(&self, state: u64) -> bool {
         self.state.load(SeqCst) == state
     }

@@ -41,7 +41,7 @@ pub fn work<G: Gate, R: Wait>(
     idle.enter(me, context.order());
     let mut rounds = ROUNDS;
     for _ in rt.forever() {
-        let seen = idle.news();
+        let seen = idle.news(me);
         let closing = table.closing(pass);
         if rounds < ROUNDS && !closing {
             rounds += 1;

@@ -160,7 +160,7 @@ fn follow<R: Wait>(
 fn sleep_after(outcome: &Outcome, component: u32, idle: &Idle) {
     match *outcome {
         Outcome::Emit(_) => {}
-        Outcome::Hold { until, .. } => idle.sleep(component, until.saturating_add(1)),
+        Outcome::Hold { until, .. } => idle.sleep(component, until),
         Outcome::Last(_) => idle.sleep(component, u64::MAX),
     }
 }

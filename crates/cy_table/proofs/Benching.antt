@@ -10,16 +10,14 @@ use Rattle.cy_fuse.specs.Visitor.{VisitorView}
 use Rattle.cy_comp.specs.declared.call.Call.{Call}
 use Rattle.cy_comp.specs.Routine.{RoutineView}
 use Rattle.wake_core.specs.Run.{set_at}
-use Rattle.wake_core.specs.Plain.{Plain, blank}
-use Rattle.wake_core.specs.Sound.{Sound}
-use Rattle.wake_core.specs.Laws.{IsIdle, with_idle}
+use Rattle.wake_core.specs.Plain.{Plain}
 use Rattle.cy_table.specs.declared.part.Part.{Part}
 use Rattle.cy_table.specs.Seats.{Seat, Seen, TapeView, no_seat}
 use Rattle.cy_table.specs.Seats.{IsEmpty, AreSeen, total_live}
 use Rattle.cy_table.specs.Shown.{Rooms, Spread, spread, routine_of, visitor_of, hand_of}
 use Rattle.cy_table.specs.Rule.{Rules, Knows, ShowsParts}
 use Rattle.cy_table.specs.Steps.{Sits, splitting, split_off, joining}
-use Rattle.cy_table.proofs.Places.{place, unseen, within, seated, shown_anew, list_changed}
+use Rattle.cy_table.proofs.Places.{place, other, unseen, within, seated, list_changed}
 use Rattle.cy_table.proofs.Keeping.{stays}
 use Rattle.cy_table.proofs.Knowing.{live_set}
 use Rattle.cy_table.proofs.Holding.{seat_is, seat_in, mine}
@@ -94,11 +92,15 @@ module _ (r : Rooms) (w : Plain) (s : Table Part Seat) (v : Seat) (sits : Sits r
         ap (λ (f : ℕ → Seat). g (f j)) seats_joined
         ∙ (unseen g k no_seat (λ i. get_or (set s.views 0 (joining v o)) i no_seat) j (q ∙ ap g (sym other_mid)) ∙ field_after g (joining v o) p j)
 
-    join_anew : {X : Type 0} (g : Seat → X) (old : ℕ → X) → ((j : ℕ) → old j ≡ g (get_or s.views j no_seat)) → g (joining v o) ≡ g v
-        → (j : ℕ) → set_at k (g no_seat) old j ≡ g (get_or (set (set s.views 0 (joining v o)) k no_seat) j no_seat)
-    join_anew g old all p j =
-        shown_anew g (λ i. get_or (set s.views 0 (joining v o)) i no_seat) old (λ i. all i ∙ sym (field_after g (joining v o) p i)) k no_seat (g no_seat) refl j
-        ∙ ap (λ (f : ℕ → Seat). g (f j)) (sym seats_joined)
+    -- The message of the seat that is joined, which owes nothing, may be another one.
+    join_token : (tokens : ℕ → Token) → (w.fills k ≡ []) → ((j : ℕ) → w.fills j ≢ [] → tokens j ≡ (get_or s.views j no_seat).token)
+        → (j : ℕ) → w.fills j ≢ [] → tokens j ≡ (get_or (set (set s.views 0 (joining v o)) k no_seat) j no_seat).token
+    join_token tokens none all j owes = ⊎_elim
+        (λ (z : j ≡ k). absurd (owes (ap w.fills z ∙ none)))
+        (λ (ne : j ≢ k). all j owes ∙ sym (field_after (λ (u : Seat). u.token) (joining v o) refl j)
+        ∙ ap (λ (u : Seat). u.token) (sym (other k no_seat (λ i. get_or (set s.views 0 (joining v o)) i no_seat) j ne))
+        ∙ ap (λ (f : ℕ → Seat). (f j).token) (sym seats_joined))
+        (place j k)
 
   pub splits : Rules r w record { words = s.words; homes = s.homes; views = set s.views 0 (splitting v) ++ split_off v ∷ [] }
   unfolding spread
@@ -138,7 +140,7 @@ module _ (r : Rooms) (w : Plain) (s : Table Part Seat) (v : Seat) (sits : Sits r
             fills_are = λ j. th.fills_are j ∙ sym (split_still (λ (u : Seat). u.fills) refl refl j);
             news_are = λ j. th.news_are j ∙ sym (split_still (λ (u : Seat). u.news) refl refl j);
             clearing_is = λ j. th.clearing_is j ∙ sym (split_still (λ (u : Seat). u.clearing) refl refl j);
-            token_is = λ j. th.token_is j ∙ sym (split_still (λ (u : Seat). u.token) refl refl j);
+            token_is = λ j owes. th.token_is j owes ∙ sym (split_still (λ (u : Seat). u.token) refl refl j);
           };
         };
         knows = λ j u e. ⊎_elim
@@ -154,29 +156,20 @@ module _ (r : Rooms) (w : Plain) (s : Table Part Seat) (v : Seat) (sits : Sits r
       }
 
   pub joins : (k : ℕ) (o : Seat) → k ≢ 0 → get_elem? s.views k ≡ some o → o.live ≡ 1 → IsEmpty o
-      → ((p : ℕ) (m : Token) (u : Plain) → IsIdle p u → Sound u → Sound (with_idle p m u))
-      → Rules r (with_idle k blank w) record { words = s.words; homes = s.homes; views = set (set s.views 0 (joining v o)) k no_seat }
+      → Rules r w record { words = s.words; homes = s.homes; views = set (set s.views 0 (joining v o)) k no_seat }
   unfolding spread
-  joins k o apart at live empty idle_sound =
+  joins k o apart at live empty =
       let a : Seat = joining v o in
       let mid = set s.views 0 a in
       let views = set mid k no_seat in
-      let w' : Plain = with_idle k blank w in
       let m = mine r w s 0 v sits in
       let o_knows = sits.rules.knows k o at in
       let first : get_elem? views 0 ≡ some a = set_else mid k 0 no_seat (λ z. apart (sym z)) ∙ first_after a in
       let seat : ℕ → Seat = λ j. get_or views j no_seat in
       let th = sits.rules.shows.threads in
-      let idle : IsIdle k w = record {
-        hand = th.hand_is k ∙ (ap (λ (u : Seat). hand_of u.hand) (other_read k o apart at) ∙ ap hand_of empty.hand);
-        owes = record {
-          filled = th.fills_are k ∙ (ap (λ (u : Seat). u.fills) (other_read k o apart at) ∙ empty.fills);
-          looked = th.news_are k ∙ (ap (λ (u : Seat). u.news) (other_read k o apart at) ∙ empty.news);
-          cleared = th.clearing_is k ∙ (ap (λ (u : Seat). u.clearing) (other_read k o apart at) ∙ empty.clearing);
-        };
-      } in
-      let a_knows : Knows w' 0 a = record { made = m.made; joined = λ z. absurd (sits.live z); calls = seen_both w.calls o.seen v.seen o_knows.calls m.calls; past = m.past; closes = m.closes; player = m.player } in
-      let gone_knows : (j : ℕ) → j ≢ 0 → Knows w' j no_seat = λ j ne. record {
+      let none : w.fills k ≡ [] = th.fills_are k ∙ (ap (λ (u : Seat). u.fills) (other_read k o apart at) ∙ empty.fills) in
+      let a_knows : Knows w 0 a = record { made = m.made; joined = λ z. absurd (sits.live z); calls = seen_both w.calls o.seen v.seen o_knows.calls m.calls; past = m.past; closes = m.closes; player = m.player } in
+      let gone_knows : (j : ℕ) → j ≢ 0 → Knows w j no_seat = λ j ne. record {
         made = λ z. absurd (z refl);
         joined = λ z. record { hand = refl; visit = refl; tape = refl; fills = refl; news = refl; clearing = refl };
         calls = tt;
@@ -184,30 +177,29 @@ module _ (r : Rooms) (w : Plain) (s : Table Part Seat) (v : Seat) (sits : Sits r
         closes = λ z. absurd (false≢true z);
         player = λ z. absurd (ne z);
       } in
-      let kept_knows : (j : ℕ) (u : Seat) → Knows w j u → Knows w' j u = λ j u x. record { made = x.made; joined = x.joined; calls = x.calls; past = x.past; closes = x.closes; player = x.player } in
-      let behind : (j : ℕ) (u : Seat) → j ≢ 0 → get_elem? views j ≡ some u → Knows w' j u = λ j u ne e. ⊎_elim
-      (λ (z : (j ≡ k) × (no_seat ≡ u)). subst (Knows w' j) z.1 (gone_knows j ne))
-      (λ (z : (j ≢ k) × (get_elem? mid j ≡ some u)). kept_knows j u (sits.rules.knows j u (sym (set_else s.views 0 j a ne) ∙ z.1)))
+      let behind : (j : ℕ) (u : Seat) → j ≢ 0 → get_elem? views j ≡ some u → Knows w j u = λ j u ne e. ⊎_elim
+      (λ (z : (j ≡ k) × (no_seat ≡ u)). subst (Knows w j) z.1 (gone_knows j ne))
+      (λ (z : (j ≢ k) × (get_elem? mid j ≡ some u)). sits.rules.knows j u (sym (set_else s.views 0 j a ne) ∙ z.1))
       (at_set mid k j no_seat u e) in
       record {
         wide = sits.rules.wide;
         deep = sits.rules.deep;
-        sound = idle_sound k blank w idle sits.rules.sound;
+        sound = sits.rules.sound;
         fixed = sits.rules.fixed;
-        roomy = record { tape = sits.rules.roomy.tape; calls = sits.rules.roomy.calls; arrivals = sits.rules.roomy.arrivals };
+        roomy = sits.rules.roomy;
         shows = record {
           parts = parts_reseated sits.rules.shows.parts seat (join_still k o apart at (λ (u : Seat). u.tape) refl (sym empty.tape)) (join_still k o apart at (λ (u : Seat). u.hand) refl (sym empty.hand)) (join_still k o apart at (λ (u : Seat). u.visit) refl (sym empty.visit));
           words = sits.rules.shows.words;
           threads = record {
-            hand_is = join_anew k o apart at (λ (u : Seat). hand_of u.hand) w.hands th.hand_is refl;
-            fills_are = join_anew k o apart at (λ (u : Seat). u.fills) w.fills th.fills_are refl;
-            news_are = join_anew k o apart at (λ (u : Seat). u.news) w.news th.news_are refl;
-            clearing_is = join_anew k o apart at (λ (u : Seat). u.clearing) w.clearing th.clearing_is refl;
-            token_is = join_anew k o apart at (λ (u : Seat). u.token) w.tokens th.token_is refl;
+            hand_is = λ j. th.hand_is j ∙ sym (join_still k o apart at (λ (u : Seat). hand_of u.hand) refl (sym (ap hand_of empty.hand)) j);
+            fills_are = λ j. th.fills_are j ∙ sym (join_still k o apart at (λ (u : Seat). u.fills) refl (sym empty.fills) j);
+            news_are = λ j. th.news_are j ∙ sym (join_still k o apart at (λ (u : Seat). u.news) refl (sym empty.news) j);
+            clearing_is = λ j. th.clearing_is j ∙ sym (join_still k o apart at (λ (u : Seat). u.clearing) refl (sym empty.clearing) j);
+            token_is = join_token k o apart at w.tokens none th.token_is;
           };
         };
         knows = λ j u e. ⊎_elim
-            (λ (z : j ≡ 0). subst (λ i. Knows w' i u) (sym z) (subst (Knows w' 0) (same_seat views 0 a u first (subst (λ i. get_elem? views i ≡ some u) z e)) a_knows))
+            (λ (z : j ≡ 0). subst (λ i. Knows w i u) (sym z) (subst (Knows w 0) (same_seat views 0 a u first (subst (λ i. get_elem? views i ≡ some u) z e)) a_knows))
             (λ (ne : j ≢ 0). behind j u ne e) (place j 0);
         counted = λ u e.
             let same = same_seat views 0 a u first e in

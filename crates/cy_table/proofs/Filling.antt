@@ -1,5 +1,5 @@
 -- A visitor's door is left after a fill.
-use Rattle.std.proofs.Common.{ℕ, ◌+◌, ◌-◌, ◌*◌, ◌≡◌, ◌<◌, ◌==◌, refl, sym, ◌∙◌, ap, ap₂, subst, List, [], ◌∷◌, ◌++◌, length, length-set, length-append, cond, Some, arith}
+use Rattle.std.proofs.Common.{ℕ, ◌+◌, ◌-◌, ◌*◌, ◌≡◌, ◌≢◌, ◌<◌, ◌==◌, refl, sym, ◌∙◌, ap, ap₂, subst, List, [], ◌∷◌, ◌++◌, length, length-set, length-append, cond, Some, arith}
 use mathlib.Core.Option.{some}
 use Rattle.atomic_table.specs.Table.{State as Table, stepped, gives}
 use Rattle.cy_msg.specs.declared.token.Token.{Token}
@@ -15,7 +15,7 @@ use Rattle.cy_table.specs.Seats.{Seat, Visit}
 use Rattle.cy_table.specs.Shown.{Rooms, Home, spread, routine_of, hand_of, routine_at, visitor_at}
 use Rattle.cy_table.specs.Rule.{Shows}
 use Rattle.cy_table.specs.Steps.{Sits, Becomes, filling}
-use Rattle.cy_table.proofs.Places.{there, other, shown_still, shown_anew, after, spread_gives}
+use Rattle.cy_table.proofs.Places.{there, other, shown_still, shown_anew, token_later, after, spread_gives}
 use Rattle.cy_table.proofs.Parts.{routine_beside, same_words}
 use Rattle.cy_table.proofs.Knowing.{nothing_grows, rules_after}
 use Rattle.cy_table.proofs.Holding.{wide_is, deep_is, seat_is, seat_in, mine}
@@ -41,7 +41,9 @@ fill_becomes r w s id v sits a j later has first less out keep =
     let th = sits.rules.shows.threads in
     let k = mine r w s id v sits in
     let known : a.visitor ≡ visitor_at r w c = visitor_known r w s id v sits a has less in
-    let token_is : w.tokens id ≡ v.token = th.token_is id ∙ ap (λ (u : Seat). u.token) at in
+    let fills_are : w.fills id ≡ (c, j) ∷ later = th.fills_are id ∙ (ap (λ (u : Seat). u.fills) at ∙ first) in
+    let owes : w.fills id ≢ [] = λ z. omega (arith, ap length (sym fills_are ∙ z)) in
+    let token_is : w.tokens id ≡ v.token = th.token_is id owes ∙ ap (λ (u : Seat). u.token) at in
     let news_is : w.news id ≡ v.news = th.news_are id ∙ ap (λ (u : Seat). u.news) at in
     let more : List Arrival = w.arrivals c ++ (j, w.tokens id) ∷ [] in
     let arrives : (d : ℕ) → List Arrival → VisitorView = λ d l. record (visitor_at r w d) { spare = r.arrivals d - length l; arrivals = l } in
@@ -51,7 +53,7 @@ fill_becomes r w s id v sits a j later has first less out keep =
     ∙ (ap (λ n. let z : VisitorView = record (visitor_at r w c) { spare = n; arrivals = more } in z) room ∙ ap (arrives c) (sym (there c more w.arrivals c refl))) in
     let happens : Fills id c j w w' = record {
       later = later;
-      first = th.fills_are id ∙ (ap (λ (u : Seat). u.fills) at ∙ first);
+      first = fills_are;
       effect = refl;
     } in
     let shows : Shows r w' (after t i 0 id v' h) = record {
@@ -65,7 +67,7 @@ fill_becomes r w s id v sits a j later has first less out keep =
         fills_are = shown_anew (λ (u : Seat). u.fills) t.seat w.fills th.fills_are id v' later refl;
         news_are = shown_anew (λ (u : Seat). u.news) t.seat w.news th.news_are id v' (cond (j == 0) (w.news id ++ c ∷ []) (w.news id)) (ap (λ (l : List ℕ). cond (j == 0) (l ++ c ∷ []) l) news_is);
         clearing_is = shown_still (λ (u : Seat). u.clearing) t.seat w.clearing th.clearing_is id v' (ap (λ (u : Seat). u.clearing) (sym at));
-        token_is = shown_still (λ (u : Seat). u.token) t.seat w.tokens th.token_is id v' (ap (λ (u : Seat). u.token) (sym at));
+        token_is = token_later t.seat w.tokens w.fills th.token_is id v' later owes (ap (λ (u : Seat). u.token) (sym at));
       };
     } in record {
       world = w';

@@ -1,5 +1,5 @@
 -- The steps of a hold word and of a state.
-use Rattle.std.proofs.Common.{ℕ, ◌+◌, ◌*◌, ◌≡◌, ◌≢◌, ◌≤◌, ◌<◌, ◌⊎◌, Bool, refl, sym, ◌∙◌, ap, subst, inl, inr, ⊎_elim, List, [], ◌∷◌, ◌++◌, length, length-set, Option, Some, None, slice_get, option_map, option_and_then, arith}
+use Rattle.std.proofs.Common.{ℕ, ◌+◌, ◌*◌, ◌≡◌, ◌≢◌, ◌≤◌, ◌<◌, ◌⊎◌, Bool, refl, sym, ◌∙◌, ap, subst, inl, inr, ⊎_elim, List, [], ◌∷◌, ◌++◌, length, length-set, Option, Some, None, slice_get, slice_index, option_map, option_and_then, arith}
 use Rattle.std.proofs.lemmas.Option.{none-some}
 use Rattle.std.proofs.Math.Seq.{take-length}
 use Rattle.std.specs.Option.{option_map_or}
@@ -25,12 +25,12 @@ use Rattle.cy_table.specs.declared.part.Part.TheVariants as part
 use Rattle.cy_table.specs.Layout.{number_of}
 use Rattle.cy_table.specs.Seats.{Seat, Grip, Entry}
 use Rattle.cy_table.specs.Seats.Entry.{Busy, Found}
-use Rattle.cy_table.specs.Shown.{Rooms, Home, spread, routine_in, routine_of, hand_of, routine_at, out_in}
+use Rattle.cy_table.specs.Shown.{Rooms, Home, AtHome, OutWith, spread, routine_in, routine_of, hand_of, routine_at, out_in}
 use Rattle.cy_table.specs.Rule.{Rules, Knows, Shows}
 use Rattle.cy_table.specs.Steps.{Sits, Becomes, acquiring, failing, put_in, MayReady, readying, MayAsk, asking, OwesNone, next_in, next_state, MayYield, yielding, MayRelease, releasing}
-use Rattle.cy_table.proofs.Places.{there, other, unseen, within, seated, home_is, after, spread_keeps, spread_takes, spread_gives}
+use Rattle.cy_table.proofs.Places.{place, there, other, unseen, within, seated, home_is, is_word, after, spread_keeps, spread_takes, spread_gives}
 use Rattle.cy_table.proofs.Keeping.{at_home, is_shut, has_it}
-use Rattle.cy_table.proofs.Parts.{routine_here, not_held, DoorsStay, OthersStay, same_words, parts_same, parts_turned, parts_taken, parts_given, state_stored, state_doors, hold_others, threads_hand, threads_still}
+use Rattle.cy_table.proofs.Parts.{routine_here, routine_else, not_held, DoorsStay, OthersStay, same_words, parts_same, parts_turned, parts_taken, parts_given, state_stored, state_doors, hold_others, threads_hand, threads_still}
 use Rattle.cy_table.proofs.Knowing.{nothing_grows, rules_after}
 
 pub none_mapped : {X Y : Type 0} (f : X → Y) (o : Option X) → option_map f o ≡ None → o ≡ None
@@ -72,6 +72,14 @@ mapped_or (Some x) d ne = refl
 
 abbrev stored : (id c : ℕ) → Phase → State → Plain → Plain
 stored id c phase st w = record w { states = set_at c st w.states; hands = set_at id (hand c phase) w.hands }
+
+-- A seat that has something of a croutine holds it.
+held_in : (c : ℕ) (o : Option Grip) (x : RoutineView) → routine_of c o ≡ Some x → (phase : Phase) × (hand_of o ≡ hand c phase)
+held_in c None x e = absurd (none-some x e)
+held_in c (Some g) x e = elim (place g.croutine c) [
+  | inl h ↦ (g.phase, ap (λ d. hand d g.phase) h)
+  | inr h ↦ absurd (none-some x (sym (routine_else c g h) ∙ e))
+]
 
 -- What the seats say of what is in hand.
 module _ (r : Rooms) (w : Plain) (s : Table Part Seat) (id : ℕ) (v : Seat) (sits : Sits r w s id v) where
@@ -257,6 +265,14 @@ module _ (r : Rooms) (w : Plain) (s : Table Part Seat) (id : ℕ) (v : Seat) (si
   held_still c less taken out = let k = mine in
       unmoved (4 * c + 4) 1 (omega (arith, wide_is, less)) (is_shut (sits.rules.shows.parts.routine_kept c less) taken) (v.note ++ Busy c ∷ []) v.clock v.closing out
       record { made = k.made; joined = λ z. absurd (sits.live z); calls = k.calls; past = k.past; closes = k.closes; player = k.player }
+
+  -- .. by some thread.
+  pub held_by : (c : ℕ) → c < length w.routes → slice_index s.words (4 * c + 4) ≢ 0 → (p : ℕ) × (phase : Phase) × (w.hands p ≡ hand c phase)
+  held_by c less taken = ⊎_elim
+      (λ (a : AtHome (routine_in ((spread s).home (2 * c + 1))) ((spread s).word (4 * c + 4)) (λ j. routine_of c ((spread s).seat j).hand) (routine_at r w c)). absurd (taken (is_word s (4 * c + 4) 0 a.free)))
+      (λ (b : OutWith ((spread s).word (4 * c + 4)) (λ j. routine_of c ((spread s).seat j).hand) (routine_at r w c)).
+      let h = held_in c ((spread s).seat b.seat).hand (routine_at r w c) b.mine in (b.seat, h.0, sits.rules.shows.threads.hand_is b.seat ∙ h.1))
+      (sits.rules.shows.parts.routine_kept c less)
 
   -- A croutine is given back.
   pub release_becomes : (g : Grip) → v.hand ≡ Some g → MayRelease g → (out : List (ℕ × Part)) → KeepsSound (Releases id g.croutine)

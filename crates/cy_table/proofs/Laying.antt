@@ -3,7 +3,8 @@ use Rattle.std.proofs.Common.{ℕ, zero, suc, ◌+◌, ◌-◌, ◌*◌, ◌≡�
 use Rattle.std.specs.Option.{option_map_or}
 use Rattle.std.proofs.Math.Seq.{take-length}
 use Rattle.std.proofs.lemmas.Option.{slice_get_within}
-use mathlib.Core.Option.{some, some-ne-none}
+use mathlib.Core.Option as maybe
+use mathlib.Core.Option.{some, some-ne-none, some-injective}
 use lib.ListN.{get_elem?}
 use Rattle.atomic_table.specs.Table.{opening}
 use Rattle.cy_fuse.specs.Fusion.{Arrival}
@@ -26,11 +27,14 @@ use Rattle.cy_table.specs.declared.part.Part.TheVariants as part
 use Rattle.cy_table.specs.Layout.{number_of, yes_or_no}
 use Rattle.cy_table.specs.Seats.{Seat, TapeView}
 use Rattle.cy_table.specs.Seats.{AreSeen}
-use Rattle.cy_table.specs.Shown.{Rooms, LiesOpen, kind_at, roles_at, queue_at, out_in, pending_at, routine_at, visitor_at, tape_at}
-use Rattle.cy_table.specs.Steps.{first_seat, at_rest}
+use Rattle.cy_table.specs.Shown.{Rooms, AreRoomy, LiesOpen, kind_at, roles_at, queue_at, out_in, pending_at, routine_at, visitor_at, tape_at}
+use Rattle.cy_table.specs.Rule.{WereSo}
 use Rattle.cy_table.specs.Plays.{calls_from, rule_for, seat_for}
 use Rattle.cy_table.specs.Laws.{TableEnds}
-use Rattle.wake_core.specs.Laws.{FoundLaws}
+use Rattle.wake_core.specs.Laws.{FoundLaws, ThreadLaws}
+use Rattle.wake_core.specs.Laws.Events.{none}
+use Rattle.wake_core.specs.Rest.{IsAtRest, at_rest}
+use Rattle.wake_core.specs.Sound.{Sound}
 use Rattle.cy_table.specs.Ends.{AreWords, AreSlots, HaveFewCalls, laid}
 
 -- What is read of an element is that of the element that is read.
@@ -261,24 +265,55 @@ slots_are p fit t is =
           ap (get_elem? (part.Tape t ∷ laid p.routines p.visitors)) next ∙ laid_visitor p.routines p.visitors c paired (omega (arith, inside, fit.routines_fit)) ∙ ap (λ (x : VisitorView). some (part.Visitor x)) (its_visitor p fit c inside);
     }
 
+-- What lies open says nothing of threads.
+rested : {r : Rooms} (w : Plain) {words : List ℕ} {homes : List (maybe.Option Part)} → LiesOpen r (at_rest w) words homes → LiesOpen r w words homes
+rested w l = record {
+  wide = l.wide;
+  deep = l.deep;
+  clock_is = l.clock_is;
+  closing_is = l.closing_is;
+  state = l.state;
+  flag = l.flag;
+  tape_free = l.tape_free;
+  free = l.free;
+  visitor_free = l.visitor_free;
+  tape = l.tape;
+  routine = l.routine;
+  visitor = l.visitor;
+}
+
+is_fixed : (p : Parts) → IsFixed (routes_in p.fixed) (counts_in p.fixed) → IsFixed (shown_by p).routes (shown_by p).counts
+unfolding shown_by
+is_fixed p f = f
+
+are_roomy : (p : Parts) → AreFit p → AreRoomy (shown_by p).routes (shown_by p).counts (rooms_of p)
+unfolding shown_by
+are_roomy p fit = record { tape = fit.roomy.messages; calls = fit.roomy.calls; arrivals = fit.roomy.arrivals }
+
+-- A first seat that noted nothing.
+none_noted : (w : Plain) (v : Seat) → v.note ≡ [] → (j : ℕ) (u : Seat) → get_elem? (v ∷ []) j ≡ some u → WereSo w w u.note
+none_noted w v e zero u at = subst (λ (y : Seat). WereSo w w y.note) (some-injective v u at) (subst (WereSo w w) (sym e) tt)
+none_noted w v e (suc j) u at = absurd (some-ne-none u (sym at))
+
 -- A table of these words and slots meets its rule.
-pub begins : TableEnds → (key : World) (p : Parts) (words : List ℕ) (t : TapeView) → AreFit p → IsFixed (routes_in p.fixed) (counts_in p.fixed) → shown_by p ≡ at_rest (plain_of key)
+pub begins : TableEnds → ThreadLaws → (key : World) (p : Parts) (words : List ℕ) (t : TapeView) → AreFit p → IsFixed (routes_in p.fixed) (counts_in p.fixed) → IsAtRest (plain_of key) → shown_by p ≡ at_rest (plain_of key)
     → AreWords (shown_by p) words → t ≡ record { messages = p.tape.items; room = vec_capacity p.tape }
     → rule_for key (opening words (part.Tape t ∷ laid p.routines p.visitors) (seat_for key))
-unfolding shown_by
-begins law key p words t fit fixed shown open_words is =
-    let w = shown_by p in
+begins law threads key p words t fit fixed idle shown open_words is =
+    let w = plain_of key in
     let slots = part.Tape t ∷ laid p.routines p.visitors in
-    let seen = calls_from w (length w.routes) in
-    let rules = law.start (rooms_of p) w words (map some slots) seen fit.sound (λ j. record { hand = refl; owes = record { filled = refl; looked = refl; cleared = refl } }) fixed
-    record { tape = fit.roomy.messages; calls = fit.roomy.calls; arrivals = fit.roomy.arrivals } (lies open_words (slots_are p fit t is)) (all_seen w (length w.routes)) in
-    let seat : first_seat w seen ≡ seat_for key = ap (λ (u : Plain). first_seat u (calls_from u (length u.routes))) shown in
+    let sound : Sound w = threads.replaced (at_rest w) w (λ j. record { hand = refl; owes = record { filled = refl; looked = refl; cleared = refl } }) idle refl (subst Sound shown fit.sound) in
+    let fixed_so : IsFixed w.routes w.counts = subst (λ (u : Plain). IsFixed u.routes u.counts) shown (is_fixed p fixed) in
+    let roomy : AreRoomy w.routes w.counts (rooms_of p) = subst (λ (u : Plain). AreRoomy u.routes u.counts (rooms_of p)) shown (are_roomy p fit) in
+    let lies_so : LiesOpen (rooms_of p) w words (map some slots) = rested w (subst (λ (u : Plain). LiesOpen (rooms_of p) u words (map some slots)) shown (lies open_words (slots_are p fit t is))) in
     record {
-      world = at_rest w;
+      world = w;
       rooms = rooms_of p;
-      components = ap (λ (u : Plain). u.routes) shown;
-      planned = ap (λ (u : Plain). u.counts) shown;
-      rules = subst (λ (v : Seat). Rattle.cy_table.specs.Rule.Rules (rooms_of p) (at_rest w) (opening words slots v)) seat rules;
+      components = refl;
+      planned = refl;
+      reached = none;
+      noted = λ j v e. none_noted w (seat_for key) refl j v e;
+      rules = law.start (rooms_of p) w words (map some slots) (calls_from w (length w.routes)) sound idle fixed_so roomy lies_so (all_seen w (length w.routes));
     }
 
 -- No routine of a world has more calls than a world keeps.

@@ -16,7 +16,7 @@ use Rattle.cy_table.specs.Seats.{Seat, Seen, no_seat}
 use Rattle.cy_table.specs.Seats.{IsEmpty, AreSeen, total_live}
 use Rattle.cy_table.specs.Shown.{Rooms, AreRoomy, Kept, AtHome, OutWith, LiesOpen, spread, routine_in, visitor_in, tape_in, routine_of, visitor_of, hand_of, routine_at, visitor_at, tape_at}
 use Rattle.cy_table.specs.Rule.{Rules, Knows}
-use Rattle.cy_table.specs.Steps.{Sits, first_seat, at_rest}
+use Rattle.cy_table.specs.Steps.{Sits, first_seat}
 use Rattle.cy_table.proofs.Places.{place, is_word, home_is}
 use Rattle.cy_table.proofs.Holding.{routine_back}
 use Rattle.cy_table.proofs.Doors.{tape_back, visitor_back}
@@ -26,12 +26,12 @@ single : (a : Seat) (j : ℕ) (u : Seat) → get_elem? (a ∷ []) j ≡ some u �
 single a zero u e = (refl, some-injective a u e)
 single a (suc j) u e = absurd (some-ne-none u (sym e))
 
-pub starts : (r : Rooms) (w : Plain) (words : List ℕ) (homes : List (maybe.Option Part)) (seen : List Seen) → Sound (at_rest w) → IsFixed w.routes w.counts → AreRoomy w.routes w.counts r → LiesOpen r w words homes
-    → AreSeen w.calls seen → Rules r (at_rest w) record { words = words; homes = homes; views = first_seat w seen ∷ [] }
+pub starts : (r : Rooms) (w : Plain) (words : List ℕ) (homes : List (maybe.Option Part)) (seen : List Seen) → Sound w → ((p : ℕ) → IsIdle p w) → IsFixed w.routes w.counts → AreRoomy w.routes w.counts r → LiesOpen r w words homes
+    → AreSeen w.calls seen → Rules r w record { words = words; homes = homes; views = first_seat w seen ∷ [] }
 unfolding spread
-starts r w words homes seen sound fixed roomy lies all =
+starts r w words homes seen sound idle fixed roomy lies all =
     let a : Seat = first_seat w seen in
-    let knows : Knows (at_rest w) 0 a = record {
+    let knows : Knows w 0 a = record {
       made = λ z. (refl, refl);
       joined = λ z. absurd (omega (arith, z));
       calls = all;
@@ -44,7 +44,7 @@ starts r w words homes seen sound fixed roomy lies all =
       deep = lies.deep;
       sound = sound;
       fixed = fixed;
-      roomy = record { tape = roomy.tape; calls = roomy.calls; arrivals = roomy.arrivals };
+      roomy = roomy;
       shows = record {
         parts = record {
           tape_kept = inl record { free = lies.tape_free; shown = ap tape_in lies.tape; nobody = snoc_seen (λ (u : Seat). u.tape) [] a refl };
@@ -53,14 +53,14 @@ starts r w words homes seen sound fixed roomy lies all =
         };
         words = record { state = lies.state; flag = lies.flag; clock_is = lies.clock_is; closing_is = lies.closing_is };
         threads = record {
-          hand_is = λ j. sym (snoc_seen (λ (u : Seat). hand_of u.hand) [] a refl j);
-          fills_are = λ j. sym (snoc_seen (λ (u : Seat). u.fills) [] a refl j);
-          news_are = λ j. sym (snoc_seen (λ (u : Seat). u.news) [] a refl j);
-          clearing_is = λ j. sym (snoc_seen (λ (u : Seat). u.clearing) [] a refl j);
-          token_is = λ j. sym (snoc_seen (λ (u : Seat). u.token) [] a refl j);
+          hand_is = λ j. (idle j).hand ∙ sym (snoc_seen (λ (u : Seat). hand_of u.hand) [] a refl j);
+          fills_are = λ j. (idle j).owes.filled ∙ sym (snoc_seen (λ (u : Seat). u.fills) [] a refl j);
+          news_are = λ j. (idle j).owes.looked ∙ sym (snoc_seen (λ (u : Seat). u.news) [] a refl j);
+          clearing_is = λ j. (idle j).owes.cleared ∙ sym (snoc_seen (λ (u : Seat). u.clearing) [] a refl j);
+          token_is = λ j owes. absurd (owes (idle j).owes.filled);
         };
       };
-      knows = λ j u e. let one = single a j u e in subst (Knows (at_rest w) j) one.1 (subst (λ i. Knows (at_rest w) i a) (sym one.0) knows);
+      knows = λ j u e. let one = single a j u e in subst (Knows w j) one.1 (subst (λ i. Knows w i a) (sym one.0) knows);
       counted = λ u e. let one = single a 0 u e in (ap (λ (z : Seat). z.live) (sym one.1), ap (λ (z : Seat). z.split + 1) one.1);
     }
 

@@ -16,7 +16,7 @@ use Rattle.cy_table.specs.Layout.{number_of}
 use Rattle.cy_table.specs.Seats.{Seat, Grip, Visit, TapeView}
 use Rattle.cy_table.specs.Shown.{Spread, Home, routine_in, visitor_in, tape_in, routine_of, visitor_of, hand_of, Kept}
 use Rattle.cy_table.specs.Rule.{ShowsParts, ShowsWords, ShowsThreads}
-use Rattle.cy_table.proofs.Places.{place, there, other, unseen, shown_still, shown_anew, after}
+use Rattle.cy_table.proofs.Places.{place, there, other, unseen, shown_still, shown_anew, token_still, after}
 use Rattle.cy_table.proofs.Keeping.{stays, has_it, taken, given, turned}
 
 pub routine_here : (c : ℕ) (g : Grip) → g.croutine ≡ c → routine_of c (Some g) ≡ Some g.routine
@@ -185,7 +185,7 @@ module _ {hands : ℕ → Option Hand} {fills : ℕ → List (ℕ × ℕ)} {news
     fills_are = shown_still (λ (u : Seat). u.fills) seat fills th.fills_are id v (fills_is ∙ ap (λ (u : Seat). u.fills) (sym at));
     news_are = shown_still (λ (u : Seat). u.news) seat news th.news_are id v (news_is ∙ ap (λ (u : Seat). u.news) (sym at));
     clearing_is = shown_still (λ (u : Seat). u.clearing) seat clearing th.clearing_is id v (clearing_is ∙ ap (λ (u : Seat). u.clearing) (sym at));
-    token_is = shown_still (λ (u : Seat). u.token) seat tokens th.token_is id v (token_is ∙ ap (λ (u : Seat). u.token) (sym at));
+    token_is = token_still seat tokens fills th.token_is id v (token_is ∙ ap (λ (u : Seat). u.token) (sym at));
   }
 
   pub threads_still : hand_of v.hand ≡ hand_of v0.hand → ShowsThreads hands fills news clearing tokens (set_at id v seat)
@@ -194,5 +194,5 @@ module _ {hands : ℕ → Option Hand} {fills : ℕ → List (ℕ × ℕ)} {news
     fills_are = shown_still (λ (u : Seat). u.fills) seat fills th.fills_are id v (fills_is ∙ ap (λ (u : Seat). u.fills) (sym at));
     news_are = shown_still (λ (u : Seat). u.news) seat news th.news_are id v (news_is ∙ ap (λ (u : Seat). u.news) (sym at));
     clearing_is = shown_still (λ (u : Seat). u.clearing) seat clearing th.clearing_is id v (clearing_is ∙ ap (λ (u : Seat). u.clearing) (sym at));
-    token_is = shown_still (λ (u : Seat). u.token) seat tokens th.token_is id v (token_is ∙ ap (λ (u : Seat). u.token) (sym at));
+    token_is = token_still seat tokens fills th.token_is id v (token_is ∙ ap (λ (u : Seat). u.token) (sym at));
   }

@@ -6,6 +6,7 @@ use mathlib.Core.Option.{some, none, some-ne-none, some-injective}
 use lib.ListN.{get_elem?}
 use Rattle.atomic_table.specs.Table.{State as Table, stepped, keeps, takes, gives}
 use Rattle.atomic_table.proofs.Lists.{set_here, set_else}
+use Rattle.cy_msg.specs.declared.token.Token.{Token}
 use Rattle.wake_core.specs.Run.{set_at}
 use Rattle.cy_table.specs.declared.part.Part.{Part}
 use Rattle.cy_table.specs.Seats.{Seat, no_seat}
@@ -38,6 +39,24 @@ module _ {X : Type 0} (g : Seat → X) (seat : ℕ → Seat) (old : ℕ → X) (
   shown_anew y e j = elim (place j id) [
     | inl h ↦ there id y old j h ∙ (e ∙ ap g (sym (there id v seat j h)))
     | inr h ↦ other id y old j h ∙ (all j ∙ ap g (sym (other id v seat j h)))
+  ]
+
+-- The message of what is owed, where one seat has the same one as before, owes one fill less, or has
+-- a new one.
+module _ (seat : ℕ → Seat) (tokens : ℕ → Token) (fills : ℕ → List (ℕ × ℕ)) (all : (j : ℕ) → fills j ≢ [] → tokens j ≡ (seat j).token) (id : ℕ) (v : Seat) where
+  pub token_still : v.token ≡ (seat id).token → (j : ℕ) → fills j ≢ [] → tokens j ≡ (set_at id v seat j).token
+  token_still e j owes = all j owes ∙ sym (unseen (λ (u : Seat). u.token) id v seat j e)
+
+  pub token_later : (later : List (ℕ × ℕ)) → fills id ≢ [] → v.token ≡ (seat id).token → (j : ℕ) → set_at id later fills j ≢ [] → tokens j ≡ (set_at id v seat j).token
+  token_later later had e j owes = elim (place j id) [
+    | inl h ↦ token_still e j (λ z. had (ap fills (sym h) ∙ z))
+    | inr h ↦ token_still e j (λ z. owes (other id later fills j h ∙ z))
+  ]
+
+  pub token_anew : (t : Token) (now : List (ℕ × ℕ)) → t ≡ v.token → (j : ℕ) → set_at id now fills j ≢ [] → set_at id t tokens j ≡ (set_at id v seat j).token
+  token_anew t now e j owes = elim (place j id) [
+    | inl h ↦ there id t tokens j h ∙ (e ∙ ap (λ (u : Seat). u.token) (sym (there id v seat j h)))
+    | inr h ↦ other id t tokens j h ∙ (all j (λ z. owes (other id now fills j h ∙ z)) ∙ ap (λ (u : Seat). u.token) (sym (other id v seat j h)))
   ]
 
 pub list_changed : {X : Type 0} (d : X) (xs : List X) (i : ℕ) (x : X) → i < length xs → (λ k. get_or (set xs i x) k d) ≡ set_at i x (λ k. get_or xs k d)

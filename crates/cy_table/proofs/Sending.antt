@@ -27,7 +27,7 @@ use Rattle.cy_table.specs.Seats.{Seat, Grip, TapeView}
 use Rattle.cy_table.specs.Shown.{Rooms, Home, Kept, spread, routine_in, routine_of, hand_of, routine_at, visitor_at, tape_at, out_in}
 use Rattle.cy_table.specs.Rule.{Shows, ShowsParts}
 use Rattle.cy_table.specs.Steps.{Sits, Becomes, with_message, MayTape, taping, MaySend, out_at, output_at, phase_sent, sent_of, sending}
-use Rattle.cy_table.proofs.Places.{other, shown_still, shown_anew, after, spread_gives}
+use Rattle.cy_table.proofs.Places.{other, shown_still, shown_anew, token_anew, after, spread_gives}
 use Rattle.cy_table.proofs.Parts.{routine_beside, routine_turned, same_words}
 use Rattle.cy_table.proofs.Knowing.{Grows, rules_after}
 use Rattle.cy_table.proofs.Holding.{wide_is, deep_is, seat_is, seat_in, hand_is, in_phase, routine_known, last_known, owes_known, mine}
@@ -126,7 +126,7 @@ module _ (r : Rooms) (w : Plain) (s : Table Part Seat) (v : Seat) (sits : Sits r
           fills_are = shown_anew (λ (u : Seat). u.fills) t.seat w.fills th.fills_are 0 v' (readers_of w.routes m.channel) (ap (λ (l : List Route). readers_of l m.channel) (sym made.0));
           news_are = shown_still (λ (u : Seat). u.news) t.seat w.news th.news_are 0 v' (ap (λ (u : Seat). u.news) (sym at));
           clearing_is = shown_still (λ (u : Seat). u.clearing) t.seat w.clearing th.clearing_is 0 v' (ap (λ (u : Seat). u.clearing) (sym at));
-          token_is = shown_anew (λ (u : Seat). u.token) t.seat w.tokens th.token_is 0 v' m refl;
+          token_is = token_anew t.seat w.tokens w.fills th.token_is 0 v' m (readers_of w.routes m.channel) refl;
         };
       } in record {
         world = w';
@@ -220,7 +220,7 @@ module _ (r : Rooms) (w : Plain) (s : Table Part Seat) (id : ℕ) (v : Seat) (si
           fills_are = shown_anew (λ (z : Seat). z.fills) t.seat w.fills th.fills_are id v' (readers_of w.routes m.channel) (ap (λ (l : List Route). readers_of l m.channel) (sym made.0));
           news_are = shown_still (λ (z : Seat). z.news) t.seat w.news th.news_are id v' (ap (λ (z : Seat). z.news) (sym at));
           clearing_is = shown_still (λ (z : Seat). z.clearing) t.seat w.clearing th.clearing_is id v' (ap (λ (z : Seat). z.clearing) (sym at));
-          token_is = shown_anew (λ (z : Seat). z.token) t.seat w.tokens th.token_is id v' m refl;
+          token_is = token_anew t.seat w.tokens w.fills th.token_is id v' m (readers_of w.routes m.channel) refl;
         };
       } in record {
         world = w';

@@ -18,7 +18,7 @@ use Rattle.cy_table.specs.Seats.Entry.{Clock, Closing}
 use Rattle.cy_table.specs.Shown.{Rooms, spread, routine_of, hand_of}
 use Rattle.cy_table.specs.Rule.{Rules, Shows, ShowsWords}
 use Rattle.cy_table.specs.Steps.{Sits, Becomes, MaySpend, spending, looking, clearing_but, seeing, ticking, heeding, closing_all}
-use Rattle.cy_table.proofs.Places.{place, there, other, unseen, shown_still, shown_anew, word_is, is_word, after, spread_keeps}
+use Rattle.cy_table.proofs.Places.{place, there, other, unseen, shown_still, shown_anew, token_still, word_is, is_word, after, spread_keeps}
 use Rattle.cy_table.proofs.Parts.{DoorsStay, OthersStay, same_words, parts_same, state_doors, threads_hand, threads_still}
 use Rattle.cy_table.proofs.Knowing.{Grows, nothing_grows, rules_after}
 use Rattle.cy_table.proofs.Holding.{wide_is, seat_is, seat_in, hand_is, croutine_known, routine_known, in_phase, mine, unmoved}
@@ -173,7 +173,7 @@ module _ (r : Rooms) (w : Plain) (s : Table Part Seat) (id : ℕ) (v : Seat) (si
           news_are = shown_anew (λ (u : Seat). u.news) t.seat w.news th.news_are id v' later refl;
           clearing_is = shown_anew (λ (u : Seat). u.clearing) t.seat w.clearing th.clearing_is id v' (cond (is_waiting (w.states c)) (w.clearing id ++ c ∷ []) (w.clearing id))
               (ap₂ (λ (b : Bool) (l : List ℕ). cond b (l ++ c ∷ []) l) waits_are clearing_are);
-          token_is = shown_still (λ (u : Seat). u.token) t.seat w.tokens th.token_is id v' (ap (λ (u : Seat). u.token) (sym at));
+          token_is = token_still t.seat w.tokens w.fills th.token_is id v' (ap (λ (u : Seat). u.token) (sym at));
         };
       } in record {
         world = w';
@@ -205,7 +205,7 @@ module _ (r : Rooms) (w : Plain) (s : Table Part Seat) (id : ℕ) (v : Seat) (si
           fills_are = shown_still (λ (u : Seat). u.fills) t.seat w.fills th.fills_are id v' (ap (λ (u : Seat). u.fills) (sym at));
           news_are = shown_still (λ (u : Seat). u.news) t.seat w.news th.news_are id v' (ap (λ (u : Seat). u.news) (sym at));
           clearing_is = shown_anew (λ (u : Seat). u.clearing) t.seat w.clearing th.clearing_is id v' (before ++ behind) refl;
-          token_is = shown_still (λ (u : Seat). u.token) t.seat w.tokens th.token_is id v' (ap (λ (u : Seat). u.token) (sym at));
+          token_is = token_still t.seat w.tokens w.fills th.token_is id v' (ap (λ (u : Seat). u.token) (sym at));
         };
       } in record {
         world = w';

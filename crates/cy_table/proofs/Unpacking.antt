@@ -21,7 +21,7 @@ use Rattle.wake_core.specs.Sound.{Sound}
 use Rattle.wake_core.specs.Fields.{read, no_routine, no_visitor, IsFixed, IsVisited, IsRoomy, queue_of}
 use Rattle.wake_core.specs.WorldOf.{routes_in, counts_in}
 use Rattle.wake_core.specs.WorldCalls.{IsRoutineOf}
-use Rattle.wake_core.specs.Laws.{IsIdle, ThreadLaws, OutsideLaws, AgreesWithin, SaysNothing}
+use Rattle.wake_core.specs.Laws.{IsIdle, Events, ThreadLaws, OutsideLaws, AgreesWithin, SaysNothing}
 use Rattle.wake_core.specs.TapeLaws.{UnsentLaws}
 use Rattle.wake_core.specs.Rest.{at_rest}
 use Rattle.wake_core.specs.Parts.{routine_in, shown_by, AreFit}
@@ -31,7 +31,7 @@ use Rattle.cy_table.specs.Layout.{yes_or_no}
 use Rattle.cy_table.specs.Seats.{Seat, Seen as Sight, TapeView}
 use Rattle.cy_table.specs.Seats.{AreSeen, IsEmpty}
 use Rattle.cy_table.specs.Shown.{Rooms, AreRoomy, out_in, pending_at, routine_at, visitor_at, tape_at}
-use Rattle.cy_table.specs.Rule.{Ruled, Knows}
+use Rattle.cy_table.specs.Rule.{Ruled, WereSo, Knows}
 use Rattle.cy_table.specs.Steps.{Sits}
 use Rattle.cy_table.specs.Plays.{HasSeen}
 use Rattle.cy_table.specs.Laws.{TableEnds}
@@ -41,11 +41,13 @@ use Rattle.cy_table.proofs.Places.{place}
 use Rattle.cy_table.proofs.Laying.{read_of, some_route}
 
 -- A table that lies open, as its words and slots show it.
-pub record Ends (routes : List Route) (counts : List ℕ) (v : Seat) (words : List ℕ) (slots : List Part) : Type 0 where
+pub record Ends (made : Plain) (v : Seat) (words : List ℕ) (slots : List Part) : Type 0 where
   pub world : Plain
   pub rooms : Rooms
-  pub components : world.routes ≡ routes
-  pub planned : world.counts ≡ counts
+  pub components : world.routes ≡ made.routes
+  pub planned : world.counts ≡ made.counts
+  pub reached : Events made world
+  pub noted : WereSo made world v.note
   pub sound : Sound world
   pub idle : (p : ℕ) → IsIdle p world
   pub fixed : IsFixed world.routes world.counts
@@ -54,9 +56,9 @@ pub record Ends (routes : List Route) (counts : List ℕ) (v : Seat) (words : Li
   pub words_are : AreWords world words
   pub slots_are : AreSlots rooms world slots
 
-pub shuts : TableEnds → (routes : List Route) (counts : List ℕ) (id : ℕ) (v : Seat) (words : List ℕ) (slots : List Part) → id ≡ 0 → v.live ≢ 0 → IsEmpty v → v.split ≡ 0
-    → Final (Seen (Ruled routes counts) id v) words slots → Ends routes counts v words slots
-shuts law routes counts id v words slots player live empty alone f =
+pub shuts : TableEnds → (made : Plain) (id : ℕ) (v : Seat) (words : List ℕ) (slots : List Part) → id ≡ 0 → v.live ≢ 0 → IsEmpty v → v.split ≡ 0
+    → Final (Seen (Ruled made) id v) words slots → Ends made v words slots
+shuts law made id v words slots player live empty alone f =
     let s = f.0 in
     let k = f.1.0 in
     let first = subst (λ j. get_elem? s.views j ≡ some v) player f.1.1 in
@@ -67,6 +69,8 @@ shuts law routes counts id v words slots player live empty alone f =
       rooms = k.rooms;
       components = k.components;
       planned = k.planned;
+      reached = k.reached;
+      noted = k.noted 0 v first;
       sound = k.rules.sound;
       idle = law.idle k.rooms k.world s v sits empty alone;
       fixed = k.rules.fixed;
@@ -218,9 +222,9 @@ few_played routes tape = fewer (λ (t : Token). Rattle.std.proofs.Common.not (Ra
         go true l = omega (arith, l)
         go false l = omega (arith, l)
 
-module _ {routes : List Route} {counts : List ℕ} {v : Seat} {words : List ℕ} {slots : List Part} (e : Ends routes counts v words slots) (p : Parts)
-    (taken : TakenOut words slots (length routes) p.routines p.visitors p.spent) (rest : AreRest words slots p) (fr : routes_in p.fixed ≡ routes) (fc : counts_in p.fixed ≡ counts) where
-  inside : (c : ℕ) → c < length e.world.routes → c < length routes
+module _ {made : Plain} {v : Seat} {words : List ℕ} {slots : List Part} (e : Ends made v words slots) (p : Parts)
+    (taken : TakenOut words slots (length made.routes) p.routines p.visitors p.spent) (rest : AreRest words slots p) (fr : routes_in p.fixed ≡ made.routes) (fc : counts_in p.fixed ≡ made.counts) where
+  inside : (c : ℕ) → c < length e.world.routes → c < length made.routes
   inside c less = omega (arith, less, ap length e.components)
 
   its_routine : (c : ℕ) → c < length e.world.routes → routine_in p c ≡ routine_at e.rooms e.world c
@@ -260,7 +264,7 @@ module _ {routes : List Route} {counts : List ℕ} {v : Seat} {words : List ℕ}
       ∙ ap (λ (n : ℕ). record (shown_by p) { routes = e.world.routes; counts = e.world.counts; tape = e.world.tape; clock = n }) clock_same
       ∙ ap (λ (b : Bool). record (shown_by p) { routes = e.world.routes; counts = e.world.counts; tape = e.world.tape; clock = e.world.clock; closing = b }) closing_same
 
-  agrees : AgreesWithin (at_rest e.world) (shown_by p)
+  pub agrees : AgreesWithin (at_rest e.world) (shown_by p)
   unfolding shown_by
   agrees = record {
     same = same;

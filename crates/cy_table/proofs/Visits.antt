@@ -11,37 +11,40 @@ use Rattle.wake_core.specs.declared.entries.TheConstants.{MOST_PLANNED}
 use Rattle.wake_core.specs.declared.route.Route.{Route}
 use Rattle.wake_core.specs.declared.phase.Phase.TheVariants.{Asked}
 use Rattle.wake_core.specs.Plain.{Plain}
+use Rattle.wake_core.specs.Laws.Event.{fetch, fill}
 use Rattle.cy_table.specs.declared.part.Part.{Part}
 use Rattle.cy_table.specs.declared.part.Part.TheVariants as part
 use Rattle.cy_table.specs.Seats.{Seat, Grip, Visit}
-use Rattle.cy_table.specs.Shown.{Rooms, roles_at, queue_at}
-use Rattle.cy_table.specs.Rule.{Ruled}
+use Rattle.cy_table.specs.Seats.Entry.{Saw}
+use Rattle.cy_table.specs.Shown.{Rooms, roles_at, queue_at, visitor_at}
+use Rattle.cy_table.specs.Rule.{Ruled, IsVisitorOf}
 use Rattle.cy_table.specs.Steps.{Sits, visiting, filling, called, fetching}
 use Rattle.cy_table.specs.Laws.{VisitorDoorSwaps, FillStores, FetchStores, RoomsLeft}
 use Rattle.cy_table.specs.Plays.{Thread, in_hand, VisitTells, visited, first_fill, later_fills, filled, finding, fetched}
 use Rattle.cy_table.proofs.Places.{place}
 use Rattle.cy_table.proofs.Holding.{croutine_known, routine_known}
-use Rattle.cy_table.proofs.Allowing.{ruled_then, ruled_still}
+use Rattle.cy_table.proofs.Doors.{visitor_known}
+use Rattle.cy_table.proofs.Allowing.{ruled_then, ruled_still, ruled_noting}
 
 room_left : (x room have : ℕ) → x ≡ room - have → have < room → 1 ≤ x
 room_left x room have e less = omega (arith, e, less)
 
-pub visits : VisitorDoorSwaps → RoomsLeft → (routes : List Route) (counts : List ℕ) (slots id c : ℕ) (m : Thread) → m.0.live ≢ 0 → m.0.visit ≡ None → c < length routes
-    → Allows (Ruled routes counts) slots id m (4 * c + 7) (λ _. 1) (visited (step slots (4 * c + 7) 1 0 none) m)
-visits law rooms routes counts slots id c m live bare less s k deep at bound =
+pub visits : VisitorDoorSwaps → RoomsLeft → (made : Plain) (slots id c : ℕ) (m : Thread) → m.0.live ≢ 0 → m.0.visit ≡ None → c < length made.routes
+    → Allows (Ruled made) slots id m (4 * c + 7) (λ _. 1) (visited (step slots (4 * c + 7) 1 0 none) m)
+visits law rooms made slots id c m live bare less s k deep at bound =
     let inside : c < length k.world.routes = subst (λ (l : List Route). c < length l) (sym k.components) less in
     let sits : Sits k.rooms k.world s id m.0 = record { rules = k.rules; at = at; live = live } in
     let tell = λ (found : ℕ) (n : Thread) (a : VisitTells c m found n). λ (d : ℕ) (e : 4 * c + 7 ≡ 4 * d + 7). subst (λ j. VisitTells j m found n) (let h : c ≡ d = omega arith in h) a in
     elim (place (slice_index s.words (4 * c + 7)) 0) [
       | inl free ↦ let a = law.open_door k.rooms k.world s id c m.0 m.1 sits inside bare free in
-          let made = (k.rules.knows id m.0 at).made live in
-          let queue = ap (λ (y : VisitorView). y.queue) a.2 ∙ ap₂ (λ (l : List Route) (n : List ℕ). queue_at l n c) (sym made.0) (sym made.1) in
-          let roles = ap (λ (y : VisitorView). y.roles) a.2 ∙ ap (λ (l : List Route). roles_at l c) (sym made.0) in
+          let known = (k.rules.knows id m.0 at).made live in
+          let queue = ap (λ (y : VisitorView). y.queue) a.2 ∙ ap₂ (λ (l : List Route) (n : List ℕ). queue_at l n c) (sym known.0) (sym known.1) in
+          let roles = ap (λ (y : VisitorView). y.roles) a.2 ∙ ap (λ (l : List Route). roles_at l c) (sym known.0) in
           let spare = ap (λ (y : VisitorView). y.spare) a.2 in (
             visiting m.0 c a.0,
             takes (2 * c + 2) (part.Visitor a.0),
             a.1,
-            ruled_still k a.3,
+            ruled_still k id (visiting m.0 c a.0) refl m.0 at a.3 refl,
             tell (slice_index s.words (4 * c + 7)) (visiting m.0 c a.0, (2 * c + 2, part.Visitor a.0) ∷ m.1) record {
               open_door = λ z. (a.0, refl, queue, roles, λ j later e. room_left a.0.spare (k.rooms.arrivals c) (length (k.world.arrivals c)) spare (rooms.fill k.rooms k.world s id m.0 c j later sits e inside));
               shut_door = λ ne. absurd (ne free);
@@ -51,15 +54,15 @@ visits law rooms routes counts slots id c m live bare less s k deep at bound =
         m.0,
         keeps,
         tt,
-        ruled_still k (law.shut_door k.rooms k.world s id c m.0 m.1 sits inside shut),
+        ruled_still k id m.0 refl m.0 at (law.shut_door k.rooms k.world s id c m.0 m.1 sits inside shut) refl,
         tell (slice_index s.words (4 * c + 7)) m record { open_door = λ z. absurd (shut z); shut_door = λ ne. refl },
       )
     ]
 
-pub fills : FillStores → (routes : List Route) (counts : List ℕ) (slots id c j : ℕ) (x : VisitorView) (v : Seat) (more : List (ℕ × Part)) (m : Thread) → v.live ≢ 0 → v.fills ≡ (c, j) ∷ later_fills v.fills → c < length routes
+pub fills : FillStores → (made : Plain) (slots id c j : ℕ) (x : VisitorView) (v : Seat) (more : List (ℕ × Part)) (m : Thread) → v.live ≢ 0 → v.fills ≡ (c, j) ∷ later_fills v.fills → c < length made.routes
     → m ≡ (visiting v c x, (2 * c + 2, part.Visitor (arrived x j v.token)) ∷ more)
-    → Allows (Ruled routes counts) slots id m (4 * c + 7) (λ _. 0) (λ _. filled (step slots (4 * c + 7) 0 0 none) m 0)
-fills law routes counts slots id c j x v more m live owes less is = subst (λ z. Allows (Ruled routes counts) slots id z (4 * c + 7) (λ _. 0) (λ _. filled (step slots (4 * c + 7) 0 0 none) z 0)) (sym is)
+    → Allows (Ruled made) slots id m (4 * c + 7) (λ _. 0) (λ _. filled (step slots (4 * c + 7) 0 0 none) m 0)
+fills law made slots id c j x v more m live owes less is = subst (λ z. Allows (Ruled made) slots id z (4 * c + 7) (λ _. 0) (λ _. filled (step slots (4 * c + 7) 0 0 none) z 0)) (sym is)
     (λ s k deep at bound.
     let u = visiting v c x in
     let a : Visit = record { component = c; visitor = x } in
@@ -68,7 +71,7 @@ fills law routes counts slots id c j x v more m live owes less is = subst (λ z.
       filling u c j (later_fills v.fills),
       gives,
       tt,
-      ruled_then k (law.fill k.rooms k.world s id u a j (later_fills v.fills) more sits refl owes inside),
+      ruled_then k id (filling u c j (later_fills v.fills)) refl u at (λ w u e. fill e) (law.fill k.rooms k.world s id u a j (later_fills v.fills) more sits refl owes inside) refl,
       ap (λ (l : List (ℕ × ℕ)). let n : Thread = (filling u (first_fill l).0 (first_fill l).1 (later_fills l), more) in n) (sym owes),
     ))
 
@@ -86,10 +89,10 @@ few_then g (Some f) few less =
     let added = length-append g.routine.calls (call ∷ []) in
     omega (arith, one, added)
 
-pub fetches : FetchStores → RoomsLeft → (routes : List Route) (counts : List ℕ) (slots id c : ℕ) (x : VisitorView) (v : Seat) (more : List (ℕ × Part)) (m : Thread) → v.live ≢ 0 → v.hand ≡ Some (in_hand v) → (in_hand v).croutine ≡ c
-    → (in_hand v).phase ≡ Asked → c < length routes → m ≡ (visiting v c x, (2 * c + 2, part.Visitor x) ∷ more)
-    → Allows (Ruled routes counts) slots id m (4 * c + 7) (λ _. 0) (λ _. fetched (step slots (4 * c + 7) 0 0 none) m 0)
-fetches law rooms routes counts slots id c x v more m live has same asked less is = subst (λ z. Allows (Ruled routes counts) slots id z (4 * c + 7) (λ _. 0) (λ _. fetched (step slots (4 * c + 7) 0 0 none) z 0)) (sym is)
+pub fetches : FetchStores → RoomsLeft → (made : Plain) (slots id c : ℕ) (x : VisitorView) (v : Seat) (more : List (ℕ × Part)) (m : Thread) → v.live ≢ 0 → v.hand ≡ Some (in_hand v) → (in_hand v).croutine ≡ c
+    → (in_hand v).phase ≡ Asked → c < length made.routes → m ≡ (visiting v c x, (2 * c + 2, part.Visitor x) ∷ more)
+    → Allows (Ruled made) slots id m (4 * c + 7) (λ _. 0) (λ _. fetched (step slots (4 * c + 7) 0 0 none) m 0)
+fetches law rooms made slots id c x v more m live has same asked less is = subst (λ z. Allows (Ruled made) slots id z (4 * c + 7) (λ _. 0) (λ _. fetched (step slots (4 * c + 7) 0 0 none) z 0)) (sym is)
     (λ s k deep at bound.
     let u = visiting v c x in
     let g = in_hand v in
@@ -97,10 +100,12 @@ fetches law rooms routes counts slots id c x v more m live has same asked less i
     let inside : c < length k.world.routes = subst (λ (l : List Route). c < length l) (sym k.components) less in
     let sits : Sits k.rooms k.world s id u = record { rules = k.rules; at = at; live = live } in
     let fits = λ (f : Tuple × ℕ × ℕ) (e : finding u ≡ Some f). rooms.fetch k.rooms k.world s id u g a f sits has asked refl (sym same) e in
-    let calls = calls_in_hand k.rooms k.world s id u g sits rooms has in (
+    let calls = calls_in_hand k.rooms k.world s id u g sits rooms has in
+    let is : x ≡ visitor_at k.rooms k.world g.croutine = visitor_known k.rooms k.world s id u sits a refl inside ∙ ap (visitor_at k.rooms k.world) (sym same) in
+    let saw : IsVisitorOf k.world g.croutine x = record { arrivals = ap (λ (y : VisitorView). y.arrivals) is; roles = ap (λ (y : VisitorView). y.roles) is; queue = ap (λ (y : VisitorView). y.queue) is } in (
       fetching u g x (finding u),
       gives,
       tt,
-      ruled_then k (law.fetch k.rooms k.world s id u g a more sits has asked refl (sym same)),
+      ruled_noting k id (fetching u g x (finding u)) refl u at (λ w u e. fetch e) (law.fetch k.rooms k.world s id u g a more sits has asked refl (sym same)) (Saw g.croutine x) refl (inl saw),
       record { thread = refl; fits = λ f e. (fits f e).0; few = few_then g (finding u) calls (λ f e. (fits f e).1) },
     ))

@@ -1,46 +1,50 @@
 -- What the steps of the clock, of the closing word, of news and of the bench may do, by their laws.
-use Rattle.std.proofs.Common.{ℕ, ◌+◌, ◌*◌, ◌==◌, ◌≡◌, ◌≢◌, ◌≤◌, ◌<◌, refl, sym, ◌∙◌, ap, subst, List, [], ◌∷◌, ◌++◌, length, slice_index}
-use mathlib.Core.Option.{none}
+use Rattle.std.proofs.Common.{ℕ, ◌+◌, ◌*◌, ◌==◌, ◌≡◌, ◌≢◌, ◌≤◌, ◌<◌, refl, sym, ◌∙◌, ap, subst, ⊎_elim, List, [], ◌∷◌, ◌++◌, length, set, slice_index}
+use mathlib.Core.Option.{none, some}
+use lib.ListN.{get_elem?}
 use Rattle.atomic_table.specs.Table.{State as Table, Allows, Splits, Joins, step, keeps}
-use Rattle.atomic_table.proofs.Lists.{set_else}
+use Rattle.atomic_table.proofs.Lists.{at_snoc, set_else}
 use Rattle.wake_core.specs.declared.route.Route.{Route}
-use Rattle.wake_core.specs.Plain.{blank, to_play_from}
-use Rattle.wake_core.specs.Laws.{with_idle}
+use Rattle.wake_core.specs.Plain.{Plain}
+use Rattle.wake_core.specs.Plain.{to_play_from}
+use Rattle.wake_core.specs.Laws.Event.{look, clear, tick, close}
 use Rattle.cy_table.specs.declared.part.Part.{Part}
 use Rattle.cy_table.specs.Seats.{Seat, no_seat}
 use Rattle.cy_table.specs.Seats.{IsEmpty}
-use Rattle.cy_table.specs.Rule.{Ruled}
+use Rattle.cy_table.specs.Seats.Entry.{Clock, Closing}
+use Rattle.cy_table.specs.Rule.{Ruled, WereSo}
 use Rattle.cy_table.specs.Steps.{Sits, seeing, ticking, heeding, closing_all, looking, clearing_but, splitting, split_off, joining}
 use Rattle.cy_table.specs.Laws.{ClockSteps, ClosingSteps, StateLoads, FlagStores, BenchSteps}
 use Rattle.cy_table.specs.Plays.{Thread, but_first, but_last, saw, ticked, heeded, closed, looked, cleared}
-use Rattle.cy_table.proofs.Allowing.{ruled_then, ruled_still}
+use Rattle.cy_table.proofs.Telling.{clock_word_is}
+use Rattle.cy_table.proofs.Allowing.{all_were, ruled_then, ruled_seeing}
 
-sits_at : {routes : List Route} {counts : List ℕ} {s : Table Part Seat} (k : Ruled routes counts s) (id : ℕ) (v : Seat) → lib.ListN.get_elem? s.views id ≡ mathlib.Core.Option.some v → v.live ≢ 0 → Sits k.rooms k.world s id v
+sits_at : {made : Plain} {s : Table Part Seat} (k : Ruled made s) (id : ℕ) (v : Seat) → lib.ListN.get_elem? s.views id ≡ mathlib.Core.Option.some v → v.live ≢ 0 → Sits k.rooms k.world s id v
 sits_at k id v at live = record { rules = k.rules; at = at; live = live }
 
-pub sees : ClockSteps → (routes : List Route) (counts : List ℕ) (slots id : ℕ) (m : Thread) → m.0.live ≢ 0 → Allows (Ruled routes counts) slots id m 1 (λ n. n) (saw (step slots 1 0 0 none) m)
-sees law routes counts slots id m live s k deep at bound =
+pub sees : ClockSteps → (made : Plain) (slots id : ℕ) (m : Thread) → m.0.live ≢ 0 → Allows (Ruled made) slots id m 1 (λ n. n) (saw (step slots 1 0 0 none) m)
+sees law made slots id m live s k deep at bound =
     let sits = sits_at k id m.0 at live in
-    (seeing m.0 (slice_index s.words 1), keeps, tt, ruled_still k (law.load k.rooms k.world s id m.0 m.1 sits), record { thread = refl; past = law.rises k.rooms k.world s id m.0 sits })
+    (seeing m.0 (slice_index s.words 1), keeps, tt, ruled_seeing k id (seeing m.0 (slice_index s.words 1)) refl m.0 at (law.load k.rooms k.world s id m.0 m.1 sits) (Clock (slice_index s.words 1)) refl (clock_word_is k.rooms k.world s id m.0 sits), record { thread = refl; past = law.rises k.rooms k.world s id m.0 sits })
 
-pub ticks : ClockSteps → (routes : List Route) (counts : List ℕ) (slots id time : ℕ) (m : Thread) → m.0.live ≢ 0 → id ≡ 0 → m.0.clock ≤ time → Allows (Ruled routes counts) slots id m 1 (λ _. time) (λ _. ticked (step slots 1 time 0 none) m time)
-ticks law routes counts slots id time m live player later = subst (λ j. Allows (Ruled routes counts) slots j m 1 (λ _. time) (λ _. ticked (step slots 1 time 0 none) m time)) (sym player)
-    (λ s k deep at bound. (ticking m.0 time, keeps, tt, ruled_then k (law.tick k.rooms k.world s m.0 time m.1 (sits_at k 0 m.0 at live) later), refl))
+pub ticks : ClockSteps → (made : Plain) (slots id time : ℕ) (m : Thread) → m.0.live ≢ 0 → id ≡ 0 → m.0.clock ≤ time → Allows (Ruled made) slots id m 1 (λ _. time) (λ _. ticked (step slots 1 time 0 none) m time)
+ticks law made slots id time m live player later = subst (λ j. Allows (Ruled made) slots j m 1 (λ _. time) (λ _. ticked (step slots 1 time 0 none) m time)) (sym player)
+    (λ s k deep at bound. (ticking m.0 time, keeps, tt, ruled_then k 0 (ticking m.0 time) refl m.0 at (λ w u e. tick e) (law.tick k.rooms k.world s m.0 time m.1 (sits_at k 0 m.0 at live) later) refl, refl))
 
-pub heeds : ClosingSteps → (routes : List Route) (counts : List ℕ) (slots id : ℕ) (m : Thread) → m.0.live ≢ 0 → Allows (Ruled routes counts) slots id m 2 (λ n. n) (heeded (step slots 2 0 0 none) m)
-heeds law routes counts slots id m live s k deep at bound =
+pub heeds : ClosingSteps → (made : Plain) (slots id : ℕ) (m : Thread) → m.0.live ≢ 0 → Allows (Ruled made) slots id m 2 (λ n. n) (heeded (step slots 2 0 0 none) m)
+heeds law made slots id m live s k deep at bound =
     let sits = sits_at k id m.0 at live in (
       heeding m.0 (slice_index s.words 2 == 1),
       keeps,
       tt,
-      ruled_still k (law.load k.rooms k.world s id m.0 m.1 sits),
+      ruled_seeing k id (heeding m.0 (slice_index s.words 2 == 1)) refl m.0 at (law.load k.rooms k.world s id m.0 m.1 sits) (Closing (slice_index s.words 2 == 1)) refl (sym (law.is_true k.rooms k.world s id m.0 sits)),
       record { thread = refl; stays = λ e. law.is_true k.rooms k.world s id m.0 sits ∙ (k.rules.knows id m.0 at).closes e },
     )
 
-pub closes : ClosingSteps → (routes : List Route) (counts : List ℕ) (slots id : ℕ) (m : Thread) → m.0.live ≢ 0 → id ≡ 0 → length m.0.played ≡ to_play_from m.0.routes 0 m.0.counts
-    → Allows (Ruled routes counts) slots id m 2 (λ _. 1) (λ _. closed (step slots 2 1 0 none) m 1)
-closes law routes counts slots id m live player all = subst (λ j. Allows (Ruled routes counts) slots j m 2 (λ _. 1) (λ _. closed (step slots 2 1 0 none) m 1)) (sym player)
-    (λ s k deep at bound. (closing_all m.0, keeps, tt, ruled_then k (law.close k.rooms k.world s m.0 m.1 (sits_at k 0 m.0 at live) all), refl))
+pub closes : ClosingSteps → (made : Plain) (slots id : ℕ) (m : Thread) → m.0.live ≢ 0 → id ≡ 0 → length m.0.played ≡ to_play_from m.0.routes 0 m.0.counts
+    → Allows (Ruled made) slots id m 2 (λ _. 1) (λ _. closed (step slots 2 1 0 none) m 1)
+closes law made slots id m live player all = subst (λ j. Allows (Ruled made) slots j m 2 (λ _. 1) (λ _. closed (step slots 2 1 0 none) m 1)) (sym player)
+    (λ s k deep at bound. (closing_all m.0, keeps, tt, ruled_then k 0 (closing_all m.0) refl m.0 at (λ w u e. close e) (law.close k.rooms k.world s m.0 m.1 (sits_at k 0 m.0 at live) all) refl, refl))
 
 first_of : ℕ → List ℕ → ℕ
 first_of d [] = d
@@ -50,15 +54,15 @@ same_first : (c d : ℕ) (xs ys : List ℕ) → c ∷ xs ≡ d ∷ ys → c ≡ 
 unfolding first_of
 same_first c d xs ys e = ap (first_of c) e
 
-pub looks : StateLoads → (routes : List Route) (counts : List ℕ) (slots id c : ℕ) (m : Thread) → m.0.live ≢ 0 → m.0.fills ≡ [] → m.0.news ≡ c ∷ but_first m.0.news → c < length routes
-    → Allows (Ruled routes counts) slots id m (4 * c + 5) (λ n. n) (looked (step slots (4 * c + 5) 0 0 none) m)
-looks law routes counts slots id c m live filled news less s k deep at bound =
+pub looks : StateLoads → (made : Plain) (slots id c : ℕ) (m : Thread) → m.0.live ≢ 0 → m.0.fills ≡ [] → m.0.news ≡ c ∷ but_first m.0.news → c < length made.routes
+    → Allows (Ruled made) slots id m (4 * c + 5) (λ n. n) (looked (step slots (4 * c + 5) 0 0 none) m)
+looks law made slots id c m live filled news less s k deep at bound =
     let inside : c < length k.world.routes = subst (λ (l : List Route). c < length l) (sym k.components) less in
     let found = slice_index s.words (4 * c + 5) in (
       looking m.0 c (but_first m.0.news) (found == 1),
       keeps,
       tt,
-      ruled_then k (law.look k.rooms k.world s id m.0 c (but_first m.0.news) m.1 (sits_at k id m.0 at live) filled news inside),
+      ruled_then k id (looking m.0 c (but_first m.0.news) (found == 1)) refl m.0 at (λ w u e. look e) (law.look k.rooms k.world s id m.0 c (but_first m.0.news) m.1 (sits_at k id m.0 at live) filled news inside) refl,
       λ d e. ap (λ j. let n : Thread = (looking m.0 j (but_first m.0.news) (found == 1), m.1) in n) (same_first c d (but_first m.0.news) (but_first m.0.news) (sym news ∙ e)),
     )
 
@@ -67,15 +71,15 @@ but_last_is [] c = refl
 but_last_is (x ∷ []) c = refl
 but_last_is (x ∷ y ∷ rest) c = ap (λ l. x ∷ l) (but_last_is (y ∷ rest) c)
 
-pub clears : FlagStores → (routes : List Route) (counts : List ℕ) (slots id c : ℕ) (m : Thread) → m.0.live ≢ 0 → m.0.clearing ≡ but_last m.0.clearing ++ c ∷ [] → c < length routes
-    → Allows (Ruled routes counts) slots id m (4 * c + 6) (λ _. 0) (λ _. cleared (step slots (4 * c + 6) 0 0 none) m 0)
-clears law routes counts slots id c m live last less s k deep at bound =
+pub clears : FlagStores → (made : Plain) (slots id c : ℕ) (m : Thread) → m.0.live ≢ 0 → m.0.clearing ≡ but_last m.0.clearing ++ c ∷ [] → c < length made.routes
+    → Allows (Ruled made) slots id m (4 * c + 6) (λ _. 0) (λ _. cleared (step slots (4 * c + 6) 0 0 none) m 0)
+clears law made slots id c m live last less s k deep at bound =
     let inside : c < length k.world.routes = subst (λ (l : List Route). c < length l) (sym k.components) less in
     let kept = but_last m.0.clearing in (
       clearing_but m.0 kept,
       keeps,
       tt,
-      subst (λ l. Ruled routes counts (Rattle.atomic_table.specs.Table.stepped s (4 * c + 6) 0 id m.1 (clearing_but m.0 l) keeps)) (nothing_after kept) (ruled_then k (law.clear k.rooms k.world s id m.0 c kept [] m.1 (sits_at k id m.0 at live) last inside)),
+      subst (λ l. Ruled made (Rattle.atomic_table.specs.Table.stepped s (4 * c + 6) 0 id m.1 (clearing_but m.0 l) keeps)) (nothing_after kept) (ruled_then k id (clearing_but m.0 (kept ++ [])) refl m.0 at (λ w u e. clear e) (law.clear k.rooms k.world s id m.0 c kept [] m.1 (sits_at k id m.0 at live) last inside) refl),
       refl,
     )
   where
@@ -83,17 +87,30 @@ clears law routes counts slots id c m live last less s k deep at bound =
     nothing_after [] = refl
     nothing_after (x ∷ rest) = ap (λ l. x ∷ l) (nothing_after rest)
 
-pub splits : BenchSteps → (routes : List Route) (counts : List ℕ) (id : ℕ) (v : Seat) → v.live ≢ 0 → id ≡ 0 → Splits (Ruled routes counts) id v (splitting v) (split_off v)
-splits law routes counts id v live player = subst (λ j. Splits (Ruled routes counts) j v (splitting v) (split_off v)) (sym player)
-    (λ s k at. ruled_still k (law.split k.rooms k.world s v (sits_at k 0 v at live)))
-
-pub joins : BenchSteps → (routes : List Route) (counts : List ℕ) (id : ℕ) (v : Seat) (other : ℕ) (o : Seat) → v.live ≢ 0 → id ≡ 0 → o.live ≡ 1 → IsEmpty o
-    → Joins (Ruled routes counts) id v other o (joining v o) no_seat
-joins law routes counts id v other o live player here empty = subst (λ j. Joins (Ruled routes counts) j v other o (joining v o) no_seat) (sym player)
-    (λ s k at ne there. record {
-      world = with_idle other blank k.world;
+pub splits : BenchSteps → (made : Plain) (id : ℕ) (v : Seat) → v.live ≢ 0 → id ≡ 0 → Splits (Ruled made) id v (splitting v) (split_off v)
+splits law made id v live player = subst (λ j. Splits (Ruled made) j v (splitting v) (split_off v)) (sym player)
+    (λ s k at. record {
+      world = k.world;
       rooms = k.rooms;
       components = k.components;
       planned = k.planned;
+      reached = k.reached;
+      noted = λ j u e. ⊎_elim
+          (λ (l : get_elem? (set s.views 0 (splitting v)) j ≡ some u). all_were made k.world s.views 0 (splitting v) k.noted (k.noted 0 v at) j u l)
+          (λ (l : split_off v ≡ u). subst (λ (y : Seat). WereSo made k.world y.note) l tt)
+          (at_snoc (set s.views 0 (splitting v)) (split_off v) u j e);
+      rules = law.split k.rooms k.world s v (sits_at k 0 v at live);
+    })
+
+pub joins : BenchSteps → (made : Plain) (id : ℕ) (v : Seat) (other : ℕ) (o : Seat) → v.live ≢ 0 → id ≡ 0 → o.live ≡ 1 → IsEmpty o
+    → Joins (Ruled made) id v other o (joining v o) no_seat
+joins law made id v other o live player here empty = subst (λ j. Joins (Ruled made) j v other o (joining v o) no_seat) (sym player)
+    (λ s k at ne there. record {
+      world = k.world;
+      rooms = k.rooms;
+      components = k.components;
+      planned = k.planned;
+      reached = k.reached;
+      noted = all_were made k.world (set s.views 0 (joining v o)) other no_seat (all_were made k.world s.views 0 (joining v o) k.noted (k.noted 0 v at)) tt;
       rules = law.join k.rooms k.world s v other o (sits_at k 0 v at live) ne (sym (set_else s.views 0 other (joining v o) ne) ∙ there) here empty;
     })

@@ -11,7 +11,8 @@ use Rattle.wake_core.specs.declared.entries.TheConstants.{MOST_PLANNED}
 use Rattle.wake_core.specs.Run.{played_of}
 use Rattle.wake_core.specs.Plain.{Plain}
 use Rattle.wake_core.specs.WorldOf.{plain_of}
-use Rattle.wake_core.specs.Rest.{IsAtRest}
+use Rattle.wake_core.specs.Rest.{IsAtRest, at_rest}
+use Rattle.wake_core.specs.Laws.{Events, AgreesWithin}
 use Rattle.cy_table.specs.declared.part.Part.{Part}
 use Rattle.cy_table.specs.declared.part.Part.TheVariants as part
 use Rattle.cy_table.specs.declared.pass.Pass.{Pass}
@@ -23,9 +24,11 @@ use Rattle.cy_table.specs.Layout.{words_for, slots_for, number_of, yes_or_no}
 use Rattle.cy_table.specs.Seats.{IsEmpty}
 use Rattle.cy_table.specs.Shown.{Rooms, routine_at, visitor_at, tape_at}
 use Rattle.cy_table.specs.Plays.{HasSeen, seat_for}
+use Rattle.cy_table.specs.Rule.{WereSo}
 use Rattle.cy_table.specs.Calls.{made_of, thread_of, seat_of, IsPlayer}
 
--- A table that was made of a world, with the player's pass, which has seen the world's calls.
+-- A table that was made of a world, with the player's pass, which has seen the world's calls. The
+-- table's rule says that it shows this world, until events lead to others.
 pub record IsNew (w : World) (t : FlagTable) (p : Pass) : Type 0 where
   pub made : made_of t ≡ plain_of w
   pub player : IsPlayer t p
@@ -37,11 +40,21 @@ pub record IsLast (t : FlagTable) (p : Pass) : Type 0 where
   pub alone : (seat_of p).split ≡ 0
   pub empty : IsEmpty (seat_of p)
 
--- A world that a table leaves to the player: one at rest, for the components and counts of the
--- world that the table was made of; with the played messages, the clock and the closing that the
--- player knows; and each component with all calls that the player has seen, those of the passes
--- that were joined among them.
+-- Events led from a world to one that says the same of the components as this one, in which nobody
+-- has or owes anything.
+pub record IsReached (from w : Plain) : Type 0 where
+  pub world : Plain
+  pub events : Events from world
+  pub idle : IsAtRest world
+  pub same : AgreesWithin (at_rest world) w
+
+-- A world that a table leaves to the player: one at rest, which events reached from the world that
+-- the table was made of, with its components and counts; what the player noted was so on the way.
+-- It has the played messages, the clock and the closing that the player knows; and each component
+-- with all calls that the player has seen, those of the passes that were joined among them.
 pub record IsLeft (t : FlagTable) (p : Pass) (w : Plain) : Type 0 where
+  pub reached : IsReached (made_of t) w
+  pub noted : WereSo (made_of t) reached.world (seat_of p).note
   pub routes : w.routes ≡ (made_of t).routes
   pub counts : w.counts ≡ (made_of t).counts
   pub rest : IsAtRest w

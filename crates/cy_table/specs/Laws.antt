@@ -22,7 +22,7 @@ use Rattle.wake_core.specs.Events.{Yields, Releases, Ticks, Closes, Tapes, Sends
 use Rattle.wake_core.specs.Events.{Fetches}
 use Rattle.wake_core.specs.Sound.{Sound}
 use Rattle.wake_core.specs.Fields.{IsFixed}
-use Rattle.wake_core.specs.Laws.{IsIdle, with_idle}
+use Rattle.wake_core.specs.Laws.{IsIdle}
 use Rattle.cy_table.specs.declared.part.Part.{Part}
 use Rattle.cy_table.specs.declared.part.Part.TheVariants as part
 use Rattle.cy_table.specs.Layout.{clock_word, closing_word, hold_word, state_word, flag_word}
@@ -38,7 +38,7 @@ use Rattle.cy_table.specs.Steps.{MaySpend, spending, looking, clearing_but, seei
 use Rattle.cy_table.specs.Steps.{heeding, closing_all, entering, visiting, filling}
 use Rattle.cy_table.specs.Steps.{with_message, MayTape, taping, MaySend, out_at, output_at}
 use Rattle.cy_table.specs.Steps.{phase_sent, sending, fetching, splitting, split_off, joining}
-use Rattle.cy_table.specs.Steps.{first_seat, at_rest}
+use Rattle.cy_table.specs.Steps.{first_seat}
 
 -- The swap of a hold word, by a thread with nothing in hand: the event Acquire where it was found
 -- free, and then the routine was at home; else no event.
@@ -204,7 +204,7 @@ pub record BenchSteps : Type 0 where
       }
   pub join : (r : Rooms) (w : Plain) (s : Table Part Seat) (v : Seat) (j : ℕ) (o : Seat)
       → Sits r w s 0 v → j ≢ 0 → get_elem? s.views j ≡ some o → o.live ≡ 1 → IsEmpty o
-      → Rules r (with_idle j blank w) record {
+      → Rules r w record {
         words = s.words;
         homes = s.homes;
         views = slice_set (slice_set s.views 0 (joining v o)) j no_seat;
@@ -237,7 +237,7 @@ pub record TableEnds : Type 0 where
   pub start : (r : Rooms) (w : Plain) (words : List ℕ) (homes : List (maybe.Option Part))
       (seen : List Seen) → Sound w → ((p : ℕ) → IsIdle p w) → IsFixed w.routes w.counts
       → AreRoomy w.routes w.counts r → LiesOpen r w words homes → AreSeen w.calls seen
-      → Rules r (at_rest w) record {
+      → Rules r w record {
         words = words;
         homes = homes;
         views = first_seat w seen ∷ [];

@@ -35,7 +35,7 @@ calls_from w (Rattle.std.specs.Prelude.suc c) =
     record { component = c; calls = w.calls c } ∷ calls_from w c
 
 abbrev pub rule_for : World → Table Part Seat → Type 0
-rule_for w = Ruled (plain_of w).routes (plain_of w).counts
+rule_for w = Ruled (plain_of w)
 
 abbrev pub seat_for : World → Seat
 seat_for w = first_seat (plain_of w) (calls_from (plain_of w) (length (plain_of w).routes))

@@ -1,6 +1,8 @@
 -- The rule of the table: between any two steps, the words, the values at home in the slots and the
--- seats of all threads show one plain world, of which all holds that holds of a run.
-use Rattle.std.specs.Prelude.{ℕ, ◌+◌, ◌≡◌, ◌≢◌, ◌≤◌, ◌<◌, Bool, true, List, length, Option}
+-- seats of all threads show one plain world, to which events led from the world that the table was
+-- made of.
+use Rattle.std.specs.Prelude.{ℕ, ◌+◌, ◌≡◌, ◌≢◌, ◌≤◌, ◌<◌, Bool, true, List, [], ◌∷◌, length}
+use Rattle.std.specs.Prelude.{Option}
 use mathlib.Core.Option.{some}
 use lib.ListN.{get_elem?}
 use Rattle.atomic_table.specs.Table.{State as Table}
@@ -9,19 +11,21 @@ use Rattle.cy_fuse.specs.Visitor.{VisitorView}
 use Rattle.cy_comp.specs.declared.state.State.{State}
 use Rattle.cy_comp.specs.Routine.{RoutineView}
 use Rattle.wake_core.specs.declared.phase.Hand.{Hand}
-use Rattle.wake_core.specs.declared.route.Route.{Route}
+use Rattle.wake_core.specs.declared.phase.Phase.{Phase}
 use Rattle.wake_core.specs.Run.{played_of}
-use Rattle.wake_core.specs.Plain.{Plain}
+use Rattle.wake_core.specs.Plain.{Plain, hand}
 use Rattle.wake_core.specs.Fields.{IsFixed}
 use Rattle.wake_core.specs.Sound.{Sound}
+use Rattle.wake_core.specs.Laws.{Events}
 use Rattle.cy_table.specs.declared.part.Part.{Part}
 use Rattle.cy_table.specs.Layout.{clock_word, closing_word, tape_door, hold_word, state_word}
 use Rattle.cy_table.specs.Layout.{flag_word, visitor_door, tape_slot, routine_slot, visitor_slot}
 use Rattle.cy_table.specs.Layout.{words_for, slots_for, number_of, yes_or_no}
-use Rattle.cy_table.specs.Seats.{Seat, TapeView, IsEmpty, AreSeen, total_live}
+use Rattle.cy_table.specs.Seats.{Seat, Entry, TapeView, IsEmpty, AreSeen, total_live}
+use Rattle.cy_table.specs.Seats.Entry.{Busy, Found, Saw, Clock, Closing}
 use Rattle.cy_table.specs.Shown.{Spread, spread, routine_in, visitor_in, tape_in, routine_of}
-use Rattle.cy_table.specs.Shown.{visitor_of, hand_of, Kept, Rooms, AreRoomy, routine_at}
-use Rattle.cy_table.specs.Shown.{visitor_at, tape_at}
+use Rattle.cy_table.specs.Shown.{visitor_of, hand_of, Kept, Rooms, AreRoomy, roles_at, queue_at}
+use Rattle.cy_table.specs.Shown.{routine_at, visitor_at, tape_at}
 
 -- The slots and those that have what belongs there show the tape, the routines and the visitors of
 -- n components.
@@ -41,14 +45,14 @@ pub record ShowsWords (n : ℕ) (states : ℕ → State) (spent : ℕ → Bool) 
   pub clock_is : word clock_word ≡ clock
   pub closing_is : word closing_word ≡ yes_or_no closing
 
--- Seats show what each thread has in hand and owes.
+-- Seats show what each thread has in hand and owes, and to whom it owes something the message.
 pub record ShowsThreads (hands : ℕ → Option Hand) (fills : ℕ → List (ℕ × ℕ))
     (news clearing : ℕ → List ℕ) (tokens : ℕ → Token) (seat : ℕ → Seat) : Type 0 where
   pub hand_is : (j : ℕ) → hands j ≡ hand_of (seat j).hand
   pub fills_are : (j : ℕ) → fills j ≡ (seat j).fills
   pub news_are : (j : ℕ) → news j ≡ (seat j).news
   pub clearing_is : (j : ℕ) → clearing j ≡ (seat j).clearing
-  pub token_is : (j : ℕ) → tokens j ≡ (seat j).token
+  pub token_is : (j : ℕ) → fills j ≢ [] → tokens j ≡ (seat j).token
 
 -- All of them show one plain world.
 pub record Shows (r : Rooms) (w : Plain) (t : Spread) : Type 0 where
@@ -81,10 +85,39 @@ pub record Rules (r : Rooms) (w : Plain) (s : Table Part Seat) : Type 0 where
   pub counted : (v : Seat) → get_elem? s.views 0 ≡ some v
       → (v.live ≡ 1) × (total_live s.views ≡ v.split + 1)
 
--- The rule of a table for some components and counts of played messages.
-pub record Ruled (routes : List Route) (counts : List ℕ) (s : Table Part Seat) : Type 0 where
+-- A visitor has what arrived at a component of a world, for its readers and with its queue.
+pub record IsVisitorOf (w : Plain) (c : ℕ) (x : VisitorView) : Type 0 where
+  pub arrivals : x.arrivals ≡ w.arrivals c
+  pub roles : x.roles ≡ roles_at w.routes c
+  pub queue : x.queue ≡ queue_at w.routes w.counts c
+
+-- What a thread noted is so in a world: some thread holds the croutine; it is in that state; the
+-- visitor is the component's; the clock, and whether the run is closing.
+abbrev pub IsSo : Plain → Entry → Type 0
+IsSo w (Busy c) = (p : ℕ) × (phase : Phase) × (w.hands p ≡ hand c phase)
+IsSo w (Found c state) = w.states c ≡ state
+IsSo w (Saw c visitor) = IsVisitorOf w c visitor
+IsSo w (Clock time) = w.clock ≡ time
+IsSo w (Closing closing) = w.closing ≡ closing
+
+-- It was so in a world on the way from one world to another; and so was each entry of a note.
+pub record WasSo (from to : Plain) (entry : Entry) : Type 0 where
+  pub world : Plain
+  pub before : Events from world
+  pub behind : Events world to
+  pub is_so : IsSo world entry
+
+abbrev pub WereSo : (from to : Plain) → List Entry → Type 0
+WereSo from to [] = Unit {0}
+WereSo from to (x ∷ rest) = WasSo from to x × WereSo from to rest
+
+-- The rule of a table that was made of a world: events led from this to the world that the table
+-- shows, and whatever a thread noted was so in a world on the way.
+pub record Ruled (made : Plain) (s : Table Part Seat) : Type 0 where
   pub world : Plain
   pub rooms : Rooms
-  pub components : world.routes ≡ routes
-  pub planned : world.counts ≡ counts
+  pub components : world.routes ≡ made.routes
+  pub planned : world.counts ≡ made.counts
+  pub reached : Events made world
+  pub noted : (j : ℕ) (v : Seat) → get_elem? s.views j ≡ some v → WereSo made world v.note
   pub rules : Rules rooms world s

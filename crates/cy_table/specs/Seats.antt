@@ -31,11 +31,12 @@ pub record Seen : Type 0 where
   pub component : ℕ
   pub calls : List Call
 
--- What a thread found, in order: a croutine held, or in a state after its update; the clock; and
--- whether the run is closing.
+-- What a thread found, in order: a croutine held, or in a state after its update; the visitor of a
+-- component at a fetch; the clock; and whether the run is closing.
 pub data Entry : Type 0 where
   Busy : ℕ → Entry
   Found : ℕ → State → Entry
+  Saw : ℕ → VisitorView → Entry
   Clock : ℕ → Entry
   Closing : Bool → Entry
 
@@ -54,12 +55,11 @@ pub record Seat : Type 0 where
   pub token : Token
   -- The player's: the played messages that stand on the tape.
   pub played : List Token
-  -- The calls that were in hand, the newest first; the clock that was set or seen last; whether the
-  -- run was set or found closing; and how many tuples the last fetch saw.
+  -- The calls that were in hand, the newest first; the clock that was set or seen last; and whether
+  -- the run was set or found closing.
   pub seen : List Seen
   pub clock : ℕ
   pub closing : Bool
-  pub tail : ℕ
   -- For contracts alone.
   pub note : List Entry
   -- How many seats were split off this one and not joined yet; and 1 where this seat itself was
@@ -83,7 +83,6 @@ idle_seat routes counts seen live = record {
   seen = seen;
   clock = 0;
   closing = false;
-  tail = 0;
   note = [];
   split = 0;
   live = live;

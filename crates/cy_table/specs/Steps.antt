@@ -9,7 +9,7 @@ use Rattle.atomic_table.specs.Table.{State as Table}
 use Rattle.cy_msg.specs.declared.token.Token.{Token}
 use Rattle.cy_msg.specs.declared.token.Tuple.{Tuple}
 use Rattle.cy_msg.specs.Tokens.{on_channel}
-use Rattle.cy_fuse.specs.Visitor.{VisitorView, tuples_at}
+use Rattle.cy_fuse.specs.Visitor.{VisitorView}
 use Rattle.cy_comp.specs.declared.call.Out.{Out}
 use Rattle.cy_comp.specs.Calls.{last_outcome, held_until, output}
 use Rattle.cy_comp.specs.Routine.{RoutineView, taken}
@@ -18,14 +18,13 @@ use Rattle.wake_core.specs.Run.{readers_of, writes_from, played_of}
 use Rattle.cy_comp.specs.declared.state.State.{State}
 use Rattle.cy_comp.specs.declared.state.State.TheVariants.{Ready, DataWait}
 use Rattle.wake_core.specs.Plain.{Plain}
-pub use Rattle.wake_core.specs.Rest.{at_rest}
 use Rattle.wake_core.specs.declared.phase.Phase.{Phase}
 use Rattle.wake_core.specs.declared.phase.Phase.TheVariants.{Fresh, Woken, Known, Asked, Empty}
 use Rattle.wake_core.specs.declared.phase.Phase.TheVariants.{Running, Sending, Done}
 use Rattle.wake_core.specs.Events.{IsDue, phase_after_spend, state_after}
 use Rattle.cy_table.specs.declared.part.Part.{Part}
 use Rattle.cy_table.specs.Seats.{Seat, Seen, Grip, TapeView, Entry, idle_seat}
-use Rattle.cy_table.specs.Seats.Entry.{Busy, Found, Clock, Closing}
+use Rattle.cy_table.specs.Seats.Entry.{Busy, Found, Saw, Clock, Closing}
 use Rattle.cy_table.specs.Shown.{Rooms}
 use Rattle.cy_table.specs.Rule.{Rules}
 
@@ -179,7 +178,7 @@ filling v c j later = record v {
 }
 
 -- The store of a visitor's door after a fetch: a call is made on the tuple that was found, or
--- nothing was found. How many tuples there were is known in both cases.
+-- nothing was found. The visitor is noted in both cases.
 abbrev pub called : Grip → Option (Tuple × ℕ × ℕ) → Grip
 called g None = record g { phase = Empty }
 called g (Some f) = record g { phase = Running; routine = taken g.routine f.0 f.1 f.2 }
@@ -189,9 +188,9 @@ fetching v g x found =
     let h = called g found in
     record v {
       visit = None;
-      tail = length (tuples_at x);
       hand = Some h;
       seen = record { component = g.croutine; calls = h.routine.calls } ∷ v.seen;
+      note = v.note ++ Saw g.croutine x ∷ [];
     }
 
 -- The stores of the tape's door. The message that was put there is owed to the readers of its

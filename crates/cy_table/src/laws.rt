@@ -106,9 +106,7 @@ pub fn fetch_stores()
 /// A seat that is split off, or joined, changes nothing.
 pub fn bench_steps()
     ensures { BenchSteps }
-{
-    laws::threads();
-}
+{}
 
 /// What a seat is to put has room.
 pub fn rooms_left()
@@ -122,6 +120,4 @@ pub fn rooms_left()
 /// At its start a table shows the world that it is made of, and at its end one that is at rest.
 pub fn table_ends()
     ensures { TableEnds }
-{
-    laws::threads();
-}
+{}

@@ -5,7 +5,7 @@ use Rattle.wake_core.specs.Run.{readers_of, played_of}
 use Rattle.wake_core.specs.Plain.{Plain, hand, Phase, unsent_of, outs_of}
 use Rattle.wake_core.specs.Events.{Sends, after_send}
 use Rattle.wake_core.specs.Sound.{Consistent}
-use Rattle.wake_core.specs.Turns.{Delivers, Delivered, IsAlone}
+use Rattle.wake_core.specs.Turns.{Delivers, Delivered, IsAlone, flag_after}
 use Rattle.wake_core.proofs.Places.{set_at_same, set_at_other}
 use Rattle.wake_core.proofs.Taping.{send_taped, send_written, send_all}
 use Rattle.wake_core.proofs.Playing.{idle_by, delivered_owes, delivered_other, delivered_arrivals, played_same}
@@ -18,6 +18,7 @@ delivered_by c next t w m v alone s send d =
     record {
       same = d'.same ∙ ap (λ (x : Plain). record w { tape = w.tape ++ t ∷ []; arrivals = v.arrivals; hands = x.hands; fills = v.fills; news = v.news; clearing = v.clearing; tokens = x.tokens; spent = v.spent }) (sym d'.same);
       arrivals = delivered_arrivals 0 sent v d' t w refl refl refl;
+      spent = λ k. d'.spent k ∙ ap (λ rs. flag_after rs w k) (set_at_same 0 (readers_of w.routes t.channel) w.fills);
       in_hand = record {
         alone = λ q other. delivered_other 0 sent v d' q other (idle_by q w sent
             (set_at_other 0 (hand c next) w.hands q other)

@@ -1,5 +1,6 @@
 -- What holds after a message came to all of its readers.
-use Rattle.std.proofs.Common.{ℕ, ◌-◌, ◌≡◌, ◌≤◌, ◌<◌, ◌==◌, ◌&&◌, Bool, true, false, refl, sym, ◌∙◌, ap, subst, arith, List, [], ◌∷◌, ◌++◌, append_assoc, length, drop, Some, slice_get, get_or, set, if◌then◌else◌}
+use Rattle.std.proofs.Common.{ℕ, ◌-◌, ◌≡◌, ◌≤◌, ◌<◌, ◌==◌, ◌&&◌, ◌≢◌, ◌||◌, not, Bool, true, false, refl, sym, ◌∙◌, ap, subst, inl, inr, arith, List, [], ◌∷◌, ◌++◌, append_assoc, length, drop, Some, slice_get, get_or, set, if◌then◌else◌}
+use Rattle.std.proofs.lemmas.Bool.Decides.{eqb_tells}
 use Rattle.std.proofs.lemmas.List.{append-nil, length-set}
 use Rattle.std.proofs.Math.Seq.{drop-length}
 use Rattle.cy_fuse.specs.Fusion.{Arrival}
@@ -7,13 +8,13 @@ use Rattle.cy_fuse.specs.Visitor.{VisitorView, arrived}
 use Rattle.cy_comp.specs.Routine.{RoutineView}
 use Rattle.wake_core.specs.declared.owed.Owed.{Owed}
 use Rattle.wake_core.specs.Run.{Route, set_at, arrive, readers_of}
-use Rattle.wake_core.specs.Plain.{Plain, State, Ready, blank}
+use Rattle.wake_core.specs.Plain.{Plain, State, Ready, blank, lists_reader}
 use Rattle.wake_core.specs.Events.{is_waiting, after_fill}
 use Rattle.wake_core.specs.Fields.{read, fills_of, no_visitor, no_routine, IsVisited, IsRoomy, IsOwing}
 use Rattle.wake_core.specs.Sound.{Sound}
-use Rattle.wake_core.specs.Turns.{Delivers}
+use Rattle.wake_core.specs.Turns.{Delivers, flag_after}
 use Rattle.wake_core.specs.Delivery.{arrived_at, arrived_at_all, MayArrive, MayArriveAtAll, cleared_by, cleared_by_all, AreReaders}
-use Rattle.wake_core.proofs.Places.{set_at_same, set_at_again, set_at_itself}
+use Rattle.wake_core.proofs.Places.{set_at_same, set_at_other, set_at_again, set_at_itself}
 use Rattle.wake_core.proofs.Reading.{read-set, read-set_same, read_at}
 use Rattle.wake_core.proofs.Owing.{owed_with}
 use Rattle.wake_core.proofs.Arriving.{there}
@@ -198,6 +199,41 @@ delivered_world w routes owed p o {arrivals = arrivals} {more = more} {flags = f
     (read-set_same (λ o. o.clearing.items) [] owed p n o (ap (λ (o : Owed). o.clearing.items) at))
     (read-set_same (λ o. o.token) blank owed p n o (ap (λ (o : Owed). o.token) at))
 
+-- A flag is as the first readers of those that wait leave it.
+by_first : (b waits rest flag : Bool) → (if b && waits then false else flag) && not (waits && rest) ≡ flag && not (waits && (b || rest))
+by_first true true rest false = refl
+by_first true true rest true = refl
+by_first true false rest false = refl
+by_first true false rest true = refl
+by_first false true rest flag = refl
+by_first false false rest flag = refl
+
+told_flag : (rs : List (ℕ × ℕ)) (states : ℕ → State) (spent : ℕ → Bool) (c : ℕ) → flags_after rs states spent c ≡ spent c && not (is_waiting (states c) && lists_reader c 0 rs)
+told_flag [] states spent c = by (is_waiting (states c)) (spent c)
+  where
+    by : (waits flag : Bool) → flag ≡ flag && not (waits && false)
+    by true true = refl
+    by true false = refl
+    by false true = refl
+    by false false = refl
+told_flag (r ∷ rest) states spent c = elim (eqb_tells r.0 c) [
+  | inl h ↦ told_flag rest states (if r.1 == 0 && is_waiting (states r.0) then set_at r.0 false spent else spent) c
+      ∙ ap (λ (b : Bool). b && not (is_waiting (states c) && lists_reader c 0 rest)) (here h.1 (r.1 == 0 && is_waiting (states r.0)) ∙ ap (λ (k : ℕ). if r.1 == 0 && is_waiting (states k) then false else spent c) h.1)
+      ∙ by_first (r.1 == 0) (is_waiting (states c)) (lists_reader c 0 rest) (spent c)
+      ∙ ap (λ (b : Bool). spent c && not (is_waiting (states c) && (b && r.1 == 0 || lists_reader c 0 rest))) (sym h.0)
+  | inr h ↦ told_flag rest states (if r.1 == 0 && is_waiting (states r.0) then set_at r.0 false spent else spent) c
+      ∙ ap (λ (b : Bool). b && not (is_waiting (states c) && lists_reader c 0 rest)) (other h.1 (r.1 == 0 && is_waiting (states r.0)))
+      ∙ ap (λ (b : Bool). spent c && not (is_waiting (states c) && (b && r.1 == 0 || lists_reader c 0 rest))) (sym h.0)
+]
+  where
+    here : r.0 ≡ c → (b : Bool) → (if b then set_at r.0 false spent else spent) c ≡ (if b then false else spent c)
+    here e true = ap (λ k. set_at k false spent c) e ∙ set_at_same c false spent
+    here e false = refl
+
+    other : r.0 ≢ c → (b : Bool) → (if b then set_at r.0 false spent else spent) c ≡ spent c
+    other ne true = set_at_other r.0 false spent c (λ e. ne (sym e))
+    other ne false = refl
+
 pub delivers : {p : ℕ} {w v : Plain} {rs : List (ℕ × ℕ)} → w.fills p ≡ rs → w.news p ≡ [] → w.clearing p ≡ [] → v ≡ record w { arrivals = arrive rs (w.tokens p) w.arrivals; fills = set_at p [] w.fills; spent = flags_after rs w.states w.spent }
     → Delivers p w v
 delivers {p} {w} {v} {rs} fills looked cleared e = record {
@@ -206,4 +242,5 @@ delivers {p} {w} {v} {rs} fills looked cleared e = record {
   fills = ap (λ (x : Plain). x.fills) e;
   news = ap (λ (x : Plain). x.news) e ∙ sym (set_at_itself p w.news) ∙ ap (λ l. set_at p l w.news) looked;
   clearing = ap (λ (x : Plain). x.clearing) e ∙ sym (set_at_itself p w.clearing) ∙ ap (λ l. set_at p l w.clearing) cleared;
+  spent = λ c. ap (λ (x : Plain). x.spent c) e ∙ told_flag rs w.states w.spent c ∙ ap (λ l. flag_after l w c) (sym fills);
 }

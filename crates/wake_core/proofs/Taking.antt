@@ -1,5 +1,6 @@
 -- Croutines that are taken in turn, until one is READY.
-use Rattle.std.proofs.Common.{ℕ, ◌≡◌, ◌≢◌, ◌⊎◌, Bool, true, false, not, ◌&&◌, refl, sym, ◌∙◌, ap, subst, inl, inr, List, [], ◌∷◌, ◌++◌, Option, None, append_assoc, if◌then◌else◌, length, ◌<◌}
+use Rattle.std.proofs.Common.{ℕ, ◌≡◌, ◌≢◌, ◌⊎◌, Bool, true, false, not, ◌&&◌, ◌||◌, refl, sym, ◌∙◌, ap, subst, inl, inr, List, [], ◌∷◌, ◌++◌, Option, None, append_assoc, if◌then◌else◌, length, ◌<◌}
+use Rattle.std.proofs.lemmas.Bool.Decides.{eqb_tells}
 use Rattle.wake_core.specs.Run.{set_at}
 use Rattle.wake_core.specs.Plain.{Plain, Hand, hand, State, Ready, Fresh, Woken, Known, lists}
 use Rattle.wake_core.specs.Events.{Acquires, Spends, Readies, Releases, IsDue, is_waiting, phase_after_spend, after_ready}
@@ -11,8 +12,8 @@ use Rattle.wake_core.proofs.Listing.{lists-append, lists_snoc, either}
 use Rattle.wake_core.proofs.Playing.{idle_by}
 
 takes_is : (c : ℕ) (w v : Plain) (s : State) (b : Bool) → c < length w.routes → v ≡ record w { hands = set_at 0 (hand c Known) w.hands; states = set_at c s w.states; spent = set_at c b w.spent }
-    → (w.spent c ≡ true → b ≡ true) → (s ≡ Ready → (IsDue (w.states c) w.clock → ⊥) → (w.states c ≡ Ready) ⊎ (w.spent c ≡ false)) → ((IsDue (w.states c) w.clock → ⊥) → b ≡ true) → (s ≢ Ready → (b ≡ true) × (s ≡ w.states c) × (IsDue s w.clock → ⊥)) → Takes c w v
-takes_is c w v s b known e spends woken fresh parked =
+    → (w.spent c ≡ true → b ≡ true) → (s ≡ Ready → (IsDue (w.states c) w.clock → ⊥) → (w.states c ≡ Ready) ⊎ (w.spent c ≡ false)) → ((IsDue (w.states c) w.clock → ⊥) → b ≡ true) → (IsDue (w.states c) w.clock → b ≡ w.spent c) → (s ≢ Ready → (b ≡ true) × (s ≡ w.states c) × (IsDue s w.clock → ⊥)) → Takes c w v
+takes_is c w v s b known e spends woken fresh due parked =
     let state : v.states c ≡ s = ap (λ (x : Plain). x.states c) e ∙ set_at_same c s w.states in
     let flag : v.spent c ≡ b = ap (λ (x : Plain). x.spent c) e ∙ set_at_same c b w.spent in
     let clock : v.clock ≡ w.clock = ap (λ (x : Plain). x.clock) e in
@@ -24,6 +25,7 @@ takes_is c w v s b known e spends woken fresh parked =
       spent = ap (λ (x : Plain). x.spent) e ∙ ap (λ (y : Bool). set_at c y w.spent) (sym flag);
       spends = λ was. flag ∙ spends was;
       flag = λ late. flag ∙ fresh late;
+      due = λ late. flag ∙ due late;
       woken = λ ready late. woken (sym state ∙ ready) late;
       parked = λ other.
           let is = parked (λ r. other (state ∙ r)) in (
@@ -52,7 +54,7 @@ module _ (c : ℕ) (w m : Plain) (a : Acquires 0 c w m) where
       r.effect ∙ ap (after_ready 0 c) a.effect
       ∙ ap (λ (h : ℕ → Option Hand). record w { hands = h; states = set_at c Ready w.states }) (set_at_again 0 (hand c Fresh) (hand c Known) w.hands)
       ∙ ap (λ (b : ℕ → Bool). record w { hands = set_at 0 (hand c Known) w.hands; states = set_at c Ready w.states; spent = b }) (sym (set_at_itself c w.spent)) in (
-        takes_is c w v Ready (w.spent c) a.known e (λ was. was) (λ is late. absurd (late due)) (λ late. absurd (late due)) (λ other. absurd (other refl)),
+        takes_is c w v Ready (w.spent c) a.known e (λ was. was) (λ is late. absurd (late due)) (λ late. absurd (late due)) (λ is. refl) (λ other. absurd (other refl)),
         ap (λ (x : Plain). x.states c) e ∙ set_at_same c Ready w.states,
       )
 
@@ -66,6 +68,9 @@ module _ (c : ℕ) (w m : Plain) (a : Acquires 0 c w m) where
     spent_is = s.effect ∙ ap (λ (x : Plain). record m { hands = x.hands; spent = set_at c true m.spent }) (sym s.effect)
         ∙ ap (λ (x : Plain). record x { hands = n.hands; spent = set_at c true x.spent }) a.effect
 
+    not_due : IsDue (w.states c) w.clock → ⊥
+    not_due = subst (λ (x : Plain). IsDue (x.states c) x.clock → ⊥) a.effect s.not_due
+
     -- It is woken.
     pub takes_woken : (v : Plain) → is_waiting (m.states c) && not (m.spent c) ≡ true → Readies 0 c n v → Takes c w v × (v.states c ≡ Ready)
     takes_woken v waits r =
@@ -74,7 +79,7 @@ module _ (c : ℕ) (w m : Plain) (a : Acquires 0 c w m) where
         ∙ ap (λ (h : ℕ → Option Hand). record n { hands = set_at 0 (hand c Known) h; states = set_at c Ready n.states }) spent_hands
         ∙ ap (λ (h : ℕ → Option Hand). record n { hands = h; states = set_at c Ready n.states }) (set_at_again 0 (hand c (phase_after_spend (m.states c) (m.spent c))) (hand c Known) w.hands)
         ∙ ap (λ (x : Plain). record x { hands = set_at 0 (hand c Known) w.hands; states = set_at c Ready x.states }) spent_is in (
-          takes_is c w v Ready true a.known e (λ was. refl) (λ is late. inr (clear (w.states c) (w.spent c) (sym (ap (λ (x : Plain). is_waiting (x.states c) && not (x.spent c)) a.effect) ∙ waits))) (λ late. refl) (λ other. absurd (other refl)),
+          takes_is c w v Ready true a.known e (λ was. refl) (λ is late. inr (clear (w.states c) (w.spent c) (sym (ap (λ (x : Plain). is_waiting (x.states c) && not (x.spent c)) a.effect) ∙ waits))) (λ late. refl) (λ due. absurd (not_due due)) (λ other. absurd (other refl)),
           ap (λ (x : Plain). x.states c) e ∙ set_at_same c Ready w.states,
         )
 
@@ -85,8 +90,7 @@ module _ (c : ℕ) (w m : Plain) (a : Acquires 0 c w m) where
         spent_is
         ∙ ap (λ (h : ℕ → Option Hand). record w { hands = h; spent = set_at c true w.spent }) (spent_hands ∙ ap (λ (b : Bool). set_at 0 (hand c (if b then Woken else Known)) w.hands) not)
         ∙ ap (λ (t : ℕ → State). record w { hands = set_at 0 (hand c Known) w.hands; states = t; spent = set_at c true w.spent }) (sym (set_at_itself c w.states)) in
-        takes_is c w n (w.states c) true a.known e (λ was. refl) (λ is late. inl is) (λ late. refl)
-        (λ other. (refl, refl, subst (λ (x : Plain). IsDue (x.states c) x.clock → ⊥) a.effect s.not_due))
+        takes_is c w n (w.states c) true a.known e (λ was. refl) (λ is late. inl is) (λ late. refl) (λ due. absurd (not_due due)) (λ other. (refl, refl, not_due))
 
 -- Whoever takes one at rest has it in hand.
 pub takes_hand : (c : ℕ) (w v : Plain) → IsAtRest w → Takes c w v → IsInHand c Known v
@@ -104,6 +108,16 @@ takes_hand c w v rest t = record {
 pub passes_rest : (order : List ℕ) (w v : Plain) → IsAtRest w → Passes order w v → IsAtRest v
 passes_rest order w v rest t q = idle_by q w v
     (ap (λ (x : Plain). x.hands q) t.effect) (ap (λ (x : Plain). x.fills q) t.effect) (ap (λ (x : Plain). x.news q) t.effect) (ap (λ (x : Plain). x.clearing q) t.effect) (rest q)
+
+never : true ≡ false → ⊥
+never e = cc
+
+listed : (c k : ℕ) → c ≡ k → lists k (c ∷ []) ≡ true
+listed c k e = elim (eqb_tells c k) [ inl h ↦ ap (λ b. b || false) h.0 | inr h ↦ absurd (h.1 e) ]
+
+neither : (a b : Bool) → (a || b) ≡ false → (a ≡ false) × (b ≡ false)
+neither true b e = absurd (never e)
+neither false b e = (refl, e)
 
 -- One more that isn't READY is given back.
 pub passes_one : (c : ℕ) (w m v : Plain) → IsAtRest w → Takes c w m → m.states c ≢ Ready → Releases 0 c m v → Passes (c ∷ []) w v
@@ -132,6 +146,10 @@ passes_one c w m v rest t other r =
               (subst (λ n. IsDue (v.states k) n) (ap (λ (x : Plain). x.clock) e ∙ sym (ap (λ (x : Plain). x.clock) t.same)) due));
         }
       ];
+      others = λ k none. elim (place k c) [
+        | inl same ↦ absurd (never (sym (listed c k (sym same)) ∙ none))
+        | inr apart ↦ ap (λ (x : Plain). x.spent k) e ∙ ap (λ (f : ℕ → Bool). f k) t.spent ∙ set_at_other c (m.spent c) w.spent k apart
+      ];
     }
 
 -- What is parked stays so while others are taken and given back.
@@ -152,6 +170,7 @@ passes_more xs ys w m v a b = record {
     | inl e ↦ parked_on ys c m v b (a.parked c e)
     | inr e ↦ b.parked c e
   ];
+  others = λ c none. let e = neither (lists c xs) (lists c ys) (sym (lists-append c xs ys) ∙ none) in b.others c e.1 ∙ a.others c e.0;
 }
 
 pub finds_here : (before after : List ℕ) (c : ℕ) (w m v : Plain) → Passes before w m → Sound m → Takes c m v → v.states c ≡ Ready → Finds (before ++ c ∷ after) c w v

@@ -12,7 +12,7 @@ use Rattle.wake_core.specs.Planned.{planned_count, first_reader, counts_from}
 use Rattle.wake_core.specs.Settle.{Settles}
 use Rattle.wake_core.specs.Serial.{is_runnable, resume, play, next}
 use Rattle.wake_core.specs.Plain.{Plain, hand, State, Ready, DataWait, Sleep, Finished, Phase}
-use Rattle.wake_core.specs.Plain.{Known, Running, lists, last_of, unsent_of, found_by}
+use Rattle.wake_core.specs.Plain.{Known, Running, lists, lists_reader, last_of, unsent_of, found_by}
 use Rattle.wake_core.specs.Events.{OwesNothing, IsDue, Asks, Fetches, Sends, Yields, Releases}
 use Rattle.wake_core.specs.Events.{next_call, after_send, after_yield, is_waiting}
 use Rattle.wake_core.specs.WorldCalls.{in_hand, phase_sent}
@@ -20,9 +20,13 @@ use Rattle.wake_core.specs.Laws.{IsIdle}
 use Rattle.wake_core.specs.Sound.{Sound}
 use Rattle.wake_core.specs.Rest.{IsAtRest, run_shown, StaysFixed}
 
+-- A component's flag after a message came to some readers: where the component waits and the first
+-- of its readers is among them the flag is clear, else it is as it was.
+abbrev pub flag_after : (readers : List (ℕ × ℕ)) → Plain → (c : ℕ) → Bool
+flag_after readers w c = w.spent c && not (is_waiting (w.states c) && lists_reader c 0 readers)
+
 -- The thread's message arrives at each of the readers that it still has to fill; it looks at its
--- news, and clears the flags of those that wait. It owes nothing then. Which flags were cleared
--- isn't said: that no croutine is lost is said of every world.
+-- news, and clears the flags of those that wait. It owes nothing then.
 pub record Delivers (p : ℕ) (w v : Plain) : Type 0 where
   pub same : v ≡ record w {
     arrivals = v.arrivals;
@@ -35,6 +39,7 @@ pub record Delivers (p : ℕ) (w v : Plain) : Type 0 where
   pub fills : v.fills ≡ set_at p [] w.fills
   pub news : v.news ≡ set_at p [] w.news
   pub clearing : v.clearing ≡ set_at p [] w.clearing
+  pub spent : (c : ℕ) → v.spent c ≡ flag_after (w.fills p) w c
 
 -- All but thread 0 are idle.
 abbrev pub IsAlone : Plain → Type 0
@@ -68,6 +73,7 @@ pub record IsParked (c : ℕ) (w : Plain) : Type 0 where
   pub not_due : IsDue (w.states c) w.clock → ⊥
 
 -- A croutine is acquired and updated: it is READY then, or it is parked with the state that it had.
+-- Its flag is spent then, but stays where it was due.
 pub record Takes (c : ℕ) (w v : Plain) : Type 0 where
   pub known : c < length w.routes
   pub same : v ≡ record w { hands = v.hands; states = v.states; spent = v.spent }
@@ -76,6 +82,7 @@ pub record Takes (c : ℕ) (w v : Plain) : Type 0 where
   pub spent : v.spent ≡ set_at c (v.spent c) w.spent
   pub spends : w.spent c ≡ true → v.spent c ≡ true
   pub flag : (IsDue (w.states c) w.clock → ⊥) → v.spent c ≡ true
+  pub due : IsDue (w.states c) w.clock → v.spent c ≡ w.spent c
   pub woken : v.states c ≡ Ready → (IsDue (w.states c) w.clock → ⊥)
       → (w.states c ≡ Ready) ⊎ (w.spent c ≡ false)
   pub parked : v.states c ≢ Ready → IsParked c v × (v.states c ≡ w.states c)
@@ -85,11 +92,13 @@ pub record IsTaken (c : ℕ) (w v : Plain) : Type 0 where
   pub takes : Takes c w v
   pub ready : v.states c ≡ Ready
 
--- Croutines are taken in turn and given back, since none is READY: each is parked.
+-- Croutines are taken in turn and given back, since none is READY: each is parked. All other flags
+-- stay.
 pub record Passes (order : List ℕ) (w v : Plain) : Type 0 where
   pub effect : v ≡ record w { spent = v.spent }
   pub spends : (c : ℕ) → w.spent c ≡ true → v.spent c ≡ true
   pub parked : (c : ℕ) → lists c order ≡ true → IsParked c v
+  pub others : (c : ℕ) → lists c order ≡ false → v.spent c ≡ w.spent c
 
 -- The first of them that is READY is in hand.
 pub record Finds (order : List ℕ) (c : ℕ) (w v : Plain) : Type 0 where
@@ -115,6 +124,7 @@ pub record Delivered (c : ℕ) (next : Phase) (t : Token) (w v : Plain) : Type 0
     spent = v.spent;
   }
   pub arrivals : v.arrivals ≡ arrive (readers_of w.routes t.channel) t w.arrivals
+  pub spent : (k : ℕ) → v.spent k ≡ flag_after (readers_of w.routes t.channel) w k
   pub in_hand : IsInHand c next v
   pub all : unsent_of v c ≡ None
   pub others : (k : ℕ) → k ≢ c → unsent_of v k ≡ unsent_of w k

@@ -35,6 +35,7 @@ impl FlagTable {
         ensures { IfOk result (λ r. IsNew world r.0 r.1) }
     {
         laws::table_ends();
+        wake_core::laws::threads();
         wake_core::laws::found();
         let key = Snapshot::of(&world);
         let parts = world.apart();

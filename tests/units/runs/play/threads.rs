@@ -3,7 +3,7 @@ use super::played::{counts, list, pinned, placed};
 use super::wired::wiring;
 use cy_comp::{Kind, Wiring};
 use cy_msg::{Placement, PlayList};
-use cy_run::{Gate, MeetGate, OpenGate, run_threads};
+use cy_run::{Gate, MeetGate, OpenGate, PairGate, run_threads};
 use cy_table::Hold;
 use std::sync::Wait;
 use std::sync::atomic::{AtomicU64, Ordering};
@@ -83,6 +83,31 @@ fn overlaps_the_calls_of_two_components(rt: HostRuntime) -> Result<(), Fail> {
     let world = played(&rt, &rt, &wiring, &list, &pinned(&rt)?, &gate)?;
     assert!(rt; gate.met());
     assert_eq!(rt; calls_of_two(&world), [1, 1]);
+    Ok(())
+}
+
+// Whether the first calls of two components, which one message triggers both, were in hand at once.
+fn are_in_hand_at_once(
+    rt: &HostRuntime,
+    placement: &Placement,
+    turns: u32,
+) -> Result<bool, Fail> {
+    let wiring = wiring(
+        rt,
+        &["/a", "/o", "/p"],
+        &[(Kind::Pass, &[0]), (Kind::Pass, &[0])],
+    )?;
+    let list = list(rt, &[(0, 1, Some(1))])?;
+    let gate = PairGate::new(0, 1, turns);
+    let world = played(rt, rt, &wiring, &list, placement, &gate)?;
+    assert_eq!(rt; calls_of_two(&world), [1, 1]);
+    Ok(gate.paired())
+}
+
+#[test]
+fn has_two_calls_in_hand_at_once_on_two_processors_alone(rt: HostRuntime) -> Result<(), Fail> {
+    assert!(rt; are_in_hand_at_once(&rt, &pinned(&rt)?, 10_000_000)?);
+    assert!(rt; !are_in_hand_at_once(&rt, &placed(&rt, 2, false)?, 1_000)?);
     Ok(())
 }
 

@@ -17,7 +17,7 @@ swap-found-requires c =
     let table = c.args.self.now.table.shared in
     let made = plain_of table.key.value in
     let seat = c.args.pass.now.seat in
-    (c.requires.at.table, omega (arith, c.args.self.now.words, c.requires.inside), acquires c.hold_swaps.ensures c.rooms_left.ensures made.routes made.counts table.table_id.slots seat.id c.args.component seat.me c.requires.at.live c.requires.free.hand c.requires.inside)
+    (c.requires.at.table, omega (arith, c.args.self.now.words, c.requires.inside), acquires c.hold_swaps.ensures c.rooms_left.ensures made table.table_id.slots seat.id c.args.component seat.me c.requires.at.live c.requires.free.hand c.requires.inside)
 
 pub exchange-taken-requires : goal.exchange-taken-requires
 exchange-taken-requires c =

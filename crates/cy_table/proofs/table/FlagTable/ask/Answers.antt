@@ -11,5 +11,5 @@ store-requires c =
     let seat = c.args.pass.now.seat in (
       c.requires.at.table,
       omega (arith, c.args.self.now.words, c.requires.holds.inside),
-      asks c.state_stores.ensures made.routes made.counts table.table_id.slots seat.id c.args.hold.now.component seat.me c.requires.at.live c.requires.holds.hand c.requires.holds.croutine c.requires.may,
+      asks c.state_stores.ensures made table.table_id.slots seat.id c.args.hold.now.component seat.me c.requires.at.live c.requires.holds.hand c.requires.holds.croutine c.requires.may,
     )

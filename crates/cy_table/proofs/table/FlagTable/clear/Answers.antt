@@ -9,4 +9,4 @@ store-requires c =
     let table = c.args.self.now.table.shared in
     let made = plain_of table.key.value in
     let seat = c.args.pass.now.seat in
-    (c.requires.at.table, omega (arith, c.args.self.now.words, c.requires.inside), clears c.flag_stores.ensures made.routes made.counts table.table_id.slots seat.id c.args.component seat.me c.requires.at.live c.requires.last c.requires.inside)
+    (c.requires.at.table, omega (arith, c.args.self.now.words, c.requires.inside), clears c.flag_stores.ensures made table.table_id.slots seat.id c.args.component seat.me c.requires.at.live c.requires.last c.requires.inside)

@@ -14,7 +14,7 @@ swap-found-requires c =
     let table = c.args.self.now.table.shared in
     let made = plain_of table.key.value in
     let seat = c.args.pass.now.seat in
-    (c.requires.at.table, omega (arith, c.args.self.now.words), enters c.tape_door_swaps.ensures c.rooms_left.ensures made.routes made.counts table.table_id.slots seat.id seat.me c.requires.at.live c.requires.bare c.requires.may)
+    (c.requires.at.table, omega (arith, c.args.self.now.words), enters c.tape_door_swaps.ensures c.rooms_left.ensures made table.table_id.slots seat.id seat.me c.requires.at.live c.requires.bare c.requires.may)
 
 pub exchange-taken-requires : goal.exchange-taken-requires
 exchange-taken-requires c =

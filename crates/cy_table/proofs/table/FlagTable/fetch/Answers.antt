@@ -23,7 +23,7 @@ store-requires g c =
     let p = exchanged _ c.exchange-left.new.seat.me _ _ _ _ _ _ t.ensures.visiting.thread e.2 e.3 in (
       e.0 ∙ t.ensures.same.at.table,
       omega (arith, c.args.self.now.words, c.requires.holds.inside),
-      fetches c.fetch_stores.ensures c.rooms_left.ensures made.routes made.counts table.table_id.slots c.exchange-left.new.seat.id i t.result old.0 old.1 c.exchange-left.new.seat.me c.requires.visit.at.live c.requires.holds.hand c.requires.holds.croutine
+      fetches c.fetch_stores.ensures c.rooms_left.ensures made table.table_id.slots c.exchange-left.new.seat.id i t.result old.0 old.1 c.exchange-left.new.seat.me c.requires.visit.at.live c.requires.holds.hand c.requires.holds.croutine
           c.requires.asked c.requires.holds.inside p.1,
     )
 

@@ -22,6 +22,6 @@ store-requires g c =
     let b = c.arrive.ensures ∙ ap (arrived x c.args.role) c.requires.message in (
       e.0 ∙ t.ensures.same.at.table,
       omega (arith, c.args.self.now.words, c.requires.visit.inside),
-      fills c.fill_stores.ensures made.routes made.counts table.table_id.slots c.exchange-left.new.seat.id i c.args.role x old.0 old.1 c.exchange-left.new.seat.me c.requires.visit.at.live c.requires.owes c.requires.visit.inside
+      fills c.fill_stores.ensures made table.table_id.slots c.exchange-left.new.seat.id i c.args.role x old.0 old.1 c.exchange-left.new.seat.me c.requires.visit.at.live c.requires.owes c.requires.visit.inside
           (p.1 ∙ ap (λ (y : VisitorView). let n : Thread = (visiting old.0 i x, (2 * i + 2, part.Visitor y) ∷ old.1) in n) b),
     )

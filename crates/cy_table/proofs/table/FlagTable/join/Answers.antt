@@ -9,4 +9,4 @@ join_seat-requires c =
     let table = c.args.self.now.table.shared in
     let made = plain_of table.key.value in
     let seat = c.args.pass.now.seat in
-    (c.requires.mine.at.table, c.requires.at.table, c.requires.out, omega (arith, c.args.self.now.words), joins c.bench_steps.ensures made.routes made.counts seat.id seat.me.0 c.args.other.seat.id c.args.other.seat.me.0 c.requires.mine.at.live c.requires.mine.player c.requires.here c.requires.empty)
+    (c.requires.mine.at.table, c.requires.at.table, c.requires.out, omega (arith, c.args.self.now.words), joins c.bench_steps.ensures made seat.id seat.me.0 c.args.other.seat.id c.args.other.seat.me.0 c.requires.mine.at.live c.requires.mine.player c.requires.here c.requires.empty)

@@ -10,7 +10,7 @@ load-found-requires c =
     let table = c.args.self.now.table.shared in
     let made = plain_of table.key.value in
     let seat = c.args.pass.now.seat in
-    (c.requires.at.table, omega (arith, c.args.self.now.words, c.requires.inside), looks c.state_loads.ensures made.routes made.counts table.table_id.slots seat.id c.args.component seat.me c.requires.at.live c.requires.filled c.requires.news c.requires.inside)
+    (c.requires.at.table, omega (arith, c.args.self.now.words, c.requires.inside), looks c.state_loads.ensures made table.table_id.slots seat.id c.args.component seat.me c.requires.at.live c.requires.filled c.requires.news c.requires.inside)
 
 pub returns-clause-same : goal.returns-clause-same
 returns-clause-same c =

@@ -33,7 +33,7 @@ new-requires c =
     subst (λ (w : World). rule_for w (opening c.as_slice.result.now slots (seat_for w))) (sym c.of-key.ensures)
     (subst (λ (ws : List ℕ). rule_for world (opening ws slots (seat_for world))) (sym c.as_slice.ensures.value)
     (subst (λ (xs : List Part). rule_for world (opening words xs (seat_for world))) (sym slots_are)
-    (begins c.table_ends.ensures world p words t c.apart-parts.ensures.fit p.fixed.lawful c.apart-parts.ensures.shown c.in_ok-words.ensures c.new-tape.ensures)))
+    (begins c.table_ends.ensures c.threads.ensures world p words t c.apart-parts.ensures.fit p.fixed.lawful c.requires c.apart-parts.ensures.shown c.in_ok-words.ensures c.new-tape.ensures)))
 
 pub invariant_of-result : goal.invariant_of-result
 unfolding shown_by

@@ -17,6 +17,6 @@ store-requires c =
     let p = put_back old c.exchange-left.new.seat.me _ _ _ _ _ c.requires.holds.out e.2 e.3 in (
       e.0 ∙ c.requires.at.table,
       omega (arith, c.args.self.now.words, c.requires.holds.inside),
-      releases_as c.hold_stores.ensures made.routes made.counts table.table_id.slots c.exchange-left.new.seat.id h.component h.routine old.0 (in_hand old.0) c.exchange-left.new.seat.me c.requires.at.live c.requires.holds.hand c.requires.may
+      releases_as c.hold_stores.ensures made table.table_id.slots c.exchange-left.new.seat.id h.component h.routine old.0 (in_hand old.0) c.exchange-left.new.seat.me c.requires.at.live c.requires.holds.hand c.requires.may
           c.requires.holds.croutine (c.requires.holds.routine ∙ ap (with_found h.routine) c.requires.stepped) p.1,
     )

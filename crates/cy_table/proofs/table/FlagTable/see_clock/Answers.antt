@@ -9,4 +9,4 @@ load-requires c =
     let table = c.args.self.now.table.shared in
     let made = plain_of table.key.value in
     let seat = c.args.pass.now.seat in
-    (c.requires.table, omega (arith, c.args.self.now.words), sees c.clock_steps.ensures made.routes made.counts table.table_id.slots seat.id seat.me c.requires.live)
+    (c.requires.table, omega (arith, c.args.self.now.words), sees c.clock_steps.ensures made table.table_id.slots seat.id seat.me c.requires.live)

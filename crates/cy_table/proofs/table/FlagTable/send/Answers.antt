@@ -37,7 +37,7 @@ store-requires g c =
     let p = exchanged _ c.exchange-left.new.seat.me _ _ _ _ _ _ t.ensures.entered.thread e.2 e.3 in (
       e.0 ∙ t.ensures.same.at.table,
       omega (arith, c.args.self.now.words),
-      sends c.tape_stores.ensures made.routes made.counts table.table_id.slots c.exchange-left.new.seat.id (channel_of h) x o.out old.0 old.1 c.exchange-left.new.seat.me c.requires.at.live c.requires.holds.hand o.seen c.requires.may writes
+      sends c.tape_stores.ensures made table.table_id.slots c.exchange-left.new.seat.id (channel_of h) x o.out old.0 old.1 c.exchange-left.new.seat.me c.requires.at.live c.requires.holds.hand o.seen c.requires.may writes
           (p.1 ∙ ap (λ (y : TapeView). let n : Thread = (entering old.0 x, (0, part.Tape y) ∷ old.1) in n) (c.put.ensures ∙ ap (with_message x) token_is)),
     )
 

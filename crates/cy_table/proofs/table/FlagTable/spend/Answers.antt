@@ -9,4 +9,4 @@ swap-found-requires c =
     let table = c.args.self.now.table.shared in
     let made = plain_of table.key.value in
     let seat = c.args.pass.now.seat in
-    (c.requires.at.table, omega (arith, c.args.self.now.words, c.requires.holds.inside), spends c.flag_swaps.ensures made.routes made.counts table.table_id.slots seat.id c.args.hold.now.component seat.me c.requires.at.live c.requires.holds.hand c.requires.holds.croutine c.requires.may)
+    (c.requires.at.table, omega (arith, c.args.self.now.words, c.requires.holds.inside), spends c.flag_swaps.ensures made table.table_id.slots seat.id c.args.hold.now.component seat.me c.requires.at.live c.requires.holds.hand c.requires.holds.croutine c.requires.may)

@@ -9,4 +9,4 @@ split_seat-seat-requires c =
     let table = c.args.self.now.table.shared in
     let made = plain_of table.key.value in
     let seat = c.args.pass.now.seat in
-    (c.requires.mine.at.table, omega (arith, c.args.self.now.words), splits c.bench_steps.ensures made.routes made.counts seat.id seat.me.0 c.requires.mine.at.live c.requires.mine.player)
+    (c.requires.mine.at.table, omega (arith, c.args.self.now.words), splits c.bench_steps.ensures made seat.id seat.me.0 c.requires.mine.at.live c.requires.mine.player)

@@ -9,4 +9,4 @@ store-requires c =
     let table = c.args.self.now.table.shared in
     let made = plain_of table.key.value in
     let seat = c.args.pass.now.seat in
-    (c.requires.at.table, omega (arith, c.args.self.now.words), ticks c.clock_steps.ensures made.routes made.counts table.table_id.slots seat.id c.args.time seat.me c.requires.at.live c.requires.player c.requires.later)
+    (c.requires.at.table, omega (arith, c.args.self.now.words), ticks c.clock_steps.ensures made table.table_id.slots seat.id c.args.time seat.me c.requires.at.live c.requires.player c.requires.later)

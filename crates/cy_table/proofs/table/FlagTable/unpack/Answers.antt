@@ -14,7 +14,7 @@ use Rattle.cy_table.specs.declared.part.Part.{Part}
 use Rattle.cy_table.specs.declared.part.Part.TheVariants as part
 use Rattle.cy_table.specs.Seats.{TapeView}
 use Rattle.cy_table.specs.Shown.{routine_at, visitor_at, tape_at}
-use Rattle.cy_table.proofs.Unpacking.{TakenOut, AreRest, IsFrom, shuts, same_part, same_tape, taken_as, taken_more, index_of, from_more, few_played, parts_fit, played_left, clock_left, closing_left, calls_seen}
+use Rattle.cy_table.proofs.Unpacking.{TakenOut, AreRest, IsFrom, shuts, same_part, same_tape, taken_as, taken_more, index_of, from_more, few_played, agrees, parts_fit, played_left, clock_left, closing_left, calls_seen}
 use Rattle.cy_table.proofs.table.FlagTable.unpack.Goals as goal
 
 pub unreachable-requires : goal.unreachable-requires
@@ -23,7 +23,7 @@ unreachable-requires c =
     let seat = c.args.pass.seat in
     let last = c.requires.last in
     let closed = c.close_with-closed.result in
-    let e = shuts c.table_ends.ensures made.routes made.counts seat.id seat.me.0 (slots_items closed.words) (slots_items closed.slots) last.player.player last.player.at.live last.empty last.alone c.close_with-closed.ensures.values.2 in
+    let e = shuts c.table_ends.ensures made seat.id seat.me.0 (slots_items closed.words) (slots_items closed.slots) last.player.player last.player.at.live last.empty last.alone c.close_with-closed.ensures.values.2 in
     c.in_default.not-Tape (tape_at e.rooms e.world) (same_part (slots_items closed.slots) 0 c.take.result (part.Tape (tape_at e.rooms e.world)) c.take.ensures.value e.slots_are.tape)
 
 pub unreachable-requires-in_default-take : goal.unreachable-requires-in_default-take
@@ -32,7 +32,7 @@ unreachable-requires-in_default-take c =
     let seat = c.args.pass.seat in
     let last = c.requires.last in
     let closed = c.close_with-closed.result in
-    let e = shuts c.table_ends.ensures made.routes made.counts seat.id seat.me.0 (slots_items closed.words) (slots_items closed.slots) last.player.player last.player.at.live last.empty last.alone c.close_with-closed.ensures.values.2 in
+    let e = shuts c.table_ends.ensures made seat.id seat.me.0 (slots_items closed.words) (slots_items closed.slots) last.player.player last.player.at.live last.empty last.alone c.close_with-closed.ensures.values.2 in
     let k = c.loop-c.c in
     let less : k < length e.world.routes = omega (arith, c.loop-c-test.true, c.slot_count-count.ensures, c.close_with-closed.ensures.counts.1, c.args.self.slots, ap length e.components) in
     let is : slots_items c.loop-c.closed.slots ≡ slots_items closed.slots = c.loop-c.invariant.same ∙ c.take.ensures.others.0 in
@@ -45,7 +45,7 @@ unreachable-requires-in_default-take-2 c =
     let seat = c.args.pass.seat in
     let last = c.requires.last in
     let closed = c.close_with-closed.result in
-    let e = shuts c.table_ends.ensures made.routes made.counts seat.id seat.me.0 (slots_items closed.words) (slots_items closed.slots) last.player.player last.player.at.live last.empty last.alone c.close_with-closed.ensures.values.2 in
+    let e = shuts c.table_ends.ensures made seat.id seat.me.0 (slots_items closed.words) (slots_items closed.slots) last.player.player last.player.at.live last.empty last.alone c.close_with-closed.ensures.values.2 in
     let k = c.loop-c.c in
     let less : k < length e.world.routes = omega (arith, c.loop-c-test.true, c.slot_count-count.ensures, c.close_with-closed.ensures.counts.1, c.args.self.slots, ap length e.components) in
     let is : slots_items c.take-in-loop-c.new.self.slots ≡ slots_items closed.slots = c.take-in-loop-c.ensures.others.0 ∙ (c.loop-c.invariant.same ∙ c.take.ensures.others.0) in
@@ -89,7 +89,7 @@ overflow_cast-played c =
     let closed = c.close_with-closed.result in
     let words = slots_items closed.words in
     let slots = slots_items closed.slots in
-    let e = shuts c.table_ends.ensures made.routes made.counts seat.id seat.me.0 words slots last.player.player last.player.at.live last.empty last.alone c.close_with-closed.ensures.values.2 in
+    let e = shuts c.table_ends.ensures made seat.id seat.me.0 words slots last.player.player last.player.at.live last.empty last.alone c.close_with-closed.ensures.values.2 in
     let tape = c.in-Tape.tape in
     let is : tape ≡ tape_at e.rooms e.world = same_tape tape (tape_at e.rooms e.world) (ap (λ (y : Part). some y) (sym c.in-Tape.is) ∙ sym c.take.ensures.value ∙ e.slots_are.tape) in
     let items : c.as_slice.result.now ≡ e.world.tape = c.as_slice.ensures.value ∙ ap (λ (t : TapeView). t.messages) (sym c.into_messages-tape.ensures ∙ is) in
@@ -105,7 +105,7 @@ returns-clause-fit c =
     let closed = c.close_with-closed.result in
     let words = slots_items closed.words in
     let slots = slots_items closed.slots in
-    let e = shuts c.table_ends.ensures made.routes made.counts seat.id seat.me.0 words slots last.player.player last.player.at.live last.empty last.alone c.close_with-closed.ensures.values.2 in
+    let e = shuts c.table_ends.ensures made seat.id seat.me.0 words slots last.player.player last.player.at.live last.empty last.alone c.close_with-closed.ensures.values.2 in
     let p : Parts = record {
       routines = c.new.result;
       visitors = c.new-2.result;
@@ -137,7 +137,7 @@ returns-clause-left c =
     let closed = c.close_with-closed.result in
     let words = slots_items closed.words in
     let slots = slots_items closed.slots in
-    let e = shuts c.table_ends.ensures made.routes made.counts seat.id seat.me.0 words slots last.player.player last.player.at.live last.empty last.alone c.close_with-closed.ensures.values.2 in
+    let e = shuts c.table_ends.ensures made seat.id seat.me.0 words slots last.player.player last.player.at.live last.empty last.alone c.close_with-closed.ensures.values.2 in
     let p : Parts = record {
       routines = c.new.result;
       visitors = c.new-2.result;
@@ -159,6 +159,8 @@ returns-clause-left c =
       played = c.played_in-played.ensures ∙ ap (λ (l : List Token). length (played_of p.fixed.routes.items l)) c.as_slice.ensures.value;
     } in
     record {
+      reached = record { world = e.world; events = e.reached; idle = e.idle; same = agrees e p taken rest c.args.self.made c.args.self.counted };
+      noted = e.noted;
       routes = c.args.self.made;
       counts = c.args.self.counted;
       rest = λ j. record { hand = refl; owes = record { filled = refl; looked = refl; cleared = refl } };

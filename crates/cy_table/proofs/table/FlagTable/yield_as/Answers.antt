@@ -12,6 +12,6 @@ store-requires c =
     let seat = c.args.pass.now.seat in (
       c.requires.at.table,
       omega (arith, c.args.self.now.words, c.requires.holds.inside),
-      yields c.state_stores.ensures made.routes made.counts table.table_id.slots seat.id c.args.hold.now.component c.number_of-number.result seat.me c.requires.at.live c.requires.holds.hand c.requires.holds.croutine
+      yields c.state_stores.ensures made table.table_id.slots seat.id c.args.hold.now.component c.number_of-number.result seat.me c.requires.at.live c.requires.holds.hand c.requires.holds.croutine
           (sym (c.number_of-number.ensures ∙ ap number_of c.requires.next)) c.requires.may,
     )
