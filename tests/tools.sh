@@ -510,7 +510,7 @@ refuses_tables() {
 
 # Jobs of Slurm may be forgotten, and the controller may not answer for a while.
 tells_states() {
-  local status="$top/batch/profiles/slurm/status.py"
+  local tells="$top/batch/profiles/slurm/status.py"
   begin 'the state of a job of Slurm is told'
   mkdir bin
   # shellcheck disable=SC2016
@@ -521,7 +521,7 @@ tells_states() {
     echo "$said" >said
     echo "$fault" >fault
     echo "$code" >status
-    PATH=$PWD/bin:$PATH try 0 python3 "$status" 7
+    PATH=$PWD/bin:$PATH try 0 python3 "$tells" 7
     says out "$want"
   done <<STATES
 JobId=7 JobState=COMPLETED X=1||0|success
