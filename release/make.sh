@@ -30,13 +30,16 @@ commit=${state#commit }
 commit=${commit%, program *}
 [[ $commit =~ ^[0-9a-f]{40} ]] || fail 'this is no clone with a commit'
 
-# A log tells of a gate that passed where its last line is the gate's own, before which nothing failed, and of this commit and this program
-# where the gate says so. What measured the gate may have printed its times behind that.
+# A log tells of a gate that passed where `rt ci` says so, where its last line is the gate's own, and where nothing failed; it is of this
+# commit and of this program where the gate says so. What measured the gate may have printed its times behind that.
 said=
+proofs=
 if [ -n "$gate" ]; then
   [[ -f $gate && -r $gate ]] || fail "no log at $gate"
   faults=$(grep -m 1 -E '^rt: FAILED|[0-9]+ passed, [1-9][0-9]* failed$|, [1-9][0-9]* faults$' "$gate" || true)
   [ -z "$faults" ] || fail "the gate failed: $faults"
+  proofs=$(grep '^rt: ok; ' "$gate" | tail -n 1 || true)
+  [ -n "$proofs" ] || fail 'the gate did not come to its end: no line says that rt ci passed'
   said=$(sed -E '/^$|^(real|user|sys)[[:space:]]/d' "$gate" | tail -n 1)
   [[ $said =~ ^[0-9]+\ promises,\ 0\ faults$ ]] || fail "the gate did not come to its end: its last line is '$said'"
   of=$(grep -E '^commit .*, program [0-9a-f]{64}$' "$gate" | tail -n 1 || true)
@@ -52,14 +55,15 @@ doc=$stage/usr/share/doc/$name
 
 # What was built from what, by which toolchain, and what the gate said; only what is at hand is claimed.
 write_proved() {
-  local logic='not known: no log of the gate was given' passed='not known: no log of the gate was given'
+  local unknown='not known: no log of the gate was given' logic
+  logic=$unknown
   if [ -n "$gate" ]; then
     logic=$(sed -n 's/.*logic=proved .*sum=\([0-9a-f]*\).*/\1/p' "$gate" | sort -u)
-    passed="passed: $said"
   fi
   echo "commit ${commit/with changes/with changes that are not committed}"
-  echo "logic ${logic:-not named in the log of the gate}"
-  echo "gate $passed"
+  echo "logic ${logic:-not named in the log of the gate, for which all proofs were kept}"
+  echo "proofs ${proofs:-$unknown}"
+  echo "gate ${said:-$unknown}"
   echo "sha256 of the files beside this one:"
   (cd "$stage/usr" && find . -type f ! -name PROVED -printf '%P\n' | LC_ALL=C sort | xargs -d '\n' sha256sum)
 }

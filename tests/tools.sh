@@ -297,7 +297,8 @@ release() {
   count $? "$name: the program is another one"
   says tar/share/doc/zektrob/PROVED "commit $(git -C "$top" rev-parse HEAD)( with changes.*)?"
   says tar/share/doc/zektrob/PROVED 'logic 0123456789abcdef'
-  says tar/share/doc/zektrob/PROVED 'gate passed: 1 promises, 0 faults'
+  says tar/share/doc/zektrob/PROVED 'proofs rt: ok; every proof was done in this run'
+  says tar/share/doc/zektrob/PROVED 'gate 1 promises, 0 faults'
   (cd tar && sed -n 's/^\([0-9a-f]\{64\}  \)/\1/p' share/doc/zektrob/PROVED | sha256sum -c --quiet) >sums 2>&1
   count $? "$name: $(head -n 3 sums)"
   [ "$(grep -c '^[0-9a-f]\{64\}  ' tar/share/doc/zektrob/PROVED)" -eq $(($(find tar -type f | wc -l) - 1)) ]
@@ -326,7 +327,8 @@ release() {
 
 # What a gate prints that passed.
 write_log() {
-  printf 'x logic=proved functions=1 sum=0123456789abcdef native=nat\n9 passed, 0 failed\n'
+  printf '%s\n' 'logic=proved functions=1 sum=0123456789abcdef native=nat' 'rt: x proved' 'rt: ok; every proof was done in this run' \
+    '9 passed, 0 failed'
   "$top/release/gate.sh" "$program"
   printf '1 promises, 0 faults\n\nreal\t1m\n'
 }
@@ -335,12 +337,14 @@ write_log() {
 refuses_logs() {
   sed 's/^9 passed, 0/24 passed, 15/' gate.log >bad.log
   refuses_log 'the gate failed: 24 passed, 15 failed'
-  (echo 'rt: FAILED'; cat gate.log) >bad.log
-  refuses_log 'the gate failed: rt: FAILED'
-  sed '3,$d' gate.log >bad.log
+  (echo 'rt: FAILED: x'; cat gate.log) >bad.log
+  refuses_log 'the gate failed: rt: FAILED: x'
+  sed '/^rt: ok/d' gate.log >bad.log
+  refuses_log 'the gate did not come to its end: no line says that rt ci passed'
+  sed '5,$d' gate.log >bad.log
   refuses_log "the gate did not come to its end: its last line is '9 passed, 0 failed'"
   : >bad.log
-  refuses_log "the gate did not come to its end: its last line is ''"
+  refuses_log 'the gate did not come to its end: no line says that rt ci passed'
   sed 's/, program ....../, program 000000/' gate.log >bad.log
   refuses_log "the gate was of 'commit .*, program 000000.*', and this is commit .*"
   sed 's/^commit ....../commit 000000/' gate.log >bad.log
