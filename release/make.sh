@@ -16,10 +16,11 @@ fail() {
 }
 
 while [ $# -gt 0 ]; do
+  [[ $# -gt 1 || ! $1 =~ ^--(out|gate)$ ]] || fail "$1 takes a value"
   case $1 in
     --help) sed -n '2,/^set/s/^# //p' "$0"; exit ;;
-    --out) out=${2:?"$1 takes a folder"}; shift 2 ;;
-    --gate) gate=${2:?"$1 takes a log"}; shift 2 ;;
+    --out) out=$2; shift 2 ;;
+    --gate) gate=$2; shift 2 ;;
     -*) fail "no such option: $1" ;;
     *) program=$1; shift ;;
   esac
