@@ -148,8 +148,8 @@ timeline() {
   try 0 python3 "$line" --help
   python3 "$top/bench/made.py" 20 made
   python3 "$top/tests/replay.py" out.rec out.trace line --record made.record --dag made.dag
-  try 0 python3 "$top/tests/tools/damaged.py" 60 out.trace python3 "$line" FILE --record out.rec -o run.json
-  try 0 python3 "$top/tests/tools/damaged.py" 60 out.rec python3 "$line" out.trace --record FILE -o run.json
+  try 0 python3 "$top/tests/tools/damaged.py" 30 out.trace python3 "$line" FILE --record out.rec -o run.json
+  try 0 python3 "$top/tests/tools/damaged.py" 30 out.rec python3 "$line" out.trace --record FILE -o run.json
   begin 'a timeline of forty thousand calls takes less than 100 MB'
   python3 "$top/tests/tools/long_run.py" 40000 long
   try 0 python3 "$top/tests/tools/measure.py" usage python3 "$line" long.trace --record long.rec -o long.json
@@ -243,7 +243,7 @@ tells_faults() { # the tool
   fails_in_one_line 2 'messages: cut.rec: at [0-9]+: no whole section' python3 "$1" cut.rec
   try 0 python3 "$1" --help
   # Whatever is cut or changed, there is a status of its own and at most a line.
-  try 0 python3 "$top/tests/tools/damaged.py" 60 "$top/examples/pass/two.rec" python3 "$1" FILE
+  try 0 python3 "$top/tests/tools/damaged.py" 30 "$top/examples/pass/two.rec" python3 "$1" FILE
 }
 
 # Looks that a command ends with a status, and prints one line, which fits, on standard error.
