@@ -17,14 +17,19 @@ def read_table(path):
     scheduler file asks for, or 0 or nothing for a serial play.
     """
     found = {}
-    with open(path, newline="", encoding="utf-8") as file:
-        for row in csv.DictReader(file):
+    # Spreadsheets put a mark before the first head, which utf-8-sig leaves out.
+    with open(path, newline="", encoding="utf-8-sig") as file:
+        rows = csv.DictReader(file)
+        strange = [it for it in rows.fieldnames or [] if it not in COLUMNS]
+        if strange:
+            raise ValueError(f"{path}: no such columns: {', '.join(map(repr, strange))}")
+        for row in rows:
             drive = {key: (value or "").strip() for key, value in row.items() if key}
             name = drive.get("drive", "")
             if not NAME.fullmatch(name) or name in found or not drive.get("record") or not drive.get("dag"):
-                raise ValueError(f"{path}: drive {name!r} has no name of its own, no record or no DAG file")
-            if set(drive) - set(COLUMNS):
-                raise ValueError(f"{path}: no such columns: {', '.join(sorted(set(drive) - set(COLUMNS)))}")
+                raise ValueError(f"{path}: line {rows.line_num}: drive {name!r} has no name of its own, no record or no DAG file")
+            if None in row or not re.fullmatch(r"[0-9]{0,4}", drive.get("threads", "")):
+                raise ValueError(f"{path}: line {rows.line_num}: drive {name} has more cells than heads, or threads that are no number")
             found[name] = drive
     return found
 
@@ -56,6 +61,7 @@ def row_of(folder, name):
     """What came of a drive, or None where it isn't done."""
     try:
         with open(os.path.join(folder, name, "row.json"), encoding="utf-8") as file:
-            return json.load(file)
+            row = json.load(file)
     except (OSError, ValueError):
         return None
+    return row if isinstance(row, dict) and "status" in row else None

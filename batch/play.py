@@ -10,19 +10,20 @@ WORDS are those of a further command of the program, with {record}, {dag}, {out}
 import argparse
 import hashlib
 import json
-import mmap
 import os
 import re
 import shlex
 import subprocess
 import sys
 import time
+from itertools import zip_longest
 
 sys.path.insert(0, os.path.join(os.path.dirname(os.path.abspath(__file__)), "..", "tools"))
 from drives import read_table, row_of, words_of
-from record import each_message
+from record import each_message, opened
 
 COUNTS = re.compile(r"done: played (?P<played>\d+), shadowed (?P<shadowed>\d+), calls (?P<calls>\d+), written (?P<written>\d+)")
+FILE = re.compile(r"\{(record|dag|out|trace)\}")
 LONGEST_LINE = 2000
 
 
@@ -31,7 +32,8 @@ def run(command):
     start = time.monotonic()
     with subprocess.Popen(command, stdin=subprocess.DEVNULL, stdout=subprocess.PIPE, stderr=subprocess.STDOUT) as process:
         line = process.stdout.read(LONGEST_LINE).decode("utf-8", "replace")
-        process.stdout.read()
+        while process.stdout.read(1 << 20):
+            pass
         _, ended, used = os.wait4(process.pid, 0)
         process.returncode = os.waitstatus_to_exitcode(ended)
     return {
@@ -53,20 +55,20 @@ def digest_of(path):
 
 
 def first_difference(path, good):
-    """The first message in which two records differ, or a text that says that only their files do."""
-    # The files are mapped, so that of each no more than a chunk is in memory.
-    with open(path, "rb") as one, open(good, "rb") as other:
-        files = [mmap.mmap(it.fileno(), 0, access=mmap.ACCESS_READ) for it in (one, other)]
-    messages, others = map(each_message, files)
-    at = 0
-    while True:
-        message, wanted = next(messages, None), next(others, None)
-        if message is None and wanted is None:
-            return "none of the messages, but the files"
-        if message != wanted:
-            shown = [it and f"{it[0].decode('utf-8', 'replace')} at {it[1]} 0x{it[2][:32].hex()}" or "the end" for it in (message, wanted)]
-            return f"message {at + 1}: {shown[0]}, was {shown[1]}"
-        at += 1
+    """The first message in which two records differ, or a text that says that only their files do, or why that can't be told."""
+    try:
+        with opened(path) as one, opened(good) as other:
+            for at, (message, wanted) in enumerate(zip_longest(each_message(one), each_message(other)), 1):
+                if message != wanted:
+                    return f"message {at}: {told(message)}, was {told(wanted)}"
+    except (OSError, ValueError) as error:
+        return f"the records can't be compared: {error}"
+    return "none of the messages, but the files"
+
+
+def told(message):
+    """A message as a text, with the beginning of its content."""
+    return f"{message[0].decode('utf-8', 'replace')} at {message[1]} 0x{message[2][:32].hex()}" if message else "the end"
 
 
 def compare(row, folder, good, name):
@@ -93,11 +95,14 @@ def play(words, drive):
     if row["status"] < 0:
         return None
     if row["status"] == 0:
-        row |= {key: int(value) for key, value in COUNTS.match(row["line"]).groupdict().items()}
+        counts = COUNTS.match(row["line"])
+        if not counts:
+            raise ValueError(f"{words.program} prints no counts: {row['line'][:100]}")
+        row |= {key: int(value) for key, value in counts.groupdict().items()}
         row |= {"digest": digest_of(out), "trace digest": digest_of(trace)}
     if row["status"] == 0 and words.verify:
-        names = {"{record}": drive["record"], "{dag}": drive["dag"], "{out}": out, "{trace}": trace}
-        verified = run([words.program] + [names.get(it, it) for it in shlex.split(words.verify)])
+        names = {"record": drive["record"], "dag": drive["dag"], "out": out, "trace": trace}
+        verified = run([words.program] + [FILE.sub(lambda it: names[it[1]], word) for word in shlex.split(words.verify)])
         row["verify"] = "verified" if verified["status"] == 0 else f"status {verified['status']}: {verified['line']}"
     row["difference"] = compare(row, folder, words.good, words.drive)
     return row
@@ -110,15 +115,22 @@ def main():
     reader.add_argument("--good", default="")
     reader.add_argument("--verify", default="")
     words = reader.parse_args()
-    row = play(words, read_table(words.table)[words.drive])
-    if row is None:
-        print(f"play.py: a signal ended the play of {words.drive}", file=sys.stderr)
+    try:
+        drives = read_table(words.table)
+        if words.drive not in drives:
+            raise ValueError(f"{words.table}: no drive {words.drive}")
+        row = play(words, drives[words.drive])
+        if row is None:
+            raise ValueError(f"a signal ended the play of {words.drive}")
+        path = os.path.join(words.out, words.drive, "row.json")
+        with open(f"{path}.new", "w", encoding="utf-8") as file:
+            json.dump(row, file, indent=1)
+        os.replace(f"{path}.new", path)
+    except (OSError, ValueError) as error:
+        print(f"play.py: {error}", file=sys.stderr)
         return 1
-    path = os.path.join(words.out, words.drive, "row.json")
-    with open(f"{path}.new", "w", encoding="utf-8") as file:
-        json.dump(row, file, indent=1)
-    os.replace(f"{path}.new", path)
     return 0
 
 
-sys.exit(main())
+if __name__ == "__main__":
+    sys.exit(main())

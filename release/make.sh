@@ -1,7 +1,8 @@
 #!/usr/bin/env bash
 # Packs the proved program: a tarball and, where there is dpkg-deb, a Debian package, with the manual page, the completions of two shells,
 # the examples and the file PROVED. Usage: release/make.sh [--out DIR] [--gate LOG] [PROGRAM]
-# PROGRAM is by default what the gate left in this repository, DIR is release/out, and LOG what the gate printed.
+# PROGRAM is by default what the gate left in this repository, DIR is release/out, and LOG what the gate printed: a gate that passed, of
+# the commit that is checked out and of this program.
 set -euo pipefail
 top=$(cd "$(dirname "$0")/.." && pwd)
 out=$top/release/out
@@ -15,21 +16,37 @@ fail() {
 }
 
 while [ $# -gt 0 ]; do
+  [[ $# -gt 1 || ! $1 =~ ^--(out|gate)$ ]] || fail "$1 takes a value"
   case $1 in
+    --help) sed -n '2,/^set/s/^# //p' "$0"; exit ;;
     --out) out=$2; shift 2 ;;
     --gate) gate=$2; shift 2 ;;
     -*) fail "no such option: $1" ;;
     *) program=$1; shift ;;
   esac
 done
-[ -x "$program" ] || fail "no program at $program"
+[[ -f $program && -x $program ]] || fail "no program at $program"
+state=$("$top/release/gate.sh" "$program")
+commit=${state#commit }
+commit=${commit%, program *}
+[[ $commit =~ ^[0-9a-f]{40} ]] || fail 'this is no clone with a commit'
+
+# A log tells of a gate that passed where `rt ci` says so, where its last line is the gate's own, and where nothing failed; it is of this
+# commit and of this program where the gate says so. What measured the gate may have printed its times behind that.
+said=
+proofs=
 if [ -n "$gate" ]; then
-  [ -r "$gate" ] || fail "no log at $gate"
-  faults=$(grep -m 1 -E '^rt: FAILED|^[0-9]+ passed, [1-9][0-9]* failed' "$gate" || true)
+  [[ -f $gate && -r $gate ]] || fail "no log at $gate"
+  faults=$(grep -m 1 -E '^rt: FAILED|[0-9]+ passed, [1-9][0-9]* failed$|, [1-9][0-9]* faults$' "$gate" || true)
   [ -z "$faults" ] || fail "the gate failed: $faults"
+  proofs=$(grep '^rt: ok; ' "$gate" | tail -n 1 || true)
+  [ -n "$proofs" ] || fail 'the gate did not come to its end: no line says that rt ci passed'
+  said=$(sed -E '/^$|^(real|user|sys)[[:space:]]/d' "$gate" | tail -n 1)
+  [[ $said =~ ^[0-9]+\ promises,\ 0\ faults$ ]] || fail "the gate did not come to its end: its last line is '$said'"
+  of=$(grep -E '^commit .*, program [0-9a-f]{64}$' "$gate" | tail -n 1 || true)
+  [ "$of" = "$state" ] || fail "the gate was of '${of:-nothing that it names}', and this is $state"
 fi
 
-commit=$(git -C "$top" rev-parse HEAD)
 date=$(git -C "$top" show -s --format=%ct HEAD)
 version=0~$(date -u -d "@$date" +%Y%m%d).${commit:0:8}
 machine=$(uname -m)
@@ -39,16 +56,15 @@ doc=$stage/usr/share/doc/$name
 
 # What was built from what, by which toolchain, and what the gate said; only what is at hand is claimed.
 write_proved() {
-  local state='' logic='not known: no log of the gate was given' said='none was given'
-  [ -z "$(git -C "$top" status --porcelain -- crates crates.txt HANDLES)" ] || state=' with changes that are not committed'
+  local unknown='not known: no log of the gate was given' logic
+  logic=$unknown
   if [ -n "$gate" ]; then
-    # What measured the gate may have printed its times behind that.
-    said=$(grep -E '^[0-9]+ passed, 0 failed$' "$gate" | tail -n 1 || true)
-    logic=$(sed -n 's/.*logic=proved .*sum=\([0-9a-f]*\).*/\1/p' "$gate" | tail -n 1)
+    logic=$(sed -n 's/.*logic=proved .*sum=\([0-9a-f]*\).*/\1/p' "$gate" | sort -u)
   fi
-  echo "commit $commit$state"
-  echo "logic ${logic:-not named in the log of the gate}"
-  echo "gate ${said:-has no last line in its log}"
+  echo "commit ${commit/with changes/with changes that are not committed}"
+  echo "logic ${logic:-not named in the log of the gate, for which all proofs were kept}"
+  echo "proofs ${proofs:-$unknown}"
+  echo "gate ${said:-$unknown}"
   echo "sha256 of the files beside this one:"
   (cd "$stage/usr" && find . -type f ! -name PROVED -printf '%P\n' | LC_ALL=C sort | xargs -d '\n' sha256sum)
 }

@@ -1,16 +1,20 @@
 #!/usr/bin/env bash
-# Tests what stands around the program: tools/, release/ and batch/. Usage: tests/tools.sh [SECTION...], by default all sections.
-# What a section needs beside Python's standard library is taken from the machine's Python, or installed into a virtual environment
-# in $TOOLS_ENVIRONMENT (by default in the user's cache); where neither can be done the section is skipped, which is said.
+# Tests what stands around the program: tools/, release/ and batch/. Usage: tests/tools.sh [--install] [SECTION...], by default all of
+# timeline, pictures, messages, release and batch.
+# What a section needs beside Python's standard library is taken from the machine. With --install it is installed else: by apt-get where
+# root asks for it on a Debian, or by pip into a virtual environment in $TOOLS_ENVIRONMENT (by default in the user's cache). Where it is
+# not to be had the section is skipped, which is said. Without --install nothing is installed.
 # PROGRAM is the proved program, by default the one that the gate left; without one, a section that needs it is skipped.
 set -uo pipefail
 top=$(cd "$(dirname "$0")/.." && pwd)
 program=$(readlink -f "${PROGRAM:-$top/crates/cyber/out/cyber}")
-environment=${TOOLS_ENVIRONMENT:-${XDG_CACHE_HOME:-$HOME/.cache}/zektrob-tools}
+environment=${TOOLS_ENVIRONMENT:-${XDG_CACHE_HOME:-${HOME:-/tmp}/.cache}/zektrob-tools}
 work=$(mktemp -d)
 trap 'rm -rf "$work"' EXIT
 passed=0
 failed=0
+install=no
+patience=60 # seconds
 
 # Counts one comparison, and tells of one that failed.
 count() { # whether it is well: 0, and what was compared
@@ -27,16 +31,43 @@ skip() { # its name, and what is missing
   echo "skipped: $1: $2"
 }
 
-# Finds a Python that has some modules, and puts its name into `python`; the virtual environment is asked last.
-find_python() { # the modules, with commas between them, and the packages that have them
-  local it
-  for it in python3 /usr/bin/python3 "$environment/bin/python"; do
-    python=$it
-    "$it" -c "import $1" 2>/dev/null && return
-  done
+# Runs a command that uses the network. All such commands together are not waited for longer than `patience` says.
+patiently() { # the command
+  local begun=$SECONDS status=0
+  [ "$patience" -gt 0 ] || return 1
+  timeout "$patience" "$@" || status=$?
+  patience=$((patience - SECONDS + begun))
+  return "$status"
+}
+
+# Installs packages of Debian: they are downloaded first, and then nothing cuts their installation off.
+install_packages() { # their names
+  local get=(apt-get -qq -y -o Acquire::Retries=0 -o Acquire::http::Timeout=10 -o DPkg::Lock::Timeout=20 --no-install-recommends)
+  [ "$install" = yes ] && [ "$(id -u)" -eq 0 ] && command -v apt-get >/dev/null || return 1
+  {
+    patiently "${get[@]}" --download-only install "$@" ||
+      { patiently "${get[@]}" update && patiently "${get[@]}" --download-only install "$@"; }
+  } && DEBIAN_FRONTEND=noninteractive "${get[@]}" --no-download install "$@"
+} </dev/null >/dev/null 2>&1
+
+# Installs packages of pip into the virtual environment.
+install_modules() { # their names
+  [ "$install" = yes ] || return 1
   [ -x "$environment/bin/python" ] || python3 -m venv "$environment" || return 1
-  # shellcheck disable=SC2086
-  "$environment/bin/pip" install --quiet --retries 0 --timeout 20 $2 >/dev/null 2>&1 && "$python" -c "import $1" 2>/dev/null
+  patiently "$environment/bin/pip" install --quiet --retries 0 --timeout 20 "$@"
+} </dev/null >/dev/null 2>&1
+
+# Puts the name of a Python that has a module into `python`.
+has_module() { # the module
+  for python in python3 /usr/bin/python3 "$environment/bin/python"; do
+    "$python" -c "import $1" 2>/dev/null && return
+  done
+  return 1
+}
+
+# Finds a Python that has a module, or installs the module.
+find_python() { # the module, the package of Debian and that of pip which have it
+  has_module "$1" || { install_packages "$2" && has_module "$1"; } || { install_modules "$3" && has_module "$1"; }
 }
 
 # Runs a command in the test's folder, and compares its status.
@@ -94,29 +125,43 @@ timeline() {
   replay_drive
   try 0 python3 "$line" out.trace --record out.rec -o run.json
   says err '.*of margin, frames; some flows are left out.*'
-  begin 'what is no trace, or another record, is refused'
+  begin 'what is no trace, or another record, is refused in one line'
   replay_drive
   echo x >text
-  try 1 python3 "$line" text -o run.json
-  says err 'timeline: text: line 1: not a trace'
-  try 1 python3 "$line" out.trace --record "$top/examples/drive/drive.rec" -o run.json
-  says err '.*: not the record of this trace'
+  fails_in_one_line 1 'timeline: text: line 1: not a trace' python3 "$line" text -o run.json
+  fails_in_one_line 1 'timeline: .*drive.rec: not the record of this trace' \
+    python3 "$line" out.trace --record "$top/examples/drive/drive.rec" -o run.json
+  fails_in_one_line 1 'timeline: text: not a record' python3 "$line" out.trace --record text -o run.json
   sed '5s/call/cull/' out.trace >bad.trace
-  try 1 python3 "$line" bad.trace -o run.json
-  says err 'timeline: bad.trace: line 5: .*'
-  begin 'a timeline of a hundred thousand calls takes less than 200 MB'
-  python3 "$top/tests/tools/long_run.py" 100000 long
+  fails_in_one_line 1 'timeline: bad.trace: line 5: .*' python3 "$line" bad.trace -o run.json
+  head -n 1000 out.trace >bad.trace
+  fails_in_one_line 1 'timeline: bad.trace: line 1000: a component without an end' python3 "$line" bad.trace -o run.json
+  head -n -5 out.trace >bad.trace
+  fails_in_one_line 1 'timeline: out.rec: not the record of this trace' python3 "$line" bad.trace --record out.rec -o run.json
+  sed '5s/1@/2@/' out.trace >bad.trace
+  fails_in_one_line 1 'timeline: bad.trace: line 1005: .*' python3 "$line" bad.trace -o run.json
+  sed '1004s/1000 1000@/1001 1000@/' out.trace >bad.trace
+  fails_in_one_line 1 "timeline: bad.trace: component smooth: a call on a message that /wheel/speed doesn't have" \
+    python3 "$line" bad.trace --record out.rec --wiring drive.check -o run.json
+  fails_in_one_line 1 'timeline: text: no component; .*' python3 "$line" out.trace --record out.rec --wiring text -o run.json
+  fails_in_one_line 1 'timeline: .*No such file.*' python3 "$line" none -o run.json
+  try 0 python3 "$line" --help
+  python3 "$top/bench/made.py" 20 made
+  python3 "$top/tests/replay.py" out.rec out.trace line --record made.record --dag made.dag
+  try 0 python3 "$top/tests/tools/damaged.py" 30 out.trace python3 "$line" FILE --record out.rec -o run.json
+  try 0 python3 "$top/tests/tools/damaged.py" 30 out.rec python3 "$line" out.trace --record FILE -o run.json
+  begin 'a timeline of forty thousand calls takes less than 100 MB'
+  python3 "$top/tests/tools/long_run.py" 40000 long
   try 0 python3 "$top/tests/tools/measure.py" usage python3 "$line" long.trace --record long.rec -o long.json
-  [ "$(sed -n 's/^memory //p' usage)" -lt 200000000 ]
+  [ "$(sed -n 's/^memory //p' usage)" -lt 100000000 ]
   count $? "$name: $(cat usage)"
   try 0 python3 "$check" long.json long.trace /in /out
-  pictures
 }
 
 pictures() {
   begin 'a picture of a drive is the one of docs/pictures'
-  if ! find_python matplotlib matplotlib; then
-    skip 'pictures of timelines' 'no matplotlib'
+  if ! find_python matplotlib python3-matplotlib matplotlib; then
+    skip pictures 'no matplotlib'
     return
   fi
   replay_drive
@@ -133,8 +178,9 @@ pictures() {
 
 messages() {
   local tool="$top/tools/messages.py"
-  if ! find_python google.protobuf protobuf; then
-    skip messages 'no Protocol Buffers package'
+  tells_faults "$tool"
+  if ! find_python google.protobuf python3-protobuf protobuf; then
+    skip 'messages that are described' 'no Protocol Buffers package'
     return
   fi
   begin 'messages are decoded by the descriptors of their channels'
@@ -177,10 +223,35 @@ compares_records() { # the tool
   replay_drive
   try 1 "$python" "$1" --diff out.rec "$top/examples/drive/drive.rec" --channel /margin
   says out '/margin 1: only in out.rec, which has 965 in place of 0'
-  begin 'what is no record is told'
-  try 2 "$python" "$1" "$top/README.md"
-  says err 'messages: not a record'
-  try 2 "$python" "$1" none
+}
+
+# What needs no description needs no package, and faults are told in one line.
+tells_faults() { # the tool
+  begin 'messages without descriptions are printed, and faults are told in one line'
+  try 0 python3 "$1" "$top/examples/pass/one.rec"
+  says out '/in 1 100 7'
+  try 0 python3 "$1" --diff "$top/examples/pass/two.rec" "$top/examples/pass/two.rec"
+  says out 'same: 2 messages on 1 channels'
+  try 1 python3 "$1" --diff "$top/examples/pass/one.rec" "$top/examples/pass/two.rec"
+  says out '/in 2: only in .*/two.rec, which has 2 in place of 1'
+  fails_in_one_line 2 'messages: .*README.md: not a record' python3 "$1" "$top/README.md"
+  fails_in_one_line 2 "messages: .*No such file or directory: 'none'" python3 "$1" none
+  fails_in_one_line 2 'messages: .*one.rec: no channel /other' python3 "$1" "$top/examples/pass/one.rec" --channel /other
+  : >empty
+  fails_in_one_line 2 'messages: empty: not a record' python3 "$1" empty
+  head -c 2130 "$top/examples/pass/one.rec" >cut.rec
+  fails_in_one_line 2 'messages: cut.rec: at [0-9]+: no whole section' python3 "$1" cut.rec
+  try 0 python3 "$1" --help
+  # Whatever is cut or changed, there is a status of its own and at most a line.
+  try 0 python3 "$top/tests/tools/damaged.py" 30 "$top/examples/pass/two.rec" python3 "$1" FILE
+}
+
+# Looks that a command ends with a status, and prints one line, which fits, on standard error.
+fails_in_one_line() { # the status, the pattern and the command
+  try "$1" "${@:3}"
+  says err "$2"
+  [ "$(wc -l <err)" -eq 1 ]
+  count $? "$name: more than one line: $(head -c 300 err)"
 }
 
 # Puts the libraries that a program asks for into a root, so that it can be run there.
@@ -194,7 +265,7 @@ copy_libraries() { # the program, and the root
 install_package() { # the package
   mkdir -p empty/var/lib/dpkg/info empty/var/lib/dpkg/updates
   touch empty/var/lib/dpkg/status
-  if [ "$(id -u)" -eq 0 ] && ldd "$program" >/dev/null 2>&1; then
+  if [ "$(id -u)" -eq 0 ] && chroot / true 2>/dev/null && ldd "$program" >/dev/null 2>&1; then
     # The libraries are the only thing that the package asks for, and they are copied.
     try 0 dpkg --root="$PWD/empty" --force-depends --force-script-chrootless --log=/dev/null -i "$1"
     try 0 dpkg --root="$PWD/empty" --verify zektrob
@@ -213,9 +284,12 @@ release() {
   if [ ! -x "$program" ]; then
     skip release "no program at $program"
     return
+  elif ! git -C "$top" rev-parse HEAD >/dev/null 2>&1; then
+    skip release 'this is no clone with a commit'
+    return
   fi
   begin 'a release has the program, its page, its completions and what was proved'
-  printf 'x logic=proved functions=1 sum=0123456789abcdef native=nat\n1 passed, 0 failed\nreal 1m\n' >gate.log
+  write_log >gate.log
   try 0 "$top/release/make.sh" --out "$PWD/made" --gate gate.log "$program"
   mkdir tar
   tar -xzf made/*.tar.gz -C tar --strip-components 1
@@ -223,7 +297,8 @@ release() {
   count $? "$name: the program is another one"
   says tar/share/doc/zektrob/PROVED "commit $(git -C "$top" rev-parse HEAD)( with changes.*)?"
   says tar/share/doc/zektrob/PROVED 'logic 0123456789abcdef'
-  says tar/share/doc/zektrob/PROVED 'gate 1 passed, 0 failed'
+  says tar/share/doc/zektrob/PROVED 'proofs rt: ok; every proof was done in this run'
+  says tar/share/doc/zektrob/PROVED 'gate 1 promises, 0 faults'
   (cd tar && sed -n 's/^\([0-9a-f]\{64\}  \)/\1/p' share/doc/zektrob/PROVED | sha256sum -c --quiet) >sums 2>&1
   count $? "$name: $(head -n 3 sums)"
   [ "$(grep -c '^[0-9a-f]\{64\}  ' tar/share/doc/zektrob/PROVED)" -eq $(($(find tar -type f | wc -l) - 1)) ]
@@ -232,9 +307,7 @@ release() {
   diff -r made again >/dev/null
   count $? "$name: made again it is another one"
   try 1 "$top/release/make.sh" --out "$PWD/made" none
-  printf '24 passed, 15 failed\n9 passed, 0 failed\n' >failed.log
-  try 1 "$top/release/make.sh" --out "$PWD/made" --gate failed.log "$program"
-  says err 'release/make.sh: the gate failed: 24 passed, 15 failed'
+  refuses_logs
   reads_manual tar/share/man/man1/cyber.1.gz
   completes tar/share
   begin 'the tour of the examples runs where the package alone is installed'
@@ -250,6 +323,41 @@ release() {
     try 0 python3 "$top/tests/tools/tour.py" empty/examples/README.md empty "${call[@]}"
   fi
   says out '[0-9]+ lines typed'
+}
+
+# What a gate prints that passed.
+write_log() {
+  printf '%s\n' 'logic=proved functions=1 sum=0123456789abcdef native=nat' 'rt: x proved' 'rt: ok; every proof was done in this run' \
+    '9 passed, 0 failed'
+  "$top/release/gate.sh" "$program"
+  printf '1 promises, 0 faults\n\nreal\t1m\n'
+}
+
+# Looks that no release is made with the log of a gate that failed, that was stopped, or that was of something else.
+refuses_logs() {
+  sed 's/^9 passed, 0/24 passed, 15/' gate.log >bad.log
+  refuses_log 'the gate failed: 24 passed, 15 failed'
+  (echo 'rt: FAILED: x'; cat gate.log) >bad.log
+  refuses_log 'the gate failed: rt: FAILED: x'
+  sed '/^rt: ok/d' gate.log >bad.log
+  refuses_log 'the gate did not come to its end: no line says that rt ci passed'
+  sed '5,$d' gate.log >bad.log
+  refuses_log "the gate did not come to its end: its last line is '9 passed, 0 failed'"
+  : >bad.log
+  refuses_log 'the gate did not come to its end: no line says that rt ci passed'
+  sed 's/, program ....../, program 000000/' gate.log >bad.log
+  refuses_log "the gate was of 'commit .*, program 000000.*', and this is commit .*"
+  sed 's/^commit ....../commit 000000/' gate.log >bad.log
+  refuses_log "the gate was of 'commit 000000.*', and this is commit .*"
+  sed '/^commit/d' gate.log >bad.log
+  refuses_log "the gate was of 'nothing that it names', and this is commit .*"
+}
+
+refuses_log() { # why
+  try 1 "$top/release/make.sh" --out "$PWD/bad" --gate bad.log "$program"
+  says err "release/make.sh: $1"
+  [ ! -e bad ]
+  count $? "$name: something was made"
 }
 
 reads_manual() { # the page
@@ -285,16 +393,17 @@ completes() { # the folder with the completions
   fi
 }
 
-# Finds a Snakemake of the release that the profiles are for, and puts its name into `snakemake`.
-find_snakemake() {
-  local it
-  for it in snakemake "$environment/bin/snakemake"; do
-    snakemake=$it
-    [[ $("$it" --version 2>/dev/null) == 7.* ]] && return
+# Puts the name of a Snakemake of the release that the profiles are for into `snakemake`.
+has_snakemake() {
+  for snakemake in snakemake /usr/bin/snakemake "$environment/bin/snakemake"; do
+    [[ $("$snakemake" --version 2>/dev/null) == 7.* ]] && return
   done
-  [ -x "$environment/bin/python" ] || python3 -m venv "$environment" || return 1
-  "$environment/bin/pip" install --quiet --retries 0 --timeout 20 'snakemake<8' 'pulp<2.8' >/dev/null 2>&1 &&
-    [[ $("$snakemake" --version 2>/dev/null) == 7.* ]]
+  return 1
+}
+
+# Finds a Snakemake of that release, or installs it.
+find_snakemake() {
+  has_snakemake || { install_packages snakemake && has_snakemake; } || { install_modules 'snakemake<8' 'pulp<2.8' && has_snakemake; }
 }
 
 # How many drives have a row.
@@ -302,16 +411,9 @@ rows() {
   find batch.out -name row.json 2>/dev/null | wc -l
 }
 
-# Begins a batch, and stops it at once when some drives are done, with all that it started.
-interrupt() { # how many drives, and the command
-  local process
-  setsid "${@:2}" >log 2>&1 &
-  process=$!
-  until [ "$(rows)" -ge "$1" ] || ! kill -0 "$process" 2>/dev/null; do
-    sleep 0.1
-  done
-  kill -KILL -- "-$process" 2>/dev/null
-  wait "$process" 2>/dev/null
+# When each row was written.
+times() {
+  find batch.out -name row.json -printf '%p %T@\n' | sort
 }
 
 # Looks that a batch of 200 drives, of which the 7th and the 11th are broken, is told as it is.
@@ -325,6 +427,7 @@ is_summed_up() {
 }
 
 batch() {
+  patience=600
   if [ ! -x "$program" ]; then
     skip batch "no program at $program"
     return
@@ -333,6 +436,7 @@ batch() {
     return
   fi
   local call=("$snakemake" -s "$top/batch/Snakefile" --profile "$top/batch/profiles/local")
+  refuses_tables
   plays_200_drives
   changes_drives
   plays_on_slurm
@@ -342,21 +446,21 @@ plays_200_drives() {
   local before after
   begin 'a batch of 200 drives is stopped in the middle and begun again'
   python3 "$top/tests/tools/drives.py" 200 .
-  interrupt 60 "${call[@]}" --config program="$program"
+  "$top/tests/tools/interrupt.sh" 60 "${call[@]}" --config program="$program"
   before=$(rows)
   [ "$before" -ge 60 ] && [ "$before" -lt 200 ]
   count $? "$name: it was stopped with $before drives done"
-  find batch.out -name row.json -printf '%p %T@\n' | sort >first
+  times >first
   try 0 "${call[@]}" --unlock --config program="$program"
   try 0 "${call[@]}" --config program="$program"
   is_summed_up
-  find batch.out -name row.json -printf '%p %T@\n' | sort >second
+  times >second
   after=$(comm -12 first second | wc -l)
   # Of the drives that were being played one may have had its row just then; these are played again.
   [ "$after" -ge $((before - $(nproc))) ]
   count $? "$name: of $before drives only $after were left as they were"
   try 0 "${call[@]}" --config program="$program"
-  find batch.out -name row.json -printf '%p %T@\n' | sort | cmp -s - second
+  times | cmp -s - second
   count $? "$name: a batch that was done has played drives again"
   batch_folder=$PWD
 }
@@ -372,34 +476,95 @@ changes_drives() {
   says batch.out/summary.csv 'd5,0,.*,verified,"message 1: /a at 10 0x0808, was /a at 10 0x080a","done: .*"'
   says batch.out/summary.csv 'd3,0,.*,verified,,"done: .*"'
   cp 4.rec 6.rec
-  find batch.out -name row.json -printf '%p %T@\n' | sort >first
+  times >first
   try 0 "${call[@]}" --config program="$program" table=few.csv good=good verify='info {out}'
-  find batch.out -name row.json -printf '%p %T@\n' | sort | comm -13 first - | cut -d ' ' -f 1 >changed
+  times | comm -13 first - | cut -d ' ' -f 1 >changed
   [ "$(cat changed)" = batch.out/d6/row.json ]
   count $? "$name: played again: $(cat changed)"
   sed -i 's,^d4.*,d4;4.rec;d.dag;;/a;;;;,; s/;/,/g' few.csv
-  find batch.out -name row.json -printf '%p %T@\n' | sort >first
+  times >first
   try 0 "${call[@]}" --config program="$program" table=few.csv
-  find batch.out -name row.json -printf '%p %T@\n' | sort | comm -13 first - | cut -d ' ' -f 1 >changed
+  times | comm -13 first - | cut -d ' ' -f 1 >changed
   [ "$(cat changed)" = batch.out/d4/row.json ]
   count $? "$name: with other words: $(cat changed)"
 }
 
+# A table that is wrong, a drive that it doesn't have and a missing program are told in one line.
+refuses_tables() {
+  local play="$top/batch/play.py"
+  begin 'what is wrong with a table is told'
+  python3 "$top/tests/tools/drives.py" 2 .
+  fails_in_one_line 1 'play.py: drives.csv: no drive d3' python3 "$play" --table drives.csv --drive d3 --program "$program" --out .
+  fails_in_one_line 1 "play.py: .*No such file or directory: '/none'" python3 "$play" --table drives.csv --drive d1 --program /none --out .
+  fails_in_one_line 1 "summary.py: .*No such file or directory: 'none'" python3 "$top/batch/summary.py" none .
+  printf '\xef\xbb\xbf' | cat - drives.csv >marked.csv
+  try 0 python3 "$play" --table marked.csv --drive d1 --program "$program" --out marked
+  sed '3s/d2/d1/' drives.csv >bad.csv
+  fails_in_one_line 1 "play.py: bad.csv: line 3: drive 'd1' has no name of its own.*" \
+    python3 "$play" --table bad.csv --drive d1 --program "$program" --out .
+  sed '3s/$/many/' drives.csv >bad.csv
+  fails_in_one_line 1 'play.py: bad.csv: line 3: drive d2 has .* threads that are no number' \
+    python3 "$play" --table bad.csv --drive d1 --program "$program" --out .
+  sed '1s/sched/shed/' drives.csv >bad.csv
+  try 1 "${call[@]}" --config program="$program" table=bad.csv
+  says err "bad.csv: no such columns: 'shed'"
+  ! grep -q Traceback err
+  count $? "$name: a traceback: $(head -c 300 err)"
+}
+
+# Jobs of Slurm may be forgotten, and the controller may not answer for a while.
+tells_states() {
+  local tells="$top/batch/profiles/slurm/status.py"
+  begin 'the state of a job of Slurm is told'
+  mkdir bin
+  # shellcheck disable=SC2016
+  printf '#!/bin/sh\ncat said; cat fault >&2; exit "$(cat status)"\n' >bin/scontrol
+  printf '#!/bin/sh\nexit 1\n' >bin/sacct
+  chmod +x bin/*
+  while IFS='|' read -r said fault code want; do
+    echo "$said" >said
+    echo "$fault" >fault
+    echo "$code" >status
+    PATH=$PWD/bin:$PATH try 0 python3 "$tells" 7
+    says out "$want"
+  done <<STATES
+JobId=7 JobState=COMPLETED X=1||0|success
+JobId=7 JobState=PENDING X=1||0|running
+JobId=7 JobState=TIMEOUT X=1||0|failed
+|slurm_load_jobs error: Invalid job id specified|1|failed
+|Unable to contact slurm controller|1|running
+STATES
+}
+
 plays_on_slurm() {
-  if [ "$(id -u)" -ne 0 ] || ! PATH=$PATH:/usr/sbin command -v slurmctld slurmd munged >/dev/null; then
+  tells_states
+  has_slurm || install_packages slurm-wlm munge
+  if [ "$(id -u)" -ne 0 ] || ! has_slurm; then
     skip 'batches on Slurm' 'no slurmctld, slurmd and munged, or not root'
     return
   fi
-  begin 'a batch of 200 drives is played on a Slurm of one node'
+  begin 'a batch of 200 drives is stopped in the middle and begun again on a Slurm of one node'
   python3 "$top/tests/tools/drives.py" 200 .
-  try 0 "$top/tests/tools/slurm.sh" "$snakemake" -s "$top/batch/Snakefile" --profile "$top/batch/profiles/slurm" \
-    --config program="$program"
+  call=("$snakemake" -s "$top/batch/Snakefile" --profile "$top/batch/profiles/slurm")
+  # shellcheck disable=SC2016
+  try 0 "$top/tests/tools/slurm.sh" bash -c '"$1" 60 "${@:2}"; find batch.out -name row.json >before; "${@:2}" --unlock && "${@:2}"' - \
+    "$top/tests/tools/interrupt.sh" "${call[@]}" --config program="$program"
   is_summed_up
-  [ "$(find . -maxdepth 1 -name 'slurm-*.log' | wc -l)" -eq 50 ]
-  count $? "$name: not fifty jobs of four drives: $(ls slurm-*.log)"
+  [ "$(wc -l <before)" -ge 60 ] && [ "$(wc -l <before)" -lt 200 ]
+  count $? "$name: it was stopped with $(wc -l <before) drives done"
+  [ "$(find . -maxdepth 1 -name 'slurm-*.log' | wc -l)" -ge 50 ]
+  count $? "$name: not a job for each four drives: $(ls slurm-*.log)"
 }
 
-[ $# -gt 0 ] || set -- timeline messages release batch
+has_slurm() {
+  PATH=$PATH:/usr/sbin command -v slurmctld slurmd munged >/dev/null
+}
+
+if [ "${1:-}" = --install ]; then
+  install=yes
+  shift
+fi
+[ $# -gt 0 ] || set -- timeline pictures messages release batch
 for section in "$@"; do
   "$section"
 done

@@ -1,10 +1,14 @@
 """Uncompressed Cyber RT records, read and written as docs/FORMATS.md says; nothing here is taken from the program.
 
-The tools and the tests share it. Names of channels and contents are bytes, times are in nanoseconds.
+The tools and the tests share it. Names of channels and contents are bytes, times are in nanoseconds. A ValueError tells of bytes that are
+no record.
 """
+import mmap
 from collections import Counter
+from contextlib import contextmanager
 
 HEADER_END = 2064
+CHUNK, INDEX, CHANNEL = 2, 3, 4  # types of sections
 LONGEST_BODY = 200_000_000
 LONGEST_TIME = 20_000_000_000
 
@@ -73,9 +77,26 @@ def record(messages, forms=None):
     return header.ljust(HEADER_END, b"\0") + b"".join(sections) + index
 
 
+@contextmanager
+def opened(path):
+    """The bytes of a file, while it is open. They are mapped, so that no more of it is in memory than is looked at."""
+    with open(path, "rb") as file:
+        try:
+            data = mmap.mmap(file.fileno(), 0, access=mmap.ACCESS_READ)
+        except (OSError, ValueError):  # a pipe, or an empty file
+            data = None
+        if data is None:
+            yield file.read()
+        else:
+            with data:
+                yield data
+
+
 def read_varint(data, at):
     n = 0
     for k in range(10):
+        if at + k >= len(data):
+            raise ValueError("a number that is cut")
         byte = data[at + k]
         n += (byte % 128) << (7 * k)
         if byte < 128:
@@ -84,7 +105,7 @@ def read_varint(data, at):
 
 
 def fields_of(data):
-    """The fields of a message, number and value: an integer where it is a varint, else bytes."""
+    """The fields of a message, number and value: an integer or bytes. Those of a fixed size, of which records have none, are left out."""
     at, found = 0, []
     while at < len(data):
         tag, at = read_varint(data, at)
@@ -97,8 +118,14 @@ def fields_of(data):
             value, at = data[at : at + size], at + size
         if tag < 8 or tag >= 2**32 or tag % 8 in (3, 4, 6, 7) or at > len(data):
             raise ValueError("no sequence of fields")
-        found.append((tag // 8, value))
+        if tag % 8 in (0, 2):
+            found.append((tag // 8, value))
     return found
+
+
+def last_of(fields):
+    """The last value of each field, by its number and its type."""
+    return {(number, type(value)): value for number, value in fields}
 
 
 def header_of(data):
@@ -106,27 +133,30 @@ def header_of(data):
     size = int.from_bytes(data[8:16], "little")
     if len(data) < HEADER_END or data[:4] != bytes(4) or size > HEADER_END - 16:
         raise ValueError("not a record")
-    header = dict(fields_of(data[16 : 16 + size]))
+    header = {number: value for number, value in fields_of(data[16 : 16 + size]) if isinstance(value, int)}
     if header.get(3, 0) != 0:
         raise ValueError(f"compressed chunks of kind {header[3]}")
     return header
 
 
 def sections_of(data):
-    """The sections behind the header, up to an index, one by one: their types and bodies."""
+    """The sections behind the header, up to an index, one by one: their types, and where their bodies begin and end."""
     at = HEADER_END
     while at < len(data):
         kind, size = int.from_bytes(data[at : at + 4], "little"), int.from_bytes(data[at + 8 : at + 16], "little")
-        if kind == 3:
-            break
-        yield kind, data[at + 16 : at + 16 + size]
-        at += 16 + size
+        start, end = at + 16, at + 16 + size
+        if kind == INDEX:
+            return
+        if start > len(data) or end > len(data) or not 0 < kind <= CHANNEL:
+            raise ValueError(f"at {at}: no whole section")
+        yield kind, start, end
+        at = end
 
 
 def message_of(data):
     """A message of a chunk: its channel, its time and its content."""
-    fields = dict(fields_of(data))
-    return fields.get(1, b""), fields.get(2, 0), fields.get(3, b"")
+    fields = last_of(fields_of(data))
+    return fields.get((1, bytes), b""), fields.get((2, int), 0), fields.get((3, bytes), b"")
 
 
 # Nine bytes of a varint, the first eight of which say that more follow, are the times of our day in nanoseconds.
@@ -150,18 +180,24 @@ def plain_message(data, at, end):
 
 def each_message(data):
     """The messages of a record one by one, each a channel, a time and a content."""
-    for kind, body in sections_of(data):
-        at = 0
-        while kind == 2 and at < len(body):
-            if body[at] != 10:
-                raise ValueError("a chunk with something else than messages")
-            size, start = body[at + 1], at + 2
-            if size > 127:
-                size, start = read_varint(body, at + 1)
-            at = start + size
-            if at > len(body):
-                raise ValueError("a chunk that is cut")
-            yield size > 12 and plain_message(body, start, at) or message_of(body[start:at])
+    for kind, begin, end in sections_of(data):
+        if kind == CHUNK:
+            yield from messages_in(data[begin:end])
+
+
+def messages_in(body):
+    """The messages of a chunk's body."""
+    at = 0
+    while at < len(body):
+        if body[at] != 10 or at + 1 == len(body):
+            raise ValueError("a chunk with something else than messages")
+        size, start = body[at + 1], at + 2
+        if size > 127:
+            size, start = read_varint(body, at + 1)
+        at = start + size
+        if at > len(body):
+            raise ValueError("a chunk that is cut")
+        yield size > 12 and plain_message(body, start, at) or message_of(body[start:at])
 
 
 def messages_of(data):
@@ -172,10 +208,10 @@ def messages_of(data):
 def forms_of(data):
     """The type and description of each channel that has a section, by the first of its sections."""
     found = {}
-    for kind, body in sections_of(data):
-        if kind == 4:
-            fields = dict(fields_of(body))
-            found.setdefault(fields.get(1, b""), (fields.get(2, b""), fields.get(3, b"")))
+    for kind, begin, end in sections_of(data):
+        if kind == CHANNEL:
+            fields = last_of(fields_of(data[begin:end]))
+            found.setdefault(fields.get((1, bytes), b""), (fields.get((2, bytes), b""), fields.get((3, bytes), b"")))
     return found
 
 
@@ -183,7 +219,7 @@ def whole_of(content):
     """The number that a content `{ 1 value: sint64 }` holds, or None."""
     try:
         numbers = [value for field, value in fields_of(content) if field == 1 and isinstance(value, int)]
-    except (ValueError, IndexError):
+    except ValueError:
         return None
     if not numbers:
         return None

@@ -2,7 +2,7 @@
 import sys
 from array import array
 
-from record import each_message, whole_of
+from record import each_message, header_of, opened, whole_of
 from trace import read_trace
 from wiring import Deduction, read_wiring
 
@@ -61,35 +61,56 @@ class Run:
 def times_of(trace, record):
     """The times of the messages of a record, by channel, and the values of the first ones of each channel.
 
-    A ValueError tells where it is not the record of this trace.
+    A ValueError tells where it is no record, or not that of this trace.
     """
-    with open(record, "rb") as file:
-        data = file.read()
     columns, values = [array("Q") for _ in trace.channels], [[] for _ in trace.channels]
-    tape, names = iter(trace.tape_channels), [it.encode("utf-8", "surrogateescape") for it in trace.channels]
-    for channel, time, content in each_message(data):
-        number = next(tape, None)
-        if number is None or names[number] != channel:
-            raise ValueError(f"{record}: not the record of this trace")
-        columns[number].append(time)
-        if len(columns[number]) <= COMPARED:
-            values[number].append(whole_of(content))
+    names = [it.encode("utf-8", "surrogateescape") for it in trace.channels]
+    tape = zip(trace.tape_channels, trace.tape_sequences)
+    with opened(record) as data:
+        header_of(data)
+        for channel, time, content in each_message(data):
+            number, sequence = next(tape, (None, 0))
+            if number is None or names[number] != channel:
+                raise ValueError("not the record of this trace")
+            columns[number].append(time)
+            if len(columns[number]) != sequence:
+                raise ValueError("not the record of this trace, whose tape has other numbers")
+            if sequence <= COMPARED:
+                values[number].append(whole_of(content))
     if next(tape, None) is not None:
-        raise ValueError(f"{record}: fewer messages than the trace's tape has")
+        raise ValueError("fewer messages than the trace's tape has")
     return dict(zip(trace.channels, columns)), dict(zip(trace.channels, values))
 
 
+def check_tuples(run):
+    """Raises a ValueError where a call is on messages that their channels don't have."""
+    for it in run.trace.components:
+        for role, channel in enumerate(run.readers(it)[: it.width]):
+            if channel is None:
+                continue
+            numbers, last = it.sequences[role :: it.width], len(run.times[channel])
+            before = numbers[0] - it.positions[0]  # how many messages came before the first tuple
+            if max(numbers) > last or role == 0 and not 0 <= before <= last - it.positions[-1]:
+                raise ValueError(f"component {it.name}: a call on a message that {channel} doesn't have")
+
+
 def read_run(trace, record=None, wiring=None):
-    """The run of files; what can't be known of its wiring is told on standard error."""
-    trace = read_trace(trace)
-    times, values = times_of(trace, record) if record else ({}, {})
-    if wiring or not record:
-        return Run(trace, times, read_wiring(wiring) if wiring else {})
-    found, doubts = Deduction(trace, times, values).wiring()
+    """The run of files; what can't be known of its wiring is told on standard error. A ValueError tells of files that make no run."""
+    path, trace = trace, read_trace(trace)
+    try:
+        times, values = times_of(trace, record) if record else ({}, {})
+    except ValueError as error:
+        raise ValueError(f"{record}: {error}") from None
+    found, doubts = (read_wiring(wiring), []) if wiring else Deduction(trace, times, values).wiring() if record else ({}, [])
+    run = Run(trace, times, found)
+    try:
+        check_tuples(run)
+    except ValueError as error:
+        raise ValueError(f"{path}: {error}") from None
     if doubts:
         print(
             f"timeline: more than one channel fits, or none, of {', '.join(doubts)}; some flows are left out."
             " With --wiring and what `cyber check` prints for the DAG file there are all.",
             file=sys.stderr,
         )
-    return Run(trace, times, found)
+    return run

@@ -1,7 +1,8 @@
 #!/usr/bin/env python3
 """Makes a timeline of a trace: for Perfetto or Chrome's tracing page, or a picture.
 
-    timeline.py TRACE [--record OUT] [--wiring FILE] [--begin S] [--end S] -o run.json | run.json.gz | run.png | run.svg
+    timeline.py TRACE [--record OUT] [--wiring FILE] -o run.json | run.json.gz
+    timeline.py TRACE [--record OUT] [--wiring FILE] [--begin S] [--end S] -o run.png | run.svg
 
 OUT is the record that was written with the trace; it has the times of the messages. FILE is what `cyber check` prints for the
 DAG file; it has the channels of the components. Without it they are deduced, as far as only one channel fits.
@@ -236,23 +237,29 @@ def main():
     reader.add_argument("trace")
     reader.add_argument("--record", help="the record that was written with the trace")
     reader.add_argument("--wiring", help="what `cyber check` prints for the DAG file")
-    reader.add_argument("--begin", type=float, default=0, help="where a picture begins, in seconds from the first message")
-    reader.add_argument("--end", type=float, help="where a picture ends")
+    reader.add_argument("--begin", type=float, help="where a picture begins, in seconds from the first message")
+    reader.add_argument("--end", type=float, help="where a picture ends, in seconds from the first message")
     reader.add_argument("-o", dest="out", required=True, help="a file that ends with .json, .json.gz, .png or .svg")
     words = reader.parse_args()
     if not words.out.endswith((".json", ".json.gz", ".png", ".svg")):
         reader.error("-o has to end with .json, .json.gz, .png or .svg")
+    is_picture = words.out.endswith((".png", ".svg"))
+    if not is_picture and (words.begin, words.end) != (None, None):
+        reader.error("--begin and --end are for pictures")
     try:
+        if is_picture:
+            from picture import draw  # it needs matplotlib, which a timeline doesn't
         run = read_run(words.trace, words.record, words.wiring)
-        if words.out.endswith((".png", ".svg")):
-            from picture import draw
-
-            draw(run, words.out, words.begin, words.end)
+        if is_picture:
+            draw(run, words.out, words.begin or 0, words.end)
         else:
             opened = gzip.open(words.out, "wt", 1, "utf-8") if words.out.endswith(".gz") else open(words.out, "w", encoding="utf-8")
             with opened as file:
                 Timeline(run, file).write()
-    except (OSError, ValueError, ImportError) as error:
+    except ImportError as error:
+        print(f"timeline: {error}; a picture is made by matplotlib (python3-matplotlib of Debian)", file=sys.stderr)
+        return 1
+    except (OSError, ValueError) as error:
         print(f"timeline: {error}", file=sys.stderr)
         return 1
     return 0

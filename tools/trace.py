@@ -3,7 +3,9 @@ import re
 from array import array
 from dataclasses import dataclass, field
 from itertools import chain, islice
+from operator import lt
 
+HEAD = b"cyber-trace 1\n"
 QUOTED = re.compile(rb'"((?:[^"\\]|\\.)*)"')
 ESCAPE = re.compile(rb"\\([0-7]{3}|.)", re.DOTALL)
 MARKS_TO_SPACES = bytes.maketrans(b"/@=", b"   ")
@@ -103,7 +105,10 @@ def read_calls(component, lines):
     width = step - 6
     if len(words) != step * len(lines) or not 1 <= width <= 4 or component.width not in (0, width) or set(words[::step]) != {b"call"}:
         return False
-    columns = [list(map(int, words[k::step])) for k in range(1, step)]
+    try:
+        columns = [list(map(int, words[k::step])) for k in range(1, step)]
+    except ValueError:
+        return False  # line by line it is found which one it is
     component.width = width
     component.positions.extend(columns[0])
     component.tails.extend(columns[1])
@@ -115,6 +120,15 @@ def read_calls(component, lines):
     return True
 
 
+def check_calls(component):
+    """Raises a ValueError where calls go backwards, or messages aren't numbered from 1."""
+    outputs = array("I", filter(None, component.outputs))
+    if not all(map(lt, chain([0], component.positions), component.positions)):
+        raise ValueError("calls that go backwards")
+    if min(component.sequences, default=1) < 1 or outputs != array("I", range(1, len(outputs) + 1)):
+        raise ValueError("messages that aren't numbered from 1")
+
+
 def read_component(component, line):
     """Takes a line of a component that is none of a call."""
     words = line.split()
@@ -122,6 +136,7 @@ def read_component(component, line):
         component.roles = b"" if words[1] == b"-" else words[1]
     elif words[0] == b"end" and len(words) == 4 and words[2] == b"next":
         component.state, component.following = words[1].decode(), int(words[3])
+        check_calls(component)
     else:
         raise ValueError("a line of no known form")
 
@@ -135,7 +150,7 @@ class Reader:
     def read_head(self, file):
         """The first two lines."""
         self.line = 1
-        if file.readline() != b"cyber-trace 1\n":
+        if file.readline(len(HEAD)) != HEAD:
             raise ValueError("not a trace")
         self.line = 2
         words = file.readline().split()
@@ -150,12 +165,22 @@ class Reader:
         for line in rest:
             self.line += 1
             if line.startswith(b'tape "'):
+                self.check_end()
                 self.read_tape(line)
                 self.read_tapes(rest)
             elif line.startswith(b'component "'):
+                self.check_end()
                 components.append(Component(names_in(line)[0]))
             else:
                 read_component(components[-1], line)
+        self.check_end()
+        if len(self.trace.tape_sequences) < self.trace.played:
+            raise ValueError("the trace is cut")
+
+    def check_end(self):
+        """Raises a ValueError where the last component has no end."""
+        if self.trace.components and not self.trace.components[-1].state:
+            raise ValueError("a component without an end")
 
     def other_lines(self, file):
         """The lines that are none of a call; calls are read on the way."""
@@ -207,6 +232,8 @@ def read_trace(path):
         try:
             reader.read_head(file)
             reader.read_rest(file)
-        except (ValueError, IndexError, OverflowError) as error:
+        except IndexError:
+            raise ValueError(f"{path}: line {reader.line}: a line of no known form") from None
+        except (ValueError, OverflowError) as error:
             raise ValueError(f"{path}: line {reader.line}: {error}") from None
     return reader.trace

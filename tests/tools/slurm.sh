@@ -7,9 +7,16 @@ PATH=$PATH:/usr/sbin
 folder=$(mktemp -d)
 started=()
 
+# Stops the jobs that are left, which would go on without the daemons, and then these.
 # shellcheck disable=SC2317
 stop() {
-  local each
+  local each end=$((SECONDS + 20))
+  if [ "${#started[@]}" -eq 3 ]; then
+    timeout 10 scancel --full --user="$(id -un)" 2>/dev/null || true
+    while [ "$SECONDS" -lt "$end" ] && timeout 10 squeue --noheader 2>/dev/null | grep -q .; do
+      sleep 0.5
+    done
+  fi
   for each in "${started[@]}"; do
     kill "$each" 2>/dev/null || true
   done

@@ -11,15 +11,32 @@ RUNNING = {"PENDING", "CONFIGURING", "RUNNING", "SUSPENDED", "COMPLETING", "REQU
 
 
 def ask(command):
-    done = subprocess.run(command, capture_output=True, text=True, check=False)
-    return done.stdout if done.returncode == 0 else ""
+    """What a command of Slurm prints, and what it says of a fault."""
+    try:
+        done = subprocess.run(command, capture_output=True, text=True, timeout=60, check=False)
+    except (OSError, subprocess.TimeoutExpired) as error:
+        return "", str(error)
+    return (done.stdout, "") if done.returncode == 0 else ("", done.stderr)
+
+
+def state_of(job):
+    """The state of a job, or None where nobody can tell for now."""
+    text, fault = ask(["scontrol", "-o", "show", "job", job])
+    if match := re.search(r"JobState=(\w+)", text):
+        return match[1]
+    if fault and "Invalid job id" not in fault:
+        return None
+    text, _ = ask(["sacct", "-X", "-n", "-P", "-o", "State", "-j", job])
+    return (text.split() or ["UNKNOWN"])[0]
 
 
 def main():
-    job = sys.argv[1]
-    match = re.search(r"JobState=(\w+)", ask(["scontrol", "-o", "show", "job", job]))
-    state = match[1] if match else (ask(["sacct", "-X", "-n", "-P", "-o", "State", "-j", job]).split() or ["UNKNOWN"])[0]
-    print("running" if state in RUNNING else "success" if state == "COMPLETED" else "failed")
+    if len(sys.argv) != 2:
+        sys.exit("status.py: the number of a job is asked for")
+    state = state_of(sys.argv[1])
+    # A controller that doesn't answer is asked again: were the job told as failed, it would be handed in a second time while it runs.
+    print("running" if state is None or state in RUNNING else "success" if state == "COMPLETED" else "failed")
 
 
-main()
+if __name__ == "__main__":
+    main()
