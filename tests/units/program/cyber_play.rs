@@ -6,3 +6,4 @@ mod pinned;
 mod plays;
 mod ran;
 mod samples;
+mod setups;
