@@ -739,5 +739,7 @@ tells_of_standard_output 'cannot be written' '</dev/null >&0'
 fails_without_standard_error 'is full' '2>/dev/full'
 fails_without_standard_error 'is closed' '2>&-'
 
+. "$top/tests/program/refused.sh"
+
 echo "$passed passed, $failed failed"
 [ "$failed" -eq 0 ]

@@ -1,6 +1,6 @@
 // Records byte by byte, and puts that fail in turn.
 use cy_store::{MemStore, Store};
-use cy_writer::{ChannelRef, Messages, RecordWriter, Stamp, WriteError, write_record};
+use cy_writer::{ChannelRef, Messages, RecordWriter, Stamp, WriteError, write_file, write_record};
 use std::alloc::Global;
 use std::process::Abort;
 use std::test::Fail;
@@ -218,6 +218,14 @@ fn stands(rt: &impl Abort, alloc: Global, put: u64, keep: usize, end: usize) -> 
     store.fail_put(put, keep)?;
     let result = write_three(alloc, &mut store);
     assert_eq!(rt; result, Err(WriteError::Failed), "{put} {keep}");
+    let mut whole = MemStore::new(alloc);
+    whole.fail_put(put, keep)?;
+    let result = write_zeros(alloc, &mut whole, &[0, 20_000_000_001, 40_000_000_002]);
+    assert_eq!(rt; result, Err(WriteError::Failed), "{put} {keep} by one call");
+    assert!(rt;
+        whole.file(NAME) == store.file(NAME),
+        "{put} {keep} by one call"
+    );
     let bytes = store.file(NAME).unwrap_or_default();
     let (header, sections) = bytes.split_at(bytes.len().min(HEADER_END));
     let is_open = header.starts_with(OPEN_HEADER);
@@ -261,5 +269,21 @@ fn fails_each_put_in_turn(rt: HostRuntime) -> Result<(), Fail> {
     let mut whole = MemStore::new(alloc);
     write_three(alloc, &mut whole)?;
     assert_eq!(rt; whole.file(NAME).map(|bytes| bytes.len()), Some(2415));
+    Ok(())
+}
+
+#[test]
+fn fails_each_call_of_a_file_in_one_piece(rt: HostRuntime) -> Result<(), Fail> {
+    let alloc = rt.alloc();
+    for (call, answer, want) in [
+        (1, Err(WriteError::Failed), None),
+        (2, Err(WriteError::Failed), Some(b"ab".as_slice())),
+        (3, Ok(()), Some(b"abcd".as_slice())),
+    ] {
+        let mut store = MemStore::new(alloc);
+        store.fail_at(call, 2)?;
+        assert_eq!(rt; write_file(&mut store, NAME, b"abcd"), answer, "{call}");
+        assert_eq!(rt; store.file(NAME), want, "{call}");
+    }
     Ok(())
 }

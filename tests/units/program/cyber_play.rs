@@ -2,6 +2,8 @@
 //! bytes are those of another runtime, and what stands where a call of the store fails.
 
 mod faults;
+mod pinned;
 mod plays;
 mod ran;
 mod samples;
+mod setups;

@@ -4,7 +4,7 @@ use cy_msg::{Items, Names, PlayList, Text, Token};
 use cy_reader::{Record, load};
 use cy_replay::{Played, write_record};
 use cy_store::MemStore;
-use cy_writer::RecordWriter;
+use cy_writer::{RecordWriter, WriteError};
 use std::test::Fail;
 
 /// The place behind the header.
@@ -114,8 +114,12 @@ fn one_played(rt: &HostRuntime) -> Result<PlayList, Fail> {
     })
 }
 
-// A store with the record of a tape.
-fn write_tape(rt: &HostRuntime, tape: &[Token]) -> Result<MemStore, Fail> {
+// Writes the record of a tape to a store, and what was answered.
+fn write_to(
+    rt: &HostRuntime,
+    store: &mut MemStore,
+    tape: &[Token],
+) -> Result<Result<(), WriteError>, Fail> {
     let record = small_record(rt)?;
     let wiring = pass_wiring(rt)?;
     let list = one_played(rt)?;
@@ -124,8 +128,13 @@ fn write_tape(rt: &HostRuntime, tape: &[Token]) -> Result<MemStore, Fail> {
         wiring: &wiring,
         list: &list,
     };
+    Ok(write_record(rt.alloc(), store, "out.rec", &played, tape))
+}
+
+// A store with the record of a tape.
+fn write_tape(rt: &HostRuntime, tape: &[Token]) -> Result<MemStore, Fail> {
     let mut store = MemStore::new(rt.alloc());
-    write_record(rt.alloc(), &mut store, "out.rec", &played, tape)?;
+    write_to(rt, &mut store, tape)??;
     Ok(store)
 }
 
@@ -158,5 +167,23 @@ fn writes_channels_in_the_order_of_their_messages(rt: HostRuntime) -> Result<(),
 fn writes_no_channel_without_a_message(rt: HostRuntime) -> Result<(), Fail> {
     let store = write_tape(&rt, &[in_message()])?;
     assert!(rt; holds(&store, ALONE_HEADER, ALONE_SECTIONS));
+    Ok(())
+}
+
+// The calls make the file, and put the header twice, two channels, the header and the body of a
+// chunk, and the index.
+#[test]
+fn fails_each_call_in_turn(rt: HostRuntime) -> Result<(), Fail> {
+    let tape = [in_message(), out_message(Some(-1))];
+    for call in 1..=8 {
+        let mut store = MemStore::new(rt.alloc());
+        store.fail_at(call, 0)?;
+        let answer = write_to(&rt, &mut store, &tape)?;
+        assert_eq!(rt; answer, Err(WriteError::Failed), "{call}");
+        assert_eq!(rt; store.file("out.rec").is_some(), call > 1, "{call}");
+    }
+    let mut store = MemStore::new(rt.alloc());
+    store.fail_at(9, 0)?;
+    assert_eq!(rt; write_to(&rt, &mut store, &tape)?, Ok(()));
     Ok(())
 }

@@ -1,10 +1,11 @@
-//! Tests of configuration files: `cy_dag`, `cy_sched` and `cy_check` over texts that `cy_text`
-//! reads.
+//! Tests of configuration files: `cy_config`, `cy_dag`, `cy_sched` and `cy_check` over texts that
+//! `cy_text` reads.
 //! Each expected value is written out by hand from the rules of the formats.
 
 mod checks;
 mod dags;
 mod placements;
 mod scheds;
+mod shapes;
 mod texts;
 mod wirings;

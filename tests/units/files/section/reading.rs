@@ -119,6 +119,17 @@ fn reads_a_channel_and_places_a_name_that_is_no_text(rt: HostRuntime) -> Result<
     Ok(())
 }
 
+// The fault at which the first three messages of a body end.
+fn fault_of(body: &[u8]) -> Option<SectionError> {
+    let mut reader = MessageReader::new(body, 2158);
+    for _ in 0..3usize {
+        if let Err(fault) = reader.next_message() {
+            return Some(fault);
+        }
+    }
+    None
+}
+
 #[test]
 fn reads_the_messages_of_a_chunk_up_to_the_first_fault(rt: HostRuntime) -> Result<(), Fail> {
     let mut messages = Vec::new(rt.alloc());
@@ -162,6 +173,7 @@ fn reads_the_messages_of_a_chunk_up_to_the_first_fault(rt: HostRuntime) -> Resul
     ] {
         let answer = read_chunk_body(rt.alloc(), body, 2158).err();
         assert_eq!(rt; answer, Some(fault));
+        assert_eq!(rt; fault_of(body), Some(fault));
     }
     Ok(())
 }
@@ -192,5 +204,13 @@ fn reads_the_entries_of_an_index(rt: HostRuntime) -> Result<(), Fail> {
     let faulty = b"\x0a\x09\xba\x06\x02\x08\x05\xba\x06\x01\x07";
     let answer = read_index(rt.alloc(), faulty, 2198).err();
     assert_eq!(rt; answer, Some(SectionError::Wire { at: 2208 }));
+    // The name and then the type of a channel's cache.
+    for unnamed in [
+        b"\x0a\x06\xaa\x06\x03\x12\x01\xff",
+        b"\x0a\x06\xaa\x06\x03\x1a\x01\xff",
+    ] {
+        let answer = read_index(rt.alloc(), unnamed, 2198).err();
+        assert_eq!(rt; answer, Some(SectionError::NameNotText { at: 2205 }));
+    }
     Ok(())
 }

@@ -2,17 +2,18 @@
 use super::tables::table_of_one;
 use super::walk::take;
 use cy_comp::State;
-use cy_table::{FlagTable, Pass};
+use cy_table::{Busy, FlagTable, Pass};
 use std::test::Fail;
 
 // Whether component 0 is held by another pass; where not, it is taken and given back.
 fn is_busy(table: &FlagTable, pass: &mut Pass) -> bool {
-    match take(table, pass) {
-        Some((hold, _)) => {
+    match table.acquire(pass, 0) {
+        Ok(mut hold) => {
+            let _state = table.update(pass, &mut hold);
             table.release(pass, hold);
             false
         }
-        None => true,
+        Err(Busy) => true,
     }
 }
 

@@ -1,0 +1,110 @@
+// What setting up a replay of the chain answers where a file is in the way.
+use super::ran::chain_store;
+use cy_msg::Items;
+use cy_reader::Filter;
+use cy_replay::{Components, Fault, Replay, Request, SetupError, set_up};
+use cy_store::{MemStore, Store};
+use std::alloc::Global;
+use std::test::Fail;
+
+/// The calls that make the files of the chain.
+const CALLS_BEFORE: u64 = 8;
+
+// Sets the chain up, with a scheduler file or without one, to play all of its record.
+fn set_up_chain(
+    alloc: Global,
+    store: &mut MemStore,
+    sched: Option<&str>,
+) -> Result<Replay, SetupError> {
+    let filter = Filter {
+        only: None,
+        drop: Items::new(Vec::new(alloc)),
+        begin: 0,
+        end: u64::MAX,
+    };
+    let request = Request {
+        components: Components::Files {
+            dag: "d.dag",
+            sched,
+        },
+        input: "a.rec",
+        filter: &filter,
+    };
+    set_up(alloc, store, &request)
+}
+
+// Which kind of fault a file has.
+fn kind_of(fault: &Fault) -> &'static str {
+    match fault {
+        Fault::ConfigTooLarge { .. } => "ConfigTooLarge",
+        Fault::Text(_) => "Text",
+        Fault::Dag(_) => "Dag",
+        Fault::Sched(_) => "Sched",
+        Fault::Record(_) => "Record",
+        Fault::TooMany { .. } => "TooMany",
+    }
+}
+
+// What setting up came to, in one line: the file in the way and what is the matter with it.
+fn told(alloc: Global, answer: Result<Replay, SetupError>) -> Result<String, Fail> {
+    Ok(match answer {
+        Ok(_) => String::from_str(alloc, "set up")?,
+        Err(SetupError::Refused(refusal)) => {
+            let kind = kind_of(&refusal.fault);
+            format!(in alloc; "{} {kind}", refusal.file.as_str())?
+        }
+        Err(SetupError::Store { file }) => format!(in alloc; "{} Store", file.as_str())?,
+        Err(SetupError::Memory) => String::from_str(alloc, "Memory")?,
+    })
+}
+
+// Of each file the size is asked, and then it is read.
+#[test]
+fn names_the_file_whose_call_failed(rt: HostRuntime) -> Result<(), Fail> {
+    let alloc = rt.alloc();
+    for (call, want) in [
+        (1, "d.dag Store"),
+        (2, "d.dag Store"),
+        (3, "p.conf Store"),
+        (4, "p.conf Store"),
+        (5, "r.conf Store"),
+        (6, "r.conf Store"),
+        (7, "a.rec Store"),
+        (8, "a.rec Store"),
+        (9, "set up"),
+    ] {
+        let mut store = chain_store(alloc)?;
+        store.fail_at(CALLS_BEFORE + call, 0)?;
+        let answer = set_up_chain(alloc, &mut store, None);
+        assert_eq!(rt; told(alloc, answer)?.as_str(), want, "{call}");
+    }
+    let mut store = chain_store(alloc)?;
+    let answer = set_up_chain(alloc, &mut store, Some("s.sched"));
+    assert_eq!(rt; told(alloc, answer)?.as_str(), "s.sched Store");
+    Ok(())
+}
+
+// A cycle is a fault of the wiring, which is one of the DAG file.
+#[test]
+fn names_the_file_that_is_refused(rt: HostRuntime) -> Result<(), Fail> {
+    let alloc = rt.alloc();
+    for (name, text, want) in [
+        ("d.dag", "module_config {", "d.dag Text"),
+        ("d.dag", "", "d.dag Dag"),
+        ("p.conf", "out: /o", "p.conf Text"),
+        ("r.conf", "", "r.conf Dag"),
+        ("p.conf", "out: \"/a\"", "d.dag Dag"),
+        ("s.sched", "scheduler_conf", "s.sched Text"),
+        ("s.sched", "", "s.sched Sched"),
+        ("a.rec", "no record", "a.rec Record"),
+    ] {
+        let mut store = chain_store(alloc)?;
+        store.create("s.sched")?;
+        store.put_at("s.sched", 0, b"scheduler_conf { default_proc_num: 1 }")?;
+        store.create(name)?;
+        store.put_at(name, 0, text.as_bytes())?;
+        let answer = set_up_chain(alloc, &mut store, Some("s.sched"));
+        assert_eq!(rt; told(alloc, answer)?.as_str(), want, "{name} {text}");
+    }
+    Ok(())
+}
