@@ -6,6 +6,7 @@ pub mod Fitting
 pub mod Joined
 pub mod Judged
 pub mod Judging
+pub mod Limits
 pub mod Origins
 pub mod PassTested
 pub mod PassWired

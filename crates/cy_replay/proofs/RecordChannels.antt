@@ -1,9 +1,9 @@
 -- The channels of a record that was read, by their names.
-use Rattle.std.proofs.Common.{◌≡◌, ◌<◌, ℕ, ◌+◌, List, [], ◌∷◌, length, take, drop, get_or, refl, sym, ap, ◌∙◌, Some, None, Option, Bool, true, false, IfSome, slice_get, subst}
+use Rattle.std.proofs.Common.{arith, ◌≡◌, ◌≤◌, ◌<◌, ℕ, ◌+◌, List, [], ◌∷◌, length, take, drop, get_or, refl, sym, ap, ◌∙◌, Some, None, Option, Bool, true, false, IfSome, slice_get, subst}
 use Rattle.std.specs.Option.{option_map, option_or}
 use Rattle.std.specs.List.{find}
 use Rattle.std.specs.Str.{bytes_eq}
-use Rattle.std.proofs.lemmas.List.{take_more, drop_more, take-append-drop}
+use Rattle.std.proofs.lemmas.List.{take_more, take_all, drop_more, take-append-drop}
 use Rattle.std.proofs.lemmas.List.Folds.{find-append}
 use Rattle.std.proofs.lemmas.Option.{slice_get-get_or}
 use Rattle.cy_section.specs.declared.types.Channel.{Channel}
@@ -47,3 +47,9 @@ passed name channels n c none low is other =
     ∙ find-append p (take n channels) (known ∷ [])
     ∙ ap (λ (o : Option Known). option_or o (find p (known ∷ []))) none
     ∙ last
+
+-- and none has
+pub none_met : (name : List ℕ) (channels : List Known) (n count : ℕ) → count ≡ length channels → count ≤ n → known_as name (take n channels) ≡ None
+    → (let none : Option Channel = None in none ≡ option_map (λ (known : Known). known.channel) (known_as name channels))
+none_met name channels n count all end none =
+    ap (option_map (λ (known : Known). known.channel)) (sym (ap (known_as name) (sym (take_all n channels (omega (arith, all, end)))) ∙ none))

@@ -1,5 +1,5 @@
 -- A replay is set up: its files are read, and what they say is judged.
-use Rattle.std.proofs.Common.{ℕ, ◌+◌, ◌≡◌, ◌≤◌, ◌<◌, ◌++◌, List, [], ◌∷◌, length, map, take, get_or, slice_get, Option, Some, None, IfSome, Result, Ok, Err, refl, sym, ap, subst, ◌∙◌, inl, inr, arith}
+use Rattle.std.proofs.Common.{◌^◌, ℕ, ◌+◌, ◌≡◌, ◌≤◌, ◌<◌, ◌++◌, List, [], ◌∷◌, length, map, take, get_or, slice_get, Option, Some, None, IfSome, Result, Ok, Err, refl, sym, ap, subst, ◌∙◌, inl, inr, arith}
 use Rattle.std.specs.List.{zip}
 use Rattle.std.specs.List.Sorted.{IsPermutation}
 use Rattle.std.proofs.lemmas.Bool.{le-ltb}
@@ -28,6 +28,7 @@ use Rattle.wake_core.specs.Run.{routes_of}
 use Rattle.wake_core.specs.Planned.{planned}
 use Rattle.wake_core.specs.declared.entries.TheConstants.{MOST_PLANNED}
 use Rattle.cy_replay.specs.declared.configuration.Configuration.{Configuration}
+use Rattle.cy_reader.specs.declared.error.LoadError.TheVariants.{TooManyPlayed}
 use Rattle.cy_replay.specs.declared.error.Fault.TheVariants as fault
 use Rattle.cy_replay.specs.declared.error.Refusal.{Refusal}
 use Rattle.cy_replay.specs.declared.error.SetupError.{SetupError}
@@ -43,6 +44,7 @@ use Rattle.cy_replay.specs.Setup.{Components, Request, Replayed, OfFiles, OfPass
 use Rattle.cy_replay.specs.Steps.{configured}
 use Rattle.cy_replay.specs.Wiring.{Wired, wired_by, wired_of, wiring_in}
 use Rattle.cy_replay.proofs.Coming.{then, comes_err, comes_then}
+use Rattle.cy_replay.proofs.Limits.{limited_fits}
 use Rattle.cy_replay.proofs.Judging.{judges_err, judges_then, judges_ok, judges_memory, judged_comes}
 use Rattle.cy_replay.proofs.Playable.{all_named, some_name, some_plan, all_below, counts_are, may_play}
 
@@ -73,9 +75,17 @@ wired_is : (dag : List ℕ) (refusal : Option DagError) (x y : Wired) → in_fil
 wired_is dag None x y e = cc
 wired_is dag (Some f) x y e = absurd cc
 
-module _ (file : List ℕ) (r : Request) (conf : Configuration) (recorded : Contents) (channels : List (List ℕ)) (w : Wiring) (read : channels ≡ channels_of recorded) (judged : let q : Result Wiring SetupError = Ok w in IsJudged wired_by (wiring_in file channels (configured conf)) q) where
+module _ (file : List ℕ) (r : Request) (conf : Configuration) (recorded : Contents) where
+  -- the wiring is in the way
+  pub wiring_stops : {X : Type 0} (v : X → Replayed) (e : SetupError) → (let q : Result Wiring SetupError = Err e in IsJudged wired_by (wiring_in file (channels_of recorded) (configured conf)) q)
+      → (let q : Result X SetupError = Err e in IsJudged v (judged_in file r (configured conf) recorded) q)
+  wiring_stops v e stops =
+      judges_err wired_by v (wiring_in file (channels_of recorded) (configured conf))
+      (λ x. played_in r.input recorded (choice_of r.filter x) >>= λ played. planned_in r.input x (counts_of recorded (choice_of r.filter x)) >>= λ planned. Accepts record { configured = configured conf; contents = recorded; wired = x }) e stops
+
+module _ (file : List ℕ) (r : Request) (conf : Configuration) (recorded : Contents) (w : Wiring) (judged : let q : Result Wiring SetupError = Ok w in IsJudged wired_by (wiring_in file (channels_of recorded) (configured conf)) q) where
   wired : wiring_in file (channels_of recorded) (configured conf) ≡ Accepts (wired_by w)
-  wired = subst (λ cs. wiring_in file cs (configured conf) ≡ Accepts (wired_by w)) read judged.accepted
+  wired = judged.accepted
 
   abbrev components : List (DagComponent × Config)
   components = zip conf.dag.components conf.configs
@@ -107,26 +117,45 @@ module _ (file : List ℕ) (r : Request) (conf : Configuration) (recorded : Cont
   abbrev with_wired : Wired → Reads Refusal Replayed
   with_wired x = played_in r.input recorded (choice_of r.filter x) >>= with_played x
 
+  -- the messages that are played are in the way
+  pub list_stops : {X : Type 0} (v : X → Replayed) (e : SetupError) → (let q : Result PlayList SetupError = Err e in IsJudged (λ (l : PlayList). length l.places) (played_in r.input recorded (choice_of r.filter (wired_by w))) q)
+      → (let q : Result X SetupError = Err e in IsJudged v (judged_in file r (configured conf) recorded) q)
+  list_stops v e stops =
+      judges_then v (wiring_in file (channels_of recorded) (configured conf)) with_wired (wired_by w) (Err e) wired
+      (judges_err (λ (l : PlayList). length l.places) v (played_in r.input recorded (choice_of r.filter (wired_by w))) (with_played (wired_by w)) e stops)
+
   module _ (list : PlayList) (counts : List ℕ) (listed : let q : Result PlayList SetupError = Ok list in IsJudged (λ (l : PlayList). length l.places) (played_in r.input recorded (choice_of r.filter (wired_by w))) q)
       (is : IsPlayList recorded (choice_of r.filter (wired_by w)) list) (are : AreCounts (length w.names) list.tokens counts) where
-    after : (q : Result Replay SetupError) → IsJudged replayed (with_played (wired_by w) (length list.places)) q → IsJudged replayed (judged_in file r (configured conf) recorded) q
-    after q j =
-        judges_then replayed (wiring_in file (channels_of recorded) (configured conf)) with_wired (wired_by w) q wired
-        (judges_then replayed (played_in r.input recorded (choice_of r.filter (wired_by w))) (with_played (wired_by w)) (length list.places) q listed.accepted j)
+    after : {X : Type 0} (v : X → Replayed) (q : Result X SetupError) → IsJudged v (with_played (wired_by w) (length list.places)) q → IsJudged v (judged_in file r (configured conf) recorded) q
+    after v q j =
+        judges_then v (wiring_in file (channels_of recorded) (configured conf)) with_wired (wired_by w) q wired
+        (judges_then v (played_in r.input recorded (choice_of r.filter (wired_by w))) (with_played (wired_by w)) (length list.places) q listed.accepted j)
 
     pub counted : counts ≡ counts_of recorded (choice_of r.filter (wired_by w))
     counted = counts_are recorded (choice_of r.filter (wired_by w)) list counts is are
 
-    pub planned_stops : (e : SetupError) → (let q : Result ℕ SetupError = Err e in IsJudged (λ n. n) (planned_in r.input (wired_by w) counts) q) → (let q : Result Replay SetupError = Err e in IsJudged replayed (judged_in file r (configured conf) recorded) q)
-    planned_stops e stops =
-        after (Err e) (judges_err (λ n. n) replayed (planned_in r.input (wired_by w) (counts_of recorded (choice_of r.filter (wired_by w)))) (λ planned. Accepts record { configured = configured conf; contents = recorded; wired = wired_by w }) e
+    pub planned_stops : {X : Type 0} (v : X → Replayed) (e : SetupError) → (let q : Result ℕ SetupError = Err e in IsJudged (λ n. n) (planned_in r.input (wired_by w) counts) q) → (let q : Result X SetupError = Err e in IsJudged v (judged_in file r (configured conf) recorded) q)
+    planned_stops v e stops =
+        after v (Err e) (judges_err (λ n. n) v (planned_in r.input (wired_by w) (counts_of recorded (choice_of r.filter (wired_by w)))) (λ planned. Accepts record { configured = configured conf; contents = recorded; wired = wired_by w }) e
         (subst (λ cs. let q : Result ℕ SetupError = Err e in IsJudged (λ n. n) (planned_in r.input (wired_by w) cs) q) counted stops))
 
-    pub all_judged : (n : ℕ) (x : Replay) → (let q : Result ℕ SetupError = Ok n in IsJudged (λ n. n) (planned_in r.input (wired_by w) counts) q) → (let y : Replayed = record { configured = configured conf; contents = recorded; wired = wired_by w } in y ≡ replayed x)
-        → (let q : Result Replay SetupError = Ok x in IsJudged replayed (judged_in file r (configured conf) recorded) q)
-    all_judged n x fits same =
-        after (Ok x) (judges_then replayed (planned_in r.input (wired_by w) (counts_of recorded (choice_of r.filter (wired_by w)))) (λ planned. Accepts record { configured = configured conf; contents = recorded; wired = wired_by w }) n (Ok x)
-        (subst (λ cs. planned_in r.input (wired_by w) cs ≡ Accepts n) counted fits.accepted) (judges_ok replayed (Accepts record { configured = configured conf; contents = recorded; wired = wired_by w }) x (ap Accepts same)))
+    pub all_judged : {X : Type 0} (v : X → Replayed) (n : ℕ) (x : X) → (let q : Result ℕ SetupError = Ok n in IsJudged (λ n. n) (planned_in r.input (wired_by w) counts) q) → (let y : Replayed = record { configured = configured conf; contents = recorded; wired = wired_by w } in y ≡ v x)
+        → (let q : Result X SetupError = Ok x in IsJudged v (judged_in file r (configured conf) recorded) q)
+    all_judged v n x fits same =
+        after v (Ok x) (judges_then v (planned_in r.input (wired_by w) (counts_of recorded (choice_of r.filter (wired_by w)))) (λ planned. Accepts record { configured = configured conf; contents = recorded; wired = wired_by w }) n (Ok x)
+        (subst (λ cs. planned_in r.input (wired_by w) cs ≡ Accepts n) counted fits.accepted) (judges_ok v (Accepts record { configured = configured conf; contents = recorded; wired = wired_by w }) x (ap Accepts same)))
+
+-- no more are played, and no more are planned, than can be
+pub played_few : (file : List ℕ) (whole : Contents) (choice : Choice) (list : PlayList) → (let q : Result PlayList SetupError = Ok list in IsJudged (λ (l : PlayList). length l.places) (played_in file whole choice) q) → length list.tokens < 2 ^ 32
+played_few file whole choice list listed =
+    let fits = limited_fits file most_played (λ n. fault.Record (TooManyPlayed n)) (length (chosen whole choice)) (length list.places) listed.accepted in
+    let few = fits.0 in
+    let same = fits.1 in
+    let placed = list.placed in
+    omega arith
+
+pub planned_few : (file : List ℕ) (w : Wired) (counts : List ℕ) (n : ℕ) → (let q : Result ℕ SetupError = Ok n in IsJudged (λ n. n) (planned_in file w counts) q) → planned (routes_of w.plans) counts ≤ MOST_PLANNED
+planned_few file w counts n fits = (limited_fits file MOST_PLANNED fault.TooMany (planned (routes_of w.plans) counts) n fits.accepted).0
 
 -- what is set up
 pub is_set_up : (f : Filter) (x : Replay) → IsPlayList x.recorded (choice_of f (wired_by x.wiring)) x.list → IsPlaced x.configuration.sched (map (λ c. c.name) x.configuration.dag.components) x.placement.contexts

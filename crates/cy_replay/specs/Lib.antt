@@ -1,6 +1,7 @@
 pub mod Comes
 pub mod Configuration
 pub mod Faults
+pub mod Judged
 pub mod Listing
 pub mod Passing
 pub mod RecordLaws

@@ -11,7 +11,7 @@ use cy_text::TextError;
 use std::alloc::{AllocError, AllocFailed, Global};
 
 /// What is wrong with a file.
-#[derive(Debug, Drop)]
+#[derive(Drop)]
 pub enum Fault {
     /// A configuration file is longer than any that is read.
     ConfigTooLarge {
@@ -34,7 +34,7 @@ pub enum Fault {
 }
 
 /// A file that is refused.
-#[derive(Debug, Drop)]
+#[derive(Drop)]
 pub struct Refusal {
     /// Its name.
     pub file: Text,
@@ -43,7 +43,7 @@ pub struct Refusal {
 }
 
 /// Why a replay can't be set up.
-#[derive(Debug, Drop)]
+#[derive(Drop)]
 pub enum SetupError {
     /// A file is refused.
     Refused(Refusal),

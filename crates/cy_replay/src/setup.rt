@@ -5,7 +5,10 @@ ghost use Rattle.cy_replay.specs.Comes.{ComesTo, IsJudged};
 ghost use Rattle.cy_replay.specs.Setup.{IsAsked, IsAskedBy, IsSetUp, HasReader, OfFiles, OfPass};
 ghost use Rattle.cy_replay.specs.Setup.{configured_in, judged_in, passed_in, replay_in, replayed};
 ghost use Rattle.cy_replay.specs.Setup.{request_of};
+ghost use Rattle.cy_replay.specs.Judged.{judged_as, replay_of};
+ghost use Rattle.cy_replay.specs.Listing.{channels_of};
 ghost use Rattle.cy_replay.specs.Steps.{configured};
+ghost use Rattle.cy_replay.specs.Wiring.{IsWiredBy, wiring_in};
 
 use crate::counts::{counts_of, test_planned};
 use crate::listing::{channel_names, list_messages, read_record};
@@ -64,8 +67,58 @@ pub struct Replay {
     pub counts: Items<u32>,
 }
 
-// Judges what was read, and makes what a run needs of it. A fault of the wiring is one of the file
-// that is named for it.
+// What is made of a configuration and a record: all that a replay has beside them.
+#[derive(Drop)]
+struct Judged {
+    wiring: Wiring,
+    placement: Placement,
+    list: PlayList,
+    counts: Items<u32>,
+}
+
+// The wiring of a configuration's components over the channels of a record.
+fn wire_recorded(
+    alloc: Global,
+    file: &str,
+    configuration: &Configuration,
+    recorded: &Record,
+) -> Result<Wiring, SetupError>
+    ensures { IsWiredBy (wiring_in file.now (channels_of recorded.now)
+        (configured configuration.now)) result }
+{
+    let channels = channel_names(alloc, recorded)?;
+    wire_components(alloc, file, configuration, &channels)
+}
+
+// Judges what was read. A fault of the wiring is one of the file that is named for it.
+fn judge_parts(
+    alloc: Global,
+    file: &str,
+    request: &Request,
+    configuration: &Configuration,
+    recorded: &Record,
+) -> Result<Judged, SetupError>
+    requires { IsPlaceable configuration.now.sched }
+    ensures judged { IsJudged (judged_as configuration.now recorded.now)
+        (judged_in file.now (request_of request.now) (configured configuration.now) recorded.now)
+        result }
+    ensures set_up { IfOk result (λ j. IsSetUp request.now.filter.now
+        (replay_of configuration.now recorded.now j)) }
+{
+    let wiring = wire_recorded(alloc, file, configuration, recorded)?;
+    let list = list_messages(alloc, request.input, request.filter, recorded, &wiring)?;
+    let counts = counts_of(alloc, wiring.names.count(), list.tokens.as_slice())?;
+    test_planned(alloc, request.input, &wiring, &counts)?;
+    let placement = place_components(alloc, configuration)?;
+    Ok(Judged {
+        wiring,
+        placement,
+        list,
+        counts: Items::new(counts),
+    })
+}
+
+// Judges what was read, and makes what a run needs of it.
 fn judge(
     alloc: Global,
     file: &str,
@@ -78,19 +131,14 @@ fn judge(
         (judged_in file.now (request_of request.now) (configured configuration) recorded) result }
     ensures set_up { IfOk result (IsSetUp request.now.filter.now) }
 {
-    let channels = channel_names(alloc, &recorded)?;
-    let wiring = wire_components(alloc, file, &configuration, &channels)?;
-    let list = list_messages(alloc, request.input, request.filter, &recorded, &wiring)?;
-    let counts = counts_of(alloc, wiring.names.count(), list.tokens.as_slice())?;
-    test_planned(alloc, request.input, &wiring, &counts)?;
-    let placement = place_components(alloc, &configuration)?;
+    let parts = judge_parts(alloc, file, request, &configuration, &recorded)?;
     Ok(Replay {
         configuration,
         recorded,
-        wiring,
-        placement,
-        list,
-        counts: Items::new(counts),
+        wiring: parts.wiring,
+        placement: parts.placement,
+        list: parts.list,
+        counts: parts.counts,
     })
 }
 

@@ -20,14 +20,12 @@ pub returns-in-Ok-clause-comes : goal.returns-in-Ok-clause-comes
 returns-in-Ok-clause-comes g c =
     let component = c.args.component.now in
     let name = component.config_file_path in
-    let class = class_named component.class_name in
-    then_value (λ config. config) (text_in name) (λ file. in_file name fault.Dag (config_by c.args.number class file)) (λ file. file ≡ name) (λ file. file ≡ name) _ _ c.in_ok-tree.tree c.in-Ok.config (rw c.as_str-name.ensures.value at c.in_ok-tree.ensures.comes)
-    (config_accepted name c.args.number class c.in_ok-tree.tree c.in-Ok.config (rw c.as_str.ensures.value at c.in-Ok.ensures.config).0 (rw c.as_str.ensures.value at c.in-Ok.ensures.config).1)
+    then_value (λ config. config) (text_in name) (λ file. in_file name fault.Dag (config_by c.args.number (class_named component.class_name) file)) (λ file. file ≡ name) (λ file. file ≡ name) _ _ c.in_ok-tree.tree c.in-Ok.config (rw c.as_str-name.ensures.value at c.in_ok-tree.ensures.comes)
+    (config_accepted name c.args.number component.class_name c.as_str.result.now c.in_ok-tree.tree c.in-Ok.config c.as_str.ensures.value c.in-Ok.ensures.config)
 
 pub returns-clause-comes : goal.returns-clause-comes
 returns-clause-comes g c =
     let component = c.args.component.now in
     let name = component.config_file_path in
-    let class = class_named component.class_name in
-    then_fault (λ config. config) (text_in name) (λ file. in_file name fault.Dag (config_by c.args.number class file)) (λ file. file ≡ name) (λ file. file ≡ name) _ _ c.in_ok-tree.tree name (dag_fault c.in-Err.fault) _ (rw c.as_str-name.ensures.value at c.in_ok-tree.ensures.comes) (rw c.as_str-name.ensures.value at c.dag_fault.ensures)
-    (config_refused name c.args.number class c.in_ok-tree.tree c.in-Err.fault (rw c.as_str.ensures.value at c.in-Err.ensures.refused))
+    then_fault (λ config. config) (text_in name) (λ file. in_file name fault.Dag (config_by c.args.number (class_named component.class_name) file)) (λ file. file ≡ name) (λ file. file ≡ name) _ _ c.in_ok-tree.tree name (dag_fault c.in-Err.fault) _ (rw c.as_str-name.ensures.value at c.in_ok-tree.ensures.comes) (rw c.as_str-name.ensures.value at c.dag_fault.ensures)
+    (config_refused name c.args.number component.class_name c.as_str.result.now c.in_ok-tree.tree c.in-Err.fault c.as_str.ensures.value c.in-Err.ensures.refused)
