@@ -1,4 +1,5 @@
 pub mod CheckExits
+pub mod Commas
 pub mod Complete
 pub mod DoneLine
 pub mod Fronts

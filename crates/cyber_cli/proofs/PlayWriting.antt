@@ -15,7 +15,7 @@ use Rattle.cyber_cli.specs.declared.failure.File.{File}
 use Rattle.cyber_cli.specs.declared.failure.File.TheVariants as file
 use Rattle.cyber_cli.specs.declared.failure.Failure.{Failure}
 use Rattle.cyber_cli.specs.declared.failure.Failure.TheVariants as failure
-use Rattle.cyber_cli.specs.PlayEnds.{name_of_play}
+use Rattle.cyber_cli.specs.PlayEnds.{name_of_play, unwritten}
 use Rattle.cy_words.specs.PlayWords.{PlayWords}
 
 -- the puts of a record's tape
@@ -47,6 +47,11 @@ same_file a b e = cc
 
 not_memory : write_error.Failed ≡ write_error.Memory → ⊥
 not_memory e = cc
+
+pub blames : (f : File) (error : WriteError) (found : Failure) → found ≡ unwritten f error → Blames f error found
+blames f write_error.Failed found is = record { failed = λ _. is; memory = λ e. absurd (not_memory e) }
+blames f write_error.Broken found is = record { failed = λ _. is; memory = λ e. cc }
+blames f write_error.Memory found is = record { failed = λ other. absurd (other refl); memory = λ _. is }
 
 -- a failure at a file comes of a failed write
 fault : (error : WriteError) (found : Failure) (a f : File) → Blames a error found → (IsErrOf {T = Unit {0}} (Err error) write_error.Broken → ⊥)

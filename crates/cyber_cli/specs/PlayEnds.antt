@@ -4,6 +4,8 @@ use Rattle.cy_store.specs.Store.{StoreView}
 use Rattle.cy_store.specs.Write.{Write}
 use Rattle.cy_msg.specs.Placement.{scan_of}
 use Rattle.cy_trace.specs.TraceForm.{IsTraceText}
+use Rattle.cy_writer.specs.declared.error.WriteError.{WriteError}
+use Rattle.cy_writer.specs.declared.error.WriteError.TheVariants as write_error
 use Rattle.wake_core.specs.LawfulRun.{LawfulRun}
 use Rattle.wake_core.specs.Plain.{Plain}
 use Rattle.wake_core.specs.Rest.{run_shown}
@@ -59,6 +61,12 @@ pub record IsTold (x : Replay) (w : Plain) (told : Told) : Type 0 where
 abbrev pub name_of_play : PlayWords → File → List ℕ
 name_of_play w file.Output = w.output
 name_of_play w file.Trace = w.trace
+
+-- Why a play isn't done of which a file was not written.
+abbrev pub unwritten : File → WriteError → Failure
+unwritten f write_error.Failed = failure.Store f
+unwritten f write_error.Broken = failure.Store f
+unwritten f write_error.Memory = failure.Memory
 
 -- The status that is due where a replay was not played and written, and its line.
 abbrev pub IsDueAfterPlay : PlayWords → Failure → Status → List ℕ → Type 0

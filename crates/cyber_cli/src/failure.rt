@@ -5,7 +5,7 @@ ghost use Rattle.cyber_cli.specs.declared.failure.Failure.TheVariants as failure
 use std::alloc::{AllocError, AllocFailed};
 
 /// A file that a play writes.
-#[derive(Clone, Copy, Debug, PartialEq, Eq)]
+#[derive(Clone, Copy)]
 pub enum File {
     /// The record.
     Output,
@@ -14,7 +14,7 @@ pub enum File {
 }
 
 /// Why a play was not done.
-#[derive(Clone, Copy, Debug, PartialEq, Eq)]
+#[derive(Clone, Copy)]
 pub enum Failure {
     /// A call of the store failed at a file.
     Store(File),

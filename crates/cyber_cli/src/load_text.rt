@@ -1,6 +1,7 @@
 // The texts of what is wrong with records.
-ghost use Rattle.std.specs.Prelude.{◌≡◌, ◌++◌, OnOk};
-ghost use Rattle.cyber_cli.specs.LoadText.{section_text, load_text, is_load_limit};
+ghost use Rattle.std.specs.Prelude.{◌≡◌, ◌++◌, OnOk, codes};
+ghost use Rattle.std.specs.Fmt.{decimal, signed_decimal};
+ghost use Rattle.cyber_cli.specs.LoadText.{place_text, section_text, load_text, is_load_limit};
 
 use crate::config_text::push_limit;
 use cy_reader::LoadError;
@@ -8,17 +9,40 @@ use cy_section::SectionError;
 use std::io;
 use std::io::Write;
 
+// What is wrong at a place, at the end of others.
+fn push_place(to: &mut Vec<u8>, at: u64, what: &str) -> io::Result<()>
+    ensures { OnOk result (to.new.items ≡ to.old.items ++ place_text at what.now) }
+{
+    write!(to, "at {at}: {what}")
+}
+
+// The same with a value behind it.
+fn push_value(to: &mut Vec<u8>, at: u64, what: &str, value: u64) -> io::Result<()>
+    ensures { OnOk result (to.new.items
+        ≡ to.old.items ++ place_text at (what.now ++ decimal value)) }
+{
+    write!(to, "at {at}: {what}{value}")
+}
+
+// A wrong size at a place, at the end of others.
+fn push_size(to: &mut Vec<u8>, at: u64, size: i64) -> io::Result<()>
+    ensures { OnOk result (to.new.items
+        ≡ to.old.items ++ place_text at (codes "Size " ++ signed_decimal size)) }
+{
+    write!(to, "at {at}: Size {size}")
+}
+
 // The fault of a section, at the end of others.
 fn push_section(to: &mut Vec<u8>, error: &SectionError) -> io::Result<()>
     ensures { OnOk result (to.new.items ≡ to.old.items ++ section_text error.now) }
 {
     match error {
-        SectionError::Cut { at } => write!(to, "at {at}: Cut"),
-        SectionError::Kind { at, value } => write!(to, "at {at}: Kind {value}"),
-        SectionError::Size { at, value } => write!(to, "at {at}: Size {value}"),
-        SectionError::TooLong { at, value } => write!(to, "at {at}: TooLong {value}"),
-        SectionError::Wire { at } => write!(to, "at {at}: Wire"),
-        SectionError::NameNotText { at } => write!(to, "at {at}: NameNotText"),
+        SectionError::Cut { at } => push_place(to, *at, "Cut"),
+        SectionError::Kind { at, value } => push_value(to, *at, "Kind ", u64::from(*value)),
+        SectionError::Size { at, value } => push_size(to, *at, *value),
+        SectionError::TooLong { at, value } => push_value(to, *at, "TooLong ", *value),
+        SectionError::Wire { at } => push_place(to, *at, "Wire"),
+        SectionError::NameNotText { at } => push_place(to, *at, "NameNotText"),
         SectionError::Memory => write!(to, "out of memory"),
     }
 }

@@ -18,7 +18,7 @@ ghost use Rattle.cy_words.specs.Command as command;
 ghost use Rattle.cyber_cli.specs.Due.{IsDueFor};
 ghost use Rattle.cyber_cli.specs.Line.{bytes_of_line};
 ghost use Rattle.cyber_cli.specs.PlayEnds.{SetsUp, HasRun, IsDueAfterPlay, IsTold, IsLine};
-ghost use Rattle.cyber_cli.specs.PlayEnds.{name_of_play, writes_by};
+ghost use Rattle.cyber_cli.specs.PlayEnds.{name_of_play, unwritten, writes_by};
 ghost use Rattle.cy_words.specs.PlayViews.{play_words_of};
 ghost use Rattle.cy_words.specs.PlayWords.{names_in};
 ghost use Rattle.cyber_cli.specs.PlayWork.{replayed_in};
@@ -54,10 +54,17 @@ struct Told {
 fn parts_of<'a>(alloc: Global, list: &'a str) -> Result<Vec<&'a str>, AllocError>
     ensures { IfOk result (λ parts. map (λ part. part.now) parts.items ≡ names_in list.now) }
 {
+    let bytes = list.as_bytes();
     let mut parts = Vec::new(alloc);
-    for part in list.split(',') {
-        parts.push(part)?;
+    let mut start = 0;
+    for (place, byte) in bytes.iter().enumerate() {
+        if *byte != b',' {
+            continue;
+        }
+        parts.push(&list[start..place])?;
+        start = place + 1;
     }
+    parts.push(&list[start..])?;
     Ok(parts)
 }
 
@@ -208,11 +215,11 @@ fn tell_run(alloc: Global, play: &Play, replay: Replay, world: &World) -> Result
 
 // A failure to write a file.
 fn unwritten(file: File, error: WriteError) -> Failure
-    ensures failed { (error ≡ WriteError.Memory → ⊥) → result ≡ Failure.Store file }
-    ensures memory { error ≡ WriteError.Memory → result ≡ Failure.Memory }
+    ensures { result ≡ unwritten file error }
 {
     match error {
-        WriteError::Failed | WriteError::Broken => Failure::Store(file),
+        WriteError::Failed => Failure::Store(file),
+        WriteError::Broken => Failure::Store(file),
         WriteError::Memory => Failure::Memory,
     }
 }

@@ -1,5 +1,6 @@
-use Rattle.std.proofs.Common.{◌≡◌}
+use Rattle.std.proofs.Common.{map}
+use Rattle.cyber_cli.proofs.Commas.{PartsSoFar}
 use Rattle.cyber_cli.proofs.commands.play.parts_of.Given as goal
 
-abbrev pub invariant-loop-part : goal.invariant-loop-part
-invariant-loop-part l = l.parts.items ≡ l.yielded
+abbrev pub invariant-loop-place : goal.invariant-loop-place
+invariant-loop-place l = PartsSoFar l.list (map (λ part. part.now) l.parts.items) l.start l.place

@@ -3,9 +3,10 @@ use Rattle.wake_core.specs.WorldOf.{plain_of}
 use Rattle.wake_core.specs.Rest.{run_shown}
 use Rattle.cy_writer.specs.RecordWrites.{file_writes}
 use Rattle.cyber_cli.specs.PlayEnds.{source_by}
+use Rattle.cyber_cli.specs.declared.failure.File.TheVariants as file
 use Rattle.cy_words.specs.PlayViews.{play_words_of}
 use Rattle.cyber_cli.specs.PlayWork.{run_trace}
-use Rattle.cyber_cli.proofs.PlayWriting.{puts_of, first_fails, first_starves, first_done, second_fails, second_starves, both_done}
+use Rattle.cyber_cli.proofs.PlayWriting.{puts_of, blames, first_fails, first_starves, first_done, second_fails, second_starves, both_done}
 use Rattle.cyber_cli.proofs.commands.play.write_both.Goals as goal
 
 pub returns-in-Err-clause-failed : goal.returns-in-Err-clause-failed
@@ -13,14 +14,14 @@ returns-in-Err-clause-failed g c =
     let x = c.args.replay in
     let world = plain_of c.args.world.now in
     first_fails (play_words_of c.args.play.now) (source_by x) c.tape_list.result.now world.tape (run_trace (source_by x) x.list.shadowed (run_shown world)) (g.S.Store.shows c.args.store.now) (g.S.Store.shows c.write_record.new.store) c.in-Err.error c.unwritten.result
-    c.tape_list.ensures.tape (record { failed = c.unwritten.ensures.failed; memory = c.unwritten.ensures.memory }) c.in-Err.ensures.unbroken c.in-Err.ensures.makes
+    c.tape_list.ensures.tape (blames file.Output c.in-Err.error c.unwritten.result c.unwritten.ensures) c.in-Err.ensures.unbroken c.in-Err.ensures.makes
 
 pub returns-in-Err-clause-memory : goal.returns-in-Err-clause-memory
 returns-in-Err-clause-memory g c =
     let x = c.args.replay in
     let world = plain_of c.args.world.now in
     first_starves (play_words_of c.args.play.now) (source_by x) c.tape_list.result.now world.tape (run_trace (source_by x) x.list.shadowed (run_shown world)) (g.S.Store.shows c.args.store.now) (g.S.Store.shows c.write_record.new.store) c.in-Err.error c.unwritten.result
-    c.tape_list.ensures.tape (record { failed = c.unwritten.ensures.failed; memory = c.unwritten.ensures.memory }) c.in-Err.ensures.makes
+    c.tape_list.ensures.tape (blames file.Output c.in-Err.error c.unwritten.result c.unwritten.ensures) c.in-Err.ensures.makes
 
 pub returns-in-Err-write_file-clause-failed : goal.returns-in-Err-write_file-clause-failed
 returns-in-Err-write_file-clause-failed g c =
@@ -31,7 +32,7 @@ returns-in-Err-write_file-clause-failed g c =
     let mid = g.S.Store.shows c.write_record.new.store in
     let first = first_done w (source_by x) c.tape_list.result.now world.tape old mid c.tape_list.ensures.tape c.in_default.ensures.makes.done in
     second_fails w (file_writes w.output (puts_of w (source_by x) world.tape)) c.as_slice.result.now (run_trace (source_by x) x.list.shadowed (run_shown world)) old mid (g.S.Store.shows c.write_file.new.store) c.in-Err-write_file.error c.unwritten-in-Err-write_file.result
-    (c.as_slice.ensures ∙ c.in_ok-told.ensures.told.trace) first (record { failed = c.unwritten-in-Err-write_file.ensures.failed; memory = c.unwritten-in-Err-write_file.ensures.memory }) c.in-Err-write_file.ensures.unbroken c.in-Err-write_file.ensures.makes
+    (c.as_slice.ensures ∙ c.in_ok-told.ensures.told.trace) first (blames file.Trace c.in-Err-write_file.error c.unwritten-in-Err-write_file.result c.unwritten-in-Err-write_file.ensures) c.in-Err-write_file.ensures.unbroken c.in-Err-write_file.ensures.makes
 
 pub returns-in-Err-write_file-clause-memory : goal.returns-in-Err-write_file-clause-memory
 returns-in-Err-write_file-clause-memory g c =
@@ -42,7 +43,7 @@ returns-in-Err-write_file-clause-memory g c =
     let mid = g.S.Store.shows c.write_record.new.store in
     let first = first_done w (source_by x) c.tape_list.result.now world.tape old mid c.tape_list.ensures.tape c.in_default.ensures.makes.done in
     second_starves w (file_writes w.output (puts_of w (source_by x) world.tape)) c.as_slice.result.now (run_trace (source_by x) x.list.shadowed (run_shown world)) old mid (g.S.Store.shows c.write_file.new.store) c.in-Err-write_file.error c.unwritten-in-Err-write_file.result
-    (c.as_slice.ensures ∙ c.in_ok-told.ensures.told.trace) first (record { failed = c.unwritten-in-Err-write_file.ensures.failed; memory = c.unwritten-in-Err-write_file.ensures.memory }) c.in-Err-write_file.ensures.makes
+    (c.as_slice.ensures ∙ c.in_ok-told.ensures.told.trace) first (blames file.Trace c.in-Err-write_file.error c.unwritten-in-Err-write_file.result c.unwritten-in-Err-write_file.ensures) c.in-Err-write_file.ensures.makes
 
 pub returns-clause-done : goal.returns-clause-done
 returns-clause-done g c =
