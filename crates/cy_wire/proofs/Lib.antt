@@ -6,3 +6,5 @@ pub mod VarintSteps
 pub mod Taken
 pub mod Lasts
 pub mod FieldsBack
+pub mod FormReads
+pub mod ReadForm

@@ -11,16 +11,16 @@ use Rattle.cy_wire.specs.Varint.{varint_in, varint_at, above, low_64_bits}
 use Rattle.cy_wire.proofs.Varints.{varint_within-zero, varint_within-small, varint_within-large}
 
 -- a low byte is the number
-varint_in-low : (k at b : ℕ) (bs : List ℕ) → b < 128 → varint_in (suc k) at (b ∷ bs) ≡ Ok (b, 1)
+pub varint_in-low : (k at b : ℕ) (bs : List ℕ) → b < 128 → varint_in (suc k) at (b ∷ bs) ≡ Ok (b, 1)
 unfolding varint_in
 varint_in-low k at b bs h = grind (arith, common_steps)
 
 -- a high one is its low bits
-varint_in-high : (k at b : ℕ) (bs : List ℕ) → 128 ≤ b → varint_in (suc k) at (b ∷ bs) ≡ above (b % 128) 128 1 (varint_in k at bs)
+pub varint_in-high : (k at b : ℕ) (bs : List ℕ) → 128 ≤ b → varint_in (suc k) at (b ∷ bs) ≡ above (b % 128) 128 1 (varint_in k at bs)
 unfolding varint_in
 varint_in-high k at b bs h = grind (arith, common_steps)
 
-varint_in-nothing : (k at : ℕ) (bs : List ℕ) → length bs ≡ 0 → varint_in (suc k) at bs ≡ Err (Cut at)
+pub varint_in-nothing : (k at : ℕ) (bs : List ℕ) → length bs ≡ 0 → varint_in (suc k) at bs ≡ Err (Cut at)
 unfolding varint_in
 varint_in-nothing k at [] e = refl
 varint_in-nothing k at (b ∷ bs) e = absurd (omega arith)

@@ -1,9 +1,10 @@
--- What holds of the spelling of every number.
+-- What holds of the spelling of every number, and of the fields of all bytes.
 use Rattle.std.specs.Prelude.{◌≡◌, ◌<◌, ◌≤◌, ◌^◌, ◌++◌, ◌+◌, ◌-◌, ℕ, ℤ, List, [], ◌∷◌, length, All}
 use Rattle.std.specs.Prelude.{Some, FitsSigned}
 use Rattle.std.specs.Int.{w64}
 use Rattle.cy_wire.specs.Wire.{varint_bytes, zigzag, field_u64, field_bytes}
-use Rattle.cy_wire.specs.Field.{Varint, Bytes, with_field, fields_of}
+use Rattle.cy_wire.specs.Field.{Fields, Varint, Bytes, with_field, fields_of}
+use Rattle.cy_wire.specs.Form.{IsFields}
 use Rattle.cy_wire.specs.Front.{front_number}
 use Rattle.cy_wire.specs.Zigzag.{unzigzag}
 
@@ -66,3 +67,9 @@ BytesReadBack = (at number : ℕ) (bytes rest : List ℕ) → IsFieldNumber numb
       value = Bytes
           (at + (size - length bytes)) bytes;
     }) (fields_of (at + size) rest)
+
+-- Bytes have one sequence of fields by the grammar, with one fault at most, and it is the one that
+-- is read.
+abbrev pub FieldsAreForm : Type 0
+FieldsAreForm = (at : ℕ) (bytes : List ℕ) → IsFields at bytes (fields_of at bytes)
+    × ((other : Fields) → IsFields at bytes other → other ≡ fields_of at bytes)

@@ -4,6 +4,7 @@ pub mod Zigzag
 pub mod Varint
 pub mod Value
 pub mod Field
+pub mod Form
 pub mod Reader
 pub mod Message
 pub mod Whole

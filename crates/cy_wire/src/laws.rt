@@ -1,6 +1,7 @@
-// What holds of the spelling of every number: proved here, and nothing to run.
+// What holds of the spelling of every number, and of the fields of all bytes: proved here, and
+// nothing to run.
 ghost use Rattle.cy_wire.specs.Laws.{ReadsBack, TakesOneToTenBytes, UnzigzagUndoes, ZigzagFits};
-ghost use Rattle.cy_wire.specs.Laws.{NumberReadsBack, BytesReadBack};
+ghost use Rattle.cy_wire.specs.Laws.{NumberReadsBack, BytesReadBack, FieldsAreForm};
 
 /// A number that was written is the one that is read, whatever follows it.
 pub fn reads_back()
@@ -22,4 +23,10 @@ pub fn unzigzag_undoes()
 pub fn fields_read_back()
     ensures number { NumberReadsBack }
     ensures bytes { BytesReadBack }
+{}
+
+/// The fields that are read of bytes, and the fault that ends them, are those that the grammar of
+/// the wire form says, which says no others.
+pub fn fields_are_form()
+    ensures { FieldsAreForm }
 {}
