@@ -24,10 +24,11 @@ use Rattle.cy_reader.specs.declared.known.Known.{Known}
 use Rattle.cy_msg.specs.declared.play_list.PlayList.{PlayList}
 use Rattle.cy_reader.specs.Record.{Contents, Message, named_only}
 use Rattle.cy_reader.proofs.Sums.{none_found}
-use Rattle.cy_reader.specs.declared.filter.Filter.{Filter}
+use Rattle.cy_request.specs.declared.filter.Filter.{Filter}
 use Rattle.cy_reader.specs.declared.play.ChannelUse.{ChannelUse}
 use Rattle.cy_reader.specs.Uses.{AreUses, no_use, use_of, number_by, use_at, passes_by, is_played_by, is_shadowed_by, played_by, shadowed_by}
-use Rattle.cy_reader.specs.Play.{Choice, PlayAnswer, IsOrder, most_played, all_places, chosen, is_played, is_shadowed, lets_time, number_at, places_below, time_at, message_at, token_behind, tokens_behind, number_in, name_of, AreNamed}
+use Rattle.cy_request.specs.Filter.{lets_time}
+use Rattle.cy_reader.specs.Play.{Choice, PlayAnswer, IsOrder, most_played, all_places, chosen, is_played, is_shadowed, number_at, places_below, time_at, message_at, token_behind, tokens_behind, number_in, name_of, AreNamed}
 
 -- tests that agree on each element
 pub filter_alike : {X : Type 0} (p q : X → Bool) (xs : List X) → All (λ x. p x ≡ q x) xs → filter p xs ≡ filter q xs

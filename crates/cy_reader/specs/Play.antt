@@ -9,7 +9,8 @@ use Rattle.std.specs.Str.{bytes_eq}
 use Rattle.cy_wire.specs.Whole.{whole_value}
 use Rattle.cy_msg.specs.declared.token.Token.{Token}
 use Rattle.cy_msg.specs.declared.play_list.PlayList.{PlayList}
-use Rattle.cy_reader.specs.declared.filter.Filter.{Filter}
+use Rattle.cy_request.specs.declared.filter.Filter.{Filter}
+use Rattle.cy_request.specs.Filter.{lets_channel, lets_time}
 use Rattle.cy_reader.specs.declared.error.LoadError.{LoadError}
 use Rattle.cy_reader.specs.declared.error.LoadError.TheVariants.{TooManyPlayed, Memory}
 use Rattle.cy_reader.specs.Record.{Contents, Message, named_only}
@@ -28,21 +29,6 @@ pub record Choice : Type 0 where
 -- The number of a name.
 abbrev pub number_in : List (List ℕ) → List ℕ → ℕ
 number_in names name = unwrap_or (position (λ kept. bytes_eq kept name) names) 0
-
-abbrev pub is_among : List (List ℕ) → List ℕ → Bool
-is_among names name = list_any (λ one. bytes_eq one name) names
-
--- A filter lets a channel through that it doesn't drop, where it names channels only one of these.
-abbrev pub is_wanted : Option (List (List ℕ)) → List ℕ → Bool
-is_wanted None name = true
-is_wanted (Some only) name = is_among only name
-
-abbrev pub lets_channel : Filter → List ℕ → Bool
-lets_channel f name = is_wanted f.only name && not (is_among f.drop name)
-
--- And a time from its begin to its end, both included.
-abbrev pub lets_time : Filter → ℕ → Bool
-lets_time f time = nat_le f.begin time && nat_le time f.end
 
 -- The message at a place among those of the record, and the name of a channel of the record.
 abbrev pub message_at : Contents → ℕ → Message

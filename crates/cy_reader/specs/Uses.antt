@@ -4,10 +4,11 @@ use Rattle.std.specs.Prelude.{length, filter, slice_index_or}
 use Rattle.std.specs.List.{list_any}
 use Rattle.std.specs.List.Sorted.{IsSortedByKey, IsStableByKey}
 use Rattle.std.specs.Ordering.{nat_cmp}
-use Rattle.cy_reader.specs.declared.filter.Filter.{Filter}
+use Rattle.cy_request.specs.declared.filter.Filter.{Filter}
 use Rattle.cy_reader.specs.declared.play.ChannelUse.{ChannelUse}
 use Rattle.cy_reader.specs.Record.{Contents}
-use Rattle.cy_reader.specs.Play.{Choice, number_in, name_of, lets_channel, lets_time, message_at}
+use Rattle.cy_request.specs.Filter.{lets_channel, lets_time}
+use Rattle.cy_reader.specs.Play.{Choice, number_in, name_of, message_at}
 use Rattle.cy_reader.specs.Play.{time_at}
 
 -- The use of a channel's name, and those of all channels.

@@ -7,10 +7,10 @@
 //! says is read back.
 #![tactic(auto)]
 
+mod channel_set;
 mod channels;
 mod error;
 mod facts;
-mod filter;
 mod header;
 mod heads;
 mod info;
@@ -21,9 +21,9 @@ mod play;
 mod record;
 mod sections;
 
+pub use channel_set::ChannelSet;
 pub use error::LoadError;
 pub use facts::{Counted, IndexFound};
-pub use filter::{ChannelSet, Filter};
 pub use heads::PlacedHead;
 pub use known::Known;
 pub use laws::records_read_back;

@@ -20,7 +20,7 @@ use Rattle.std.specs.List.{flat_map}
 use Rattle.cy_dag.specs.declared.config.Config.{Config}
 use Rattle.cy_dag.specs.declared.dag.DagComponent.{DagComponent}
 use Rattle.cy_dag.specs.declared.error.DagError.{DagError}
-use Rattle.cy_reader.specs.declared.filter.Filter.{Filter}
+use Rattle.cy_request.specs.declared.filter.Filter.{Filter}
 use Rattle.cy_reader.specs.declared.known.Known.{Known}
 use Rattle.cy_reader.specs.Record.{Contents, named_only}
 use Rattle.cy_reader.specs.Play.{Choice, PlayAnswer, IsPlayList, AreNamed, chosen, most_played}
@@ -40,7 +40,8 @@ use Rattle.cy_replay.specs.Configuration.{Configured, configuration_in}
 use Rattle.cy_replay.specs.Faults.{in_file, unless}
 use Rattle.cy_replay.specs.Listing.{AreCounts, record_in, channels_of, choice_of, counts_of, played_in, planned_in}
 use Rattle.cy_replay.specs.Passing.{passing, type_read}
-use Rattle.cy_replay.specs.Setup.{Components, Request, Replayed, OfFiles, OfPass, IsAsked, IsAskedBy, IsSetUp, judged_in, configured_in, passed_in, replay_through, replay_in, replayed}
+use Rattle.cy_request.specs.Request.{Components, Request, OfFiles, OfPass}
+use Rattle.cy_replay.specs.Setup.{Replayed, IsAsked, IsAskedBy, IsSetUp, judged_in, configured_in, passed_in, replay_through, replay_in, replayed}
 use Rattle.cy_replay.specs.Steps.{configured}
 use Rattle.cy_replay.specs.Wiring.{Wired, wired_by, wired_of, wiring_in}
 use Rattle.cy_replay.proofs.Coming.{then, comes_err, comes_then}

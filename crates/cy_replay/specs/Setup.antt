@@ -5,7 +5,8 @@ use Rattle.cy_store.specs.Reads.{Reads, Accepts, ◌>>=◌}
 use Rattle.cy_msg.specs.Once.{IsOnce}
 use Rattle.cy_msg.specs.Placement.{scan_of}
 use Rattle.cy_sched.specs.Placing.{IsPlaced}
-use Rattle.cy_reader.specs.declared.filter.Filter.{Filter}
+use Rattle.cy_request.specs.declared.filter.Filter.{Filter}
+use Rattle.cy_request.specs.Request.{Components, OfFiles, OfPass, Request}
 use Rattle.cy_reader.specs.Record.{Contents}
 use Rattle.cy_reader.specs.Play.{IsPlayList}
 use Rattle.wake_core.specs.Plain.{opening_world}
@@ -14,9 +15,6 @@ use Rattle.wake_core.specs.Rest.{MayPlay}
 use Rattle.wake_core.specs.Run.{routes_of}
 use Rattle.wake_core.specs.declared.entries.TheConstants.{MOST_PLANNED}
 use Rattle.cy_replay.specs.declared.error.Refusal.{Refusal}
-use Rattle.cy_replay.specs.declared.setup.Components as code
-use Rattle.cy_replay.specs.declared.setup.Components.TheVariants as named
-use Rattle.cy_replay.specs.declared.setup.Request as code_request
 use Rattle.cy_replay.specs.declared.setup.Replay.{Replay}
 use Rattle.cy_replay.specs.Configuration as files
 use Rattle.cy_replay.specs.Configuration.{Configured, configuration_in}
@@ -25,24 +23,6 @@ use Rattle.cy_replay.specs.Listing.{planned_in}
 use Rattle.cy_replay.specs.Passing.{passing, type_read}
 use Rattle.cy_replay.specs.Steps.{configured}
 use Rattle.cy_replay.specs.Wiring.{Wired, wired_by, wiring_in}
-
--- Through which components a record is replayed: those of a DAG file, placed by a scheduler file,
--- where one is given; or one that passes the messages of a channel on to another.
-pub data Components : Type 0 where
-  OfFiles : (dag : List ℕ) (sched : Option (List ℕ)) → Components
-  OfPass : (from to : List ℕ) → Components
-
--- The channel that one component reads has a name.
-abbrev pub HasReader : Components → Type 0
-HasReader (OfFiles dag sched) = ⊤
-HasReader (OfPass from to) = 1 ≤ length from
-
--- What a replay is set up from: its components, the name of its record, and which messages are let
--- through.
-pub record Request : Type 0 where
-  pub components : Components
-  pub input : List ℕ
-  pub filter : Filter
 
 -- What these files come to: what they say, the record's channels and messages, and the wiring of
 -- the components over the channels.
@@ -92,18 +72,7 @@ IsAskedBy (OfPass from to) input told file = file ≡ input
 abbrev pub IsAsked : Request → Option Files → List ℕ → Type 0
 IsAsked r told file = IsAskedBy r.components r.input told file
 
--- What the code's types stand for.
-abbrev pub components_of : code.Components → Components
-components_of (named.Files dag sched) = OfFiles dag.now (option_map (λ name. name.now) sched)
-components_of (named.Pass from to) = OfPass from.now to.now
-
-abbrev pub request_of : code_request.Request → Request
-request_of r = record {
-  components = components_of r.components;
-  input = r.input.now;
-  filter = r.filter.now;
-}
-
+-- What the code's type stands for.
 abbrev pub replayed : Replay → Replayed
 replayed x = record {
   configured = configured x.configuration;

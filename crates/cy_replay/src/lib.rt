@@ -25,6 +25,6 @@ pub use passing::pass_is_wired;
 pub use played::Played;
 pub use read::read_configuration;
 pub use recording::{played_places_are_there, tape_record_is_its_text, write_record};
-pub use setup::{Components, Replay, Request, set_up};
+pub use setup::{Replay, set_up};
 pub use text::LONGEST_CONFIG;
 pub use wiring::{place_components, wire_components};

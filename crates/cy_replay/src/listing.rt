@@ -9,7 +9,8 @@ use crate::SetupError;
 use crate::error::record_fault;
 use cy_comp::Wiring;
 use cy_msg::{PlayList, Text};
-use cy_reader::{ChannelSet, Filter, Record, load};
+use cy_reader::{ChannelSet, Record, load};
+use cy_request::Filter;
 use cy_store::Store;
 use std::alloc::Global;
 

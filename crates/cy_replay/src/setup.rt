@@ -2,9 +2,9 @@
 ghost use Rattle.std.specs.Prelude.{◌≡◌, ◌≤◌, length, option_map, IfOk};
 ghost use Rattle.cy_sched.specs.SchedFile.{IsPlaceable};
 ghost use Rattle.cy_replay.specs.Comes.{ComesTo, IsJudged};
-ghost use Rattle.cy_replay.specs.Setup.{IsAsked, IsAskedBy, IsSetUp, HasReader, OfFiles, OfPass};
+ghost use Rattle.cy_request.specs.Request.{HasReader, OfFiles, OfPass, request_of};
+ghost use Rattle.cy_replay.specs.Setup.{IsAsked, IsAskedBy, IsSetUp};
 ghost use Rattle.cy_replay.specs.Setup.{configured_in, judged_in, passed_in, replay_in, replayed};
-ghost use Rattle.cy_replay.specs.Setup.{request_of};
 ghost use Rattle.cy_replay.specs.Judged.{judged_as, replay_of};
 ghost use Rattle.cy_replay.specs.Listing.{channels_of};
 ghost use Rattle.cy_replay.specs.Steps.{configured};
@@ -16,39 +16,10 @@ use crate::passing::pass_configuration;
 use crate::{Configuration, SetupError, place_components, read_configuration, wire_components};
 use cy_comp::Wiring;
 use cy_msg::{Items, Placement, PlayList};
-use cy_reader::{Filter, Record};
+use cy_reader::Record;
+use cy_request::{Components, Request};
 use cy_store::Store;
 use std::alloc::Global;
-
-/// Through which components a record is replayed.
-#[derive(Clone, Copy)]
-pub enum Components<'a> {
-    /// Those of configuration files.
-    Files {
-        /// The DAG file.
-        dag: &'a str,
-        /// The scheduler file, where one is given.
-        sched: Option<&'a str>,
-    },
-    /// One that passes the messages of a channel on to another.
-    Pass {
-        /// The channel that it reads.
-        from: &'a str,
-        /// The channel that it writes.
-        to: &'a str,
-    },
-}
-
-/// What a replay is set up from: its components, its record, and which messages are played.
-#[derive(Clone, Copy)]
-pub struct Request<'a> {
-    /// The components, or the files that name them.
-    pub components: Components<'a>,
-    /// The record.
-    pub input: &'a str,
-    /// Which of its messages are let through.
-    pub filter: &'a Filter,
-}
 
 /// A replay that is set up: all that a run needs.
 #[derive(Drop)]

@@ -4,7 +4,7 @@ use Rattle.std.proofs.Common.{option_map, bytes_eq}
 use Rattle.std.specs.Prelude.{nat_lt, IfSome, IsSome}
 use Rattle.clap.specs.Walk.{Text}
 use Rattle.clap.proofs.WalkLemmas.{both}
-use Rattle.cy_replay.specs.Setup.{HasReader}
+use Rattle.cy_request.specs.Request.{HasReader}
 use Rattle.cy_words.specs.declared.words.Command as code
 use Rattle.cy_words.specs.declared.words.Command.TheVariants as asked
 use Rattle.cy_words.specs.Command.{Asks}

@@ -2,8 +2,8 @@
 use Rattle.std.specs.Prelude.{ℕ, ◌-◌, ◌^◌, ◌&&◌, not, if◌then◌else◌, true, List, [], ◌∷◌}
 use Rattle.std.specs.Prelude.{Option, None}
 use Rattle.std.specs.Str.{bytes_eq}
-use Rattle.cy_reader.specs.declared.filter.Filter.{Filter}
-use Rattle.cy_replay.specs.Setup.{OfPass}
+use Rattle.cy_request.specs.declared.filter.Filter.{Filter}
+use Rattle.cy_request.specs.Request.{OfPass}
 use Rattle.cy_words.specs.PlayWords.{PlayWords, where_play}
 use Rattle.cy_words.specs.Words.{is_word}
 

@@ -1,6 +1,6 @@
 -- What the types stand for in which the code keeps the words of `play`.
 use Rattle.std.specs.Prelude.{[], option_map, unwrap_or}
-use Rattle.cy_replay.specs.Setup.{components_of}
+use Rattle.cy_request.specs.Request.{components_of}
 use Rattle.cy_words.specs.declared.play_words.Play.{Play}
 use Rattle.cy_words.specs.declared.options.Options as code
 use Rattle.cy_words.specs.declared.options.Reading as reading

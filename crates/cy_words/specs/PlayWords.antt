@@ -5,7 +5,7 @@ use Rattle.std.specs.Prelude.{unwrap_or}
 use Rattle.std.specs.List.{list_all, slice_split}
 use Rattle.std.specs.Option.{option_map}
 use Rattle.std.specs.Str.{bytes_eq}
-use Rattle.cy_replay.specs.Setup.{Components, OfFiles, OfPass, Request}
+use Rattle.cy_request.specs.Request.{Components, OfFiles, OfPass, Request}
 use Rattle.cy_words.specs.Options.{Options, AreOptions}
 
 -- What is asked of a play: what is replayed, the names of the record and of the trace that are

@@ -10,7 +10,7 @@ use crate::play_words::Play;
 use crate::words::names_something;
 use clap::ArgMatches;
 use cy_msg::Text;
-use cy_replay::Components;
+use cy_request::Components;
 
 impl<'a> Play<'a> {
     // A serial play that passes messages on from one channel to another, where its names are in

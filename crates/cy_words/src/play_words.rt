@@ -1,6 +1,6 @@
 // The words of `play`.
 ghost use Rattle.std.specs.Prelude.{◌≡◌, option_map};
-ghost use Rattle.cy_replay.specs.Setup.{components_of};
+ghost use Rattle.cy_request.specs.Request.{components_of};
 ghost use Rattle.clap.specs.Words.{found_of, rows_of};
 ghost use Rattle.cy_words.specs.Kept.{IsFlag, flag_kept, play_in};
 ghost use Rattle.cy_words.specs.PlayWords.{with_digit, number_of, number_or, is_list};
@@ -13,7 +13,7 @@ ghost use Rattle.cy_words.specs.Scan.{play_of};
 use crate::options::{Options, options_met};
 use clap::ArgMatches;
 use cy_msg::Text;
-use cy_replay::Components;
+use cy_request::Components;
 
 /// What is asked of a play: its components, names of files, and which messages are let through.
 #[derive(Clone, Copy)]

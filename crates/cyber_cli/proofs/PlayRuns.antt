@@ -1,7 +1,7 @@
 -- A replay that was played, and what is told of it.
 use Rattle.std.proofs.Common.{ℕ, zero, suc, Bool, true, false, ◌+◌, ◌*◌, ◌≡◌, ◌≤◌, ◌<◌, None, List, [], ◌∷◌, length, drop, refl, sym, ap, subst, ◌∙◌, arith}
 use Rattle.cy_msg.specs.Placement.{scan_of}
-use Rattle.cy_reader.specs.declared.filter.Filter.{Filter}
+use Rattle.cy_request.specs.declared.filter.Filter.{Filter}
 use Rattle.cy_comp.specs.declared.plan.Plan.{Plan}
 use Rattle.wake_core.specs.Bounds.{PlaceLaws}
 use Rattle.wake_core.specs.LawfulRun.{LawfulRun, Quiet}

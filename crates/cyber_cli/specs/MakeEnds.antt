@@ -2,7 +2,8 @@
 use Rattle.std.specs.Prelude.{ℕ, ◌≡◌, ◌++◌, true, List, None, codes}
 use Rattle.cy_store.specs.Reads.{Accepts}
 use Rattle.cy_replay.specs.declared.setup.Replay.{Replay}
-use Rattle.cy_replay.specs.Setup.{IsSetUp, OfFiles, replayed}
+use Rattle.cy_request.specs.Request.{OfFiles}
+use Rattle.cy_replay.specs.Setup.{IsSetUp, replayed}
 use Rattle.cy_make.specs.declared.config.Config.TheVariants.{Dag}
 use Rattle.cy_make.specs.declared.error.MakeError.{MakeError}
 use Rattle.cy_make.specs.declared.error.MakeError.TheVariants as make_error

@@ -8,7 +8,7 @@ use Rattle.cy_make.specs.declared.config.Config.TheVariants.{Dag}
 use Rattle.cy_make.specs.Messages.{channels_of, messages_to}
 use Rattle.cy_make.specs.Texts.{suffix_of}
 use Rattle.cy_make.specs.Inputs.{record_name, made_record, input_writes, with_inputs}
-use Rattle.cy_replay.specs.Setup.{OfFiles}
+use Rattle.cy_request.specs.Request.{OfFiles}
 use Rattle.cyber_cli.specs.Work.{Work}
 use Rattle.cy_words.specs.MakeWords.{MakeWords}
 use Rattle.cy_words.specs.PassWords.{all_messages}

@@ -12,7 +12,8 @@ ghost use Rattle.wake_core.specs.Run.{routes_of};
 ghost use Rattle.wake_core.specs.WorldOf.{plain_of};
 ghost use Rattle.cy_trace.specs.TraceText.{trace_text as text_of};
 ghost use Rattle.cy_replay.specs.Comes.{ComesTo};
-ghost use Rattle.cy_replay.specs.Setup.{HasReader, IsAsked, IsSetUp, replayed};
+ghost use Rattle.cy_request.specs.Request.{HasReader};
+ghost use Rattle.cy_replay.specs.Setup.{IsAsked, IsSetUp, replayed};
 ghost use Rattle.cyber_cli.specs.declared.failure.File.{File};
 ghost use Rattle.cy_words.specs.Command as command;
 ghost use Rattle.cyber_cli.specs.Due.{IsDueFor};
@@ -32,10 +33,8 @@ use crate::status::Status;
 use crate::summary::done_line;
 use cy_comp::{Call, Plan};
 use cy_msg::{Bytes, Items, Text};
-use cy_reader::Filter;
-use cy_replay::{
-    Played, Replay, Request, SetupError, played_places_are_there, set_up, write_record,
-};
+use cy_replay::{Played, Replay, SetupError, played_places_are_there, set_up, write_record};
+use cy_request::{Filter, Request};
 use cy_store::Store;
 use cy_trace::{TraceError, trace_is_read_back, trace_text};
 use cy_words::Play;

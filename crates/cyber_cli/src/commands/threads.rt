@@ -1,7 +1,8 @@
 // The command `play` on threads.
 ghost use Rattle.std.specs.Prelude.{◌≡◌, false, IfOk, IsOkUnless};
 ghost use Rattle.wake_core.specs.WorldOf.{plain_of};
-ghost use Rattle.cy_replay.specs.Setup.{HasReader, IsSetUp};
+ghost use Rattle.cy_request.specs.Request.{HasReader};
+ghost use Rattle.cy_replay.specs.Setup.{IsSetUp};
 ghost use Rattle.cy_words.specs.Command as command;
 ghost use Rattle.cyber_cli.specs.Due.{IsDueFor};
 ghost use Rattle.cyber_cli.specs.Line.{bytes_of_line};

@@ -1,6 +1,7 @@
 // The messages of a record that are played.
 use cy_msg::{Items, Names, NamesError, PlayList, Text, Token};
-use cy_reader::{ChannelSet, Filter, Record, load};
+use cy_reader::{ChannelSet, Record, load};
+use cy_request::Filter;
 use cy_store::{MemStore, Store};
 use std::alloc::Global;
 use std::test::Fail;
