@@ -26,20 +26,21 @@ def without_comments(text):
 
 
 def types_of(crate):
-    """The public types that a crate gives: each one's name, and its text."""
+    """The public types that a crate gives, each with its text, and the names of those that its calls answer as errors."""
     sources = [without_comments(path.read_text(encoding="utf-8")) for path in sorted((crate / "src").rglob("*.rt"))]
     lib = (crate / "src" / "lib.rt").read_text(encoding="utf-8")
     given = set(re.findall(r"\w+", " ".join(re.findall(r"^pub use [^;]+;", lib, re.MULTILINE))))
     form = r"^pub (?:enum|struct) (\w+)[^{;\n]*(\{\n.*?^\}|;)"
     types = {name: text for source in sources for name, text in re.findall(form, source, re.MULTILINE | re.DOTALL) if name in given}
     answered = {name for source in sources for name in re.findall(r"-> Result<.*, (\w+)>", source)}
+    answered |= {name for name in types if name.endswith(("Error", "Fault", "Refusal"))}
     return types, answered | ({STATUSES[1]} if crate.name == STATUSES[0] else set())
 
 
 def errors_of(crate):
     """The types that the crate's public calls answer as errors, and those that stand in them."""
-    types, opened = types_of(crate)
-    found, opened = {}, [name for name in opened if name in types]
+    types, answered = types_of(crate)
+    found, opened = {}, [name for name in answered if name in types]
     while opened:
         name = opened.pop()
         if name not in found:
@@ -86,8 +87,8 @@ def items_of(source):
     return dict(functions + constants), {name for name, _ in constants}
 
 
-def texts_of_unit(path, test, is_named):
-    """The texts of a test and of what it uses in its file; but of functions that tell this refusal from others, which meet none."""
+def texts_of_unit(path, test, names_another):
+    """The texts of a test and of what it uses in its file; but for functions that name another refusal, which tell it from others."""
     items, constants = items_of(without_comments(path.read_text(encoding="utf-8")))
     used, opened = set(), [test] if test in items else []
     while opened:
@@ -95,7 +96,7 @@ def texts_of_unit(path, test, is_named):
         if name not in used:
             used.add(name)
             opened += [word for word in re.findall(r"\w+", items[name]) if word in items]
-    return [items[name] for name in used if name == test or name in constants or not is_named(items[name])]
+    return [items[name] for name in used if name == test or name in constants or not names_another(items[name])]
 
 
 def texts_of_program(test):

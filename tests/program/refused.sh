@@ -62,6 +62,19 @@ index absent
 channel \"/a\" messages $3 type \"\""
 }
 
+# The scheduler file is as long as may be: spaces stand behind its text.
+checks_the_longest_file() {
+  begin 'checks a configuration file that is as long as may be'
+  one_component PassComponent "$READS_A" 'out: "/o"'
+  (cd files && eval "$A_SCHED" && printf '%*s' $((16777216 - $(stat -c %s s.sched))) '' >>s.sched)
+  [ "$(stat -c %s files/s.sched)" = 16777216 ]
+  count $? "$name: it has $(stat -c %s files/s.sched) bytes"
+  run check --dag d.dag --sched s.sched
+  prints 'component "p" class PassComponent reads "/a" queue 1 writes "/o"
+context "g" processors 1 order "p"
+ok'
+}
+
 # A command that writes a DAG of these modules.
 write_dag() { # what each of them has
   echo "echo '$(printf 'module_config { %s } ' "$@")' >d.dag"
@@ -76,6 +89,7 @@ tells_no_record 'channels that are too long' 5 'limit ChannelsTooLarge passed: 2
   "python3 '$top/tests/large.py' in.rec channel 268435457"
 tells_of_the_largest content 268437554 1 1
 tells_of_the_largest channel 268437543 0 0
+checks_the_longest_file
 
 refuses_a_replay 'more channels than have names' 5 'd.dag: limit TooManyChannels passed: 1025' \
   "$A_SCHED; $(write_record '[(b"/%d" % k, 1, number(1, 2)) for k in range(1023)]' '{}')"

@@ -38,6 +38,8 @@ fn goes_round<S: Store>(
 ) -> Result<(), StoreError> {
     assert_eq!(rt; store.size(name), Err(StoreError::Failed));
     assert_eq!(rt; put(store, name, 0, b"a"), Err(StoreError::Failed));
+    let mut buf = [0u8; 1];
+    assert_eq!(rt; store.read_at(name, 0, &mut buf), Err(StoreError::Failed));
     store.create(name)?;
     put(store, name, 0, b"abcdef")?;
     put(store, name, 4, b"EFGH")?;
