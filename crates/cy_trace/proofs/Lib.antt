@@ -1,5 +1,6 @@
 pub mod CutLaws
 pub mod Prefixes
+pub mod Pushed
 pub mod LineLaws
 pub mod NameLaws
 pub mod NumeralLaws

@@ -6,7 +6,7 @@ use cy_msg::NamesError;
 use std::alloc::{AllocError, AllocFailed};
 
 /// What reading a part of a line may answer in place of a value.
-#[derive(Clone, Copy, Debug, PartialEq, Eq)]
+#[derive(Clone, Copy)]
 pub(crate) enum Fault {
     /// It is outside the form.
     Bad,

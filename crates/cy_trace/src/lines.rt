@@ -207,6 +207,15 @@ fn push_roles(to: &mut Vec<u8>, arrivals: &[(u8, Token)]) -> Result<(), AllocErr
     if arrivals.is_empty() {
         return to.extend_from_slice(b"-");
     }
+    push_digits(to, arrivals)
+}
+
+// The digits alone, none where there is no arrival.
+fn push_digits(to: &mut Vec<u8>, arrivals: &[(u8, Token)]) -> Result<(), AllocError>
+    requires { (n : ℕ) (a : Arrival) → slice_get arrivals.now n ≡ Some a → a.0 < 10 }
+    ensures { OnOk result (to.new.items ≡ to.old.items
+        ++ map (λ (a : Arrival). 48 + a.0) arrivals.now) }
+{
     to.reserve(arrivals.len())?;
     for (role, _) in arrivals {
         to.push(b'0' + *role)?;

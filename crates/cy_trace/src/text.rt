@@ -7,7 +7,7 @@ ghost use Rattle.wake_core.specs.Rest.{run_shown};
 ghost use Rattle.wake_core.specs.declared.entries.TheConstants.{MOST_PLANNED};
 ghost use Rattle.wake_core.specs.Planned.{planned};
 ghost use Rattle.cy_trace.specs.TraceForm.{IsTraceText};
-ghost use Rattle.cy_trace.specs.TraceText.{components_text, trace_text as text_of};
+ghost use Rattle.cy_trace.specs.TraceText.{component_text, components_text, trace_text as text_of};
 
 use crate::TraceError;
 use crate::lines::{push_component, push_head, push_tape_lines};
@@ -76,15 +76,29 @@ fn push_components(to: &mut Vec<u8>, world: &World, plans: &[Plan]) -> Result<()
         (run_shown (plain_of world.now)) 0 plans.now) }
 {
     for (place, plan) in plans.iter().enumerate() {
-        let component = place as u32;
-        push_component(
-            to,
-            plan,
-            world.arrivals(component),
-            calls_of(world, component),
-        )?;
+        push_numbered(to, world, plan, place as u32)?;
     }
     Ok(())
+}
+
+// The component of a number.
+fn push_numbered(
+    to: &mut Vec<u8>,
+    world: &World,
+    plan: &Plan,
+    component: u32,
+) -> Result<(), AllocError>
+    requires quiet { Quiet (plain_of world.now) }
+    requires known { component < length (plain_of world.now).routes }
+    ensures { OnOk result (to.new.items ≡ to.old.items ++ component_text plan.now
+        ((plain_of world.now).arrivals component) ((plain_of world.now).calls component)) }
+{
+    push_component(
+        to,
+        plan,
+        world.arrivals(component),
+        calls_of(world, component),
+    )
 }
 
 // The calls of a component: where nobody holds a croutine, none is still to be stepped.

@@ -2,7 +2,7 @@
 use cy_msg::{Items, Text};
 
 /// What a call put out.
-#[derive(Clone, Copy, Debug, PartialEq, Eq)]
+#[derive(Clone, Copy, PartialEq, Eq)]
 pub struct TraceOutput {
     /// Its number among the outputs of its component.
     pub seq: u32,
@@ -39,7 +39,7 @@ pub struct TraceComponent {
 }
 
 /// A message of the tape.
-#[derive(Debug, Drop)]
+#[derive(Drop)]
 pub struct TapeEntry {
     /// The name of its channel.
     pub name: Text,

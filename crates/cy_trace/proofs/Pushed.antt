@@ -1,0 +1,47 @@
+-- Parts of a trace that are pushed one behind another.
+use Rattle.std.proofs.Common.{ℕ, ◌+◌, ◌<◌, ◌≤◌, ◌≡◌, ◌∙◌, ap, sym, List, [], ◌∷◌, ◌++◌, length, map, take, drop, get_or, None, arith, append_assoc, append-nil}
+use Rattle.std.proofs.lemmas.List.{take_more, drop_more, drop_all, map-append, length-map}
+use Rattle.cy_fuse.specs.Fusion.{Arrival}
+use Rattle.cy_comp.specs.declared.plan.Plan.{Plan}
+use Rattle.wake_core.specs.Run.{Run, route_of, routes_of}
+use Rattle.wake_core.specs.declared.route.Route.{Route}
+use Rattle.cy_trace.specs.TraceText.{component_text, components_text}
+
+abbrev digit : Arrival → ℕ
+digit a = 48 + a.0
+
+-- one role more
+pub role_added : (arrivals : List Arrival) (n : ℕ) (d : Arrival) (to old new : List ℕ) → n < length arrivals → to ≡ old ++ map (λ (a : Arrival). 48 + a.0) (take n arrivals) → new ≡ to ++ (48 + (get_or arrivals n d).0) ∷ []
+    → new ≡ old ++ map (λ (a : Arrival). 48 + a.0) (take (n + 1) arrivals)
+role_added arrivals n d to old new inside so is =
+    let here = digit (get_or arrivals n d) ∷ [] in
+    is ∙ ap (λ (l : List ℕ). l ++ here) so
+    ∙ append_assoc old (map digit (take n arrivals)) here
+    ∙ ap (λ (l : List ℕ). old ++ l) (sym (map-append digit (take n arrivals) (get_or arrivals n d ∷ [])))
+    ∙ ap (λ (l : List Arrival). old ++ map digit l) (sym (take_more arrivals n d inside))
+
+-- what a place has that is not there
+abbrev pub no_arrival : Arrival
+no_arrival = (0, record { channel = 0; seq = 0; time = 0; whole = None; origin = None })
+
+-- one component more
+pub component_added : (w : Run) (plans : List Plan) (n : ℕ) (p : Plan) (to new whole : List ℕ) → n < length plans → p ≡ get_or plans n p → to ++ components_text w n (drop n plans) ≡ whole → new ≡ to ++ component_text p (w.arrivals n) (w.calls n)
+    → new ++ components_text w (n + 1) (drop (n + 1) plans) ≡ whole
+component_added w plans n p to new whole inside read so is =
+    let rest = drop (n + 1) plans in
+    ap (λ (l : List ℕ). l ++ components_text w (n + 1) rest) is
+    ∙ append_assoc to (component_text p (w.arrivals n) (w.calls n)) (components_text w (n + 1) rest)
+    ∙ ap (λ (q : Plan). to ++ components_text w n (q ∷ rest)) read
+    ∙ ap (λ (l : List Plan). to ++ components_text w n l) (sym (drop_more plans n p inside))
+    ∙ so
+
+-- and none is left
+pub components_end : (w : Run) (plans : List Plan) (n : ℕ) (to whole : List ℕ) → length plans ≤ n → to ++ components_text w n (drop n plans) ≡ whole → to ≡ whole
+components_end w plans n to whole end so = sym (ap (λ (l : List Plan). to ++ components_text w n l) (drop_all n plans end) ∙ append-nil to) ∙ so
+
+-- a wiring's components are those of its world
+pub component_known : (plans : List Plan) (routes : List Route) (n : ℕ) → routes ≡ routes_of plans → n < length plans → n < length routes
+component_known plans routes n is inside =
+    let many = length-map plans route_of in
+    let same : length routes ≡ length (routes_of plans) = ap (λ (l : List Route). length l) is in
+    omega (arith, many, same, inside)
