@@ -6,6 +6,7 @@ pub mod PairSteps
 pub mod Queues
 pub mod ReadFacts
 pub mod Repeats
+pub mod Tested
 pub mod TriggerCycles
 pub mod TriggerSteps
 pub mod WiringFacts
