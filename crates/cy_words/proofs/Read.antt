@@ -1,5 +1,5 @@
 -- Words that have a form are read as the command that they ask for, and others ask for none.
-use Rattle.std.proofs.Common.{◌≡◌, ◌<◌, ◌==◌, ◌&&◌, ℕ, List, [], ◌∷◌, Bool, true, false, not, Option, Some, None, is_some, if◌then◌else◌, refl, sym, ap, ap₂, ◌∙◌, subst, inl, inr, true≢false, arith}
+use Rattle.std.proofs.Common.{◌≡◌, ◌<◌, ◌==◌, ◌&&◌, ◌||◌, ℕ, List, [], ◌∷◌, Bool, true, false, not, Option, Some, None, is_some, if◌then◌else◌, refl, sym, ap, ap₂, ◌∙◌, subst, inl, inr, true≢false, arith}
 use Rattle.std.proofs.Common.{codes, get_or, length, option_map, bytes_eq}
 use Rattle.std.specs.Borrow.{Bor}
 use Rattle.std.specs.Prelude.{nat_le, nat_lt}
@@ -270,7 +270,9 @@ no_digit rest b e =
 no_count : (count : Text) → is_word count ≡ false → count_of count ≡ None
 unfolding number_of
 no_count [] e = refl
-no_count (b ∷ rest) e = by (nat_lt 20 (length (b ∷ rest))) (b == 45) refl refl
+no_count (b ∷ rest) e =
+    let some : (length (b ∷ rest) == 0) ≡ false = grind arith in
+    ap (λ (x : Bool). (if x || nat_lt 20 (length (b ∷ rest)) then None else digits_from 0 (b ∷ rest)) >>= where_made) some ∙ by (nat_lt 20 (length (b ∷ rest))) (b == 45) refl refl
   where
     by : (t u : Bool) → nat_lt 20 (length (b ∷ rest)) ≡ t → (b == 45) ≡ u → ((if nat_lt 20 (length (b ∷ rest)) then None else digits_from 0 (b ∷ rest)) >>= where_made) ≡ None
     by true u is hyphen = ap (λ (x : Bool). (if x then None else digits_from 0 (b ∷ rest)) >>= where_made) is
