@@ -587,6 +587,9 @@ refuses_a_play --serial --channels=
 refuses_a_play --serial --channels /a,,/b
 refuses_a_play --serial --drop /a,
 refuses_a_play --serial --begin 1x
+refuses_a_play --serial --begin=
+refuses_a_play --serial --begin ''
+refuses_a_play --serial --end=
 refuses_a_play --serial --begin=-1
 refuses_a_play --serial --end 18446744073709551616
 refuses_a_play --serial --end 000000000000000000001

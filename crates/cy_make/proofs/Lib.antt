@@ -3,3 +3,4 @@ pub mod RecordText
 pub mod Writing
 pub mod Leaving
 pub mod Rows
+pub mod Short

@@ -1,5 +1,5 @@
 -- What the configuration files that are made say.
-use Rattle.std.specs.Prelude.{ℕ, List, [], ◌∷◌, ◌++◌, map, codes, Option, Some, None}
+use Rattle.std.specs.Prelude.{ℕ, ◌≤◌, List, [], ◌∷◌, ◌++◌, map, codes, length, Option, Some, None}
 use Rattle.cy_text.specs.declared.tree.Span.{Span}
 use Rattle.cy_text.specs.Fields.{Fields, Held, Nothing, And, Quote, Message}
 use Rattle.cy_text.specs.Printed.{printed}
@@ -77,3 +77,15 @@ text_of prefix Band = codes "out: \"/band\"\nlo: -2000\nhi: 500\n"
 text_of prefix Last8 = codes "out: \"/win\"\nn: 8\n"
 text_of prefix Late = codes "out: \"/late\"\ndelay: 5000000\n"
 text_of prefix Dag = printed (dag_fields prefix)
+
+-- The most bytes that are read of a configuration file, and a length of the prefix with which none
+-- of these texts has more.
+abbrev pub longest_config : ℕ
+longest_config = 16777216
+
+abbrev pub longest_prefix : ℕ
+longest_prefix = 1000000
+
+abbrev pub TextsAreShort : Type 0
+TextsAreShort = (prefix : List ℕ) (c : Config) → length prefix ≤ longest_prefix
+    → length (text_of prefix c) ≤ longest_config

@@ -14,3 +14,5 @@ pub mod TextFits
 pub mod TextParts
 pub mod TextRead
 pub mod TextTold
+pub mod SectionRows
+pub mod Tiled

@@ -1,4 +1,5 @@
 pub mod Sections
+pub mod Tiling
 pub mod Heads
 pub mod Record
 pub mod Found

@@ -1,10 +1,10 @@
 //! Records that are read: the channels and messages of a file, or its first fault or passed limit
 //! with its place.
 //!
-//! `specs/Sections` splits a file into whole sections, and `specs/Record` says what they hold
-//! together. `specs/Play` says which messages are played, and in which order, and `specs/Info` has
-//! the text that tells what a record is. `specs/ReadBack` says that what a record's text
-//! says is read back.
+//! `specs/Tiling` says into which sections a file falls, `specs/Sections` computes them, and
+//! `specs/Record` says what they hold together. `specs/Play` says which messages are played, and in
+//! which order, and `specs/Info` has the text that tells what a record is. `specs/ReadBack` says
+//! that what a record's text says is read back.
 #![tactic(auto)]
 
 mod channel_set;
@@ -26,5 +26,5 @@ pub use error::LoadError;
 pub use facts::{Counted, IndexFound};
 pub use heads::PlacedHead;
 pub use known::Known;
-pub use laws::records_read_back;
+pub use laws::{records_read_back, sections_tile};
 pub use record::{Record, load};

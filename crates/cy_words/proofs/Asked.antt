@@ -5,7 +5,7 @@ use Rattle.std.proofs.lemmas.Slice.Eq.{bytes_eq-Decides}
 use Rattle.cy_words.specs.Command.{Command, Check, Info, Play, Make, AskForOne, Asks, AsksStill, IsAsked, IsOnlyAsked, IsStill}
 use Rattle.cy_words.specs.MakeWords.{make_of}
 use Rattle.cy_words.specs.PassWords.{pass_of}
-use Rattle.cy_words.specs.Scan.{check_of, command_of, play_of, still_command_of, still_one}
+use Rattle.cy_words.specs.Scan.{FindsAsked, check_of, command_of, play_of, still_command_of, still_one}
 use Rattle.cy_words.specs.Words.{info_of}
 use Rattle.cy_words.proofs.OptionsRead.{check_found, check_asked, play_found, play_asked}
 
@@ -114,3 +114,7 @@ still_some words e = by (command_of words) e
     by : (x : Option Command) → is_some (option_and_then still_one x) ≡ true → is_some x ≡ true
     by None e = e
     by (Some c) e = refl
+
+pub finds_asked : FindsAsked
+finds_asked words =
+    ((once (Asks words) (command_of words) (found words) (asks words)).0, (once (AsksStill words) (still_command_of words) (still_one_found words) (still_asks words)).0)

@@ -1,6 +1,6 @@
 -- A command that is asked for is in form.
 use Rattle.std.proofs.Common.{◌≡◌, ◌<◌, ◌≤◌, ◌&&◌, ◌||◌, ℕ, List, [], ◌∷◌, Bool, true, false, not, Option, Some, None, is_some, if◌then◌else◌, refl, sym, ap, ◌∙◌, subst, inl, inr, true≢false, arith}
-use Rattle.std.proofs.Common.{option_map, bytes_eq}
+use Rattle.std.proofs.Common.{option_map, bytes_eq, length}
 use Rattle.std.specs.Prelude.{nat_lt, IfSome, IsSome}
 use Rattle.clap.specs.Walk.{Text}
 use Rattle.clap.proofs.WalkLemmas.{both}
@@ -8,7 +8,7 @@ use Rattle.cy_request.specs.Request.{HasReader}
 use Rattle.cy_words.specs.declared.words.Command as code
 use Rattle.cy_words.specs.declared.words.Command.TheVariants as asked
 use Rattle.cy_words.specs.Command.{Asks}
-use Rattle.cy_words.specs.MakeWords.{MakeWords, count_of, make_of, most_made, where_made}
+use Rattle.cy_words.specs.MakeWords.{MakeWords, count_of, longest_prefix, made_by, make_of, most_made, where_made}
 use Rattle.cy_words.specs.Options.{Options}
 use Rattle.cy_words.specs.PassWords.{pass_of, pass_words}
 use Rattle.cy_words.specs.PlayWords.{PlayWords, asked_by, is_list_or_none, is_play, number_of, number_or, play_words, where_play, ◌>>=◌}
@@ -23,6 +23,10 @@ use Rattle.cy_words.proofs.OptionsRead.{bound, mapped, nothing, some_same}
 guarded : {A : Type 0} (t : Bool) (x : Option A) (a : A) → (if t then x else None) ≡ Some a → (t ≡ true) × (x ≡ Some a)
 guarded true x a e = (refl, e)
 guarded false x a e = absurd (nothing a e)
+
+unguarded : {A : Type 0} (t : Bool) (x : Option A) (a : A) → (if t then None else x) ≡ Some a → (t ≡ false) × (x ≡ Some a)
+unguarded true x a e = absurd (nothing a e)
+unguarded false x a e = (refl, e)
 
 abbrev ReaderOf : PlayWords → Type 0
 ReaderOf w = HasReader w.request.components
@@ -67,8 +71,9 @@ in_range n m e = by (nat_lt n 1) (nat_lt most_made n) refl refl e
 
 make_range : (words : List Text) (w : MakeWords) → make_of words ≡ Some w → (0 < w.count) × (w.count ≤ most_made)
 make_range (count ∷ prefix ∷ []) w e =
-    let g = guarded (is_word prefix) (option_map (λ n. record { count = n; prefix = prefix }) (count_of count)) w e in
-    let m = mapped (count_of count) (λ n. record { count = n; prefix = prefix }) w g.1 in
+    let g = guarded (is_word prefix) (made_by count prefix) w e in
+    let s = unguarded (nat_lt longest_prefix (length prefix)) (option_map (λ n. record { count = n; prefix = prefix }) (count_of count)) w g.1 in
+    let m = mapped (count_of count) (λ n. record { count = n; prefix = prefix }) w s.1 in
     let b = bound (number_of count) where_made m.0 m.1 in
     subst (λ (x : MakeWords). (0 < x.count) × (x.count ≤ most_made)) m.2 (in_range b.0 m.0 b.2)
 make_range words w e = absurd (nothing w e)

@@ -1,5 +1,5 @@
 -- Words that have a form are read as the command that they ask for, and others ask for none.
-use Rattle.std.proofs.Common.{◌≡◌, ◌<◌, ◌==◌, ◌&&◌, ℕ, List, [], ◌∷◌, Bool, true, false, not, Option, Some, None, is_some, if◌then◌else◌, refl, sym, ap, ap₂, ◌∙◌, subst, inl, inr, true≢false, arith}
+use Rattle.std.proofs.Common.{◌≡◌, ◌==◌, ◌&&◌, ◌||◌, ℕ, List, [], ◌∷◌, Bool, true, false, not, Option, Some, None, is_some, if◌then◌else◌, refl, sym, ap, ap₂, ◌∙◌, subst, inl, inr, true≢false, arith}
 use Rattle.std.proofs.Common.{codes, get_or, length, option_map, bytes_eq}
 use Rattle.std.specs.Borrow.{Bor}
 use Rattle.std.specs.Prelude.{nat_le, nat_lt}
@@ -8,8 +8,8 @@ use Rattle.clap.specs.Words.{subcommand_of, takes}
 use Rattle.clap.proofs.WalkLemmas.{both}
 use Rattle.cy_words.specs.CheckWords.{CheckWords}
 use Rattle.cy_words.specs.Command.{Command, Check, Info, Play, Make}
-use Rattle.cy_words.specs.Kept.{IsFlag, asked_in, flag_kept, is_set, made_by, options_in, pass_in}
-use Rattle.cy_words.specs.MakeWords.{MakeWords, count_of, make_of, where_made}
+use Rattle.cy_words.specs.Kept.{IsFlag, asked_in, flag_kept, is_set, options_in, pass_in}
+use Rattle.cy_words.specs.MakeWords.{MakeWords, count_of, longest_prefix, made_by, make_of, where_made}
 use Rattle.cy_words.specs.Options.{Key, Options, value_at, Dag, Sched, Input, Output, Trace, Only, Drop, Begin, End}
 use Rattle.cy_words.specs.PassWords.{pass_of, pass_words}
 use Rattle.cy_words.specs.PlayWords.{PlayWords, asked_by, digits_from, number_of, where_play, ◌>>=◌}
@@ -51,7 +51,7 @@ has_form name words =
 -- ---- by the name of the command
 
 -- a choice by the name
-abbrev by_name : {A : Type 0} → Text → A → A → A → A → A → A → A
+abbrev pub by_name : {A : Type 0} → Text → A → A → A → A → A → A → A
 by_name name pass check info play make other =
     if bytes_eq name (codes "pass") then pass
     else (if bytes_eq name (codes "check") then check
@@ -59,14 +59,14 @@ by_name name pass check info play make other =
     else (if bytes_eq name (codes "play") then play
     else (if bytes_eq name (codes "make") then make else other))))
 
-record IsOther (name : Text) : Type 0 where
-  pass : bytes_eq name (codes "pass") ≡ false
-  check : bytes_eq name (codes "check") ≡ false
-  info : bytes_eq name (codes "info") ≡ false
-  play : bytes_eq name (codes "play") ≡ false
-  make : bytes_eq name (codes "make") ≡ false
+pub record IsOther (name : Text) : Type 0 where
+  pub pass : bytes_eq name (codes "pass") ≡ false
+  pub check : bytes_eq name (codes "check") ≡ false
+  pub info : bytes_eq name (codes "info") ≡ false
+  pub play : bytes_eq name (codes "play") ≡ false
+  pub make : bytes_eq name (codes "make") ≡ false
 
-other_chosen : {A : Type 0} (name : Text) (pass check info play make other : A) → IsOther name → by_name name pass check info play make other ≡ other
+pub other_chosen : {A : Type 0} (name : Text) (pass check info play make other : A) → IsOther name → by_name name pass check info play make other ≡ other
 other_chosen name pass check info play make other o =
     ap (λ (t : Bool). if t then pass else (if bytes_eq name (codes "check") then check else (if bytes_eq name (codes "info") then info
     else (if bytes_eq name (codes "play") then play else (if bytes_eq name (codes "make") then make else other))))) o.pass
@@ -270,7 +270,9 @@ no_digit rest b e =
 no_count : (count : Text) → is_word count ≡ false → count_of count ≡ None
 unfolding number_of
 no_count [] e = refl
-no_count (b ∷ rest) e = by (nat_lt 20 (length (b ∷ rest))) (b == 45) refl refl
+no_count (b ∷ rest) e =
+    let some : (length (b ∷ rest) == 0) ≡ false = grind arith in
+    ap (λ (x : Bool). (if x || nat_lt 20 (length (b ∷ rest)) then None else digits_from 0 (b ∷ rest)) >>= where_made) some ∙ by (nat_lt 20 (length (b ∷ rest))) (b == 45) refl refl
   where
     by : (t u : Bool) → nat_lt 20 (length (b ∷ rest)) ≡ t → (b == 45) ≡ u → ((if nat_lt 20 (length (b ∷ rest)) then None else digits_from 0 (b ∷ rest)) >>= where_made) ≡ None
     by true u is hyphen = ap (λ (x : Bool). (if x then None else digits_from 0 (b ∷ rest)) >>= where_made) is
@@ -280,13 +282,20 @@ no_count (b ∷ rest) e = by (nat_lt 20 (length (b ∷ rest))) (b == 45) refl re
         let short : nat_le (length (b ∷ rest)) longest_word ≡ true = grind arith in
         absurd (true≢false (sym (ap₂ (λ (x y : Bool). not x && y) hyphen short) ∙ e))
 
+neither : (t : Bool) → (if t then None else (let none : Option MakeWords = None in none)) ≡ None
+neither true = refl
+neither false = refl
+
+no_number : (count prefix : Text) → is_word count ≡ false → made_by count prefix ≡ None
+no_number count prefix other =
+    ap (λ (x : Option ℕ). if nat_lt longest_prefix (length prefix) then None else option_map (λ n. made_words n prefix) x) (no_count count other) ∙ neither (nat_lt longest_prefix (length prefix))
+
 no_make : (words : List Text) → is_make words ≡ false → make_of words ≡ None
 no_make (count ∷ prefix ∷ []) e = by (is_word prefix) (is_word count) refl refl
   where
-    by : (t u : Bool) → is_word prefix ≡ t → is_word count ≡ u → (if is_word prefix then option_map (λ n. made_words n prefix) (count_of count) else None) ≡ None
-    by false u is other = unchosen (is_word prefix) (option_map (λ n. made_words n prefix) (count_of count)) None is
-    by true false is other = chosen_if (is_word prefix) (option_map (λ n. made_words n prefix) (count_of count)) None is
-        ∙ ap (option_map (λ n. made_words n prefix)) (no_count count other)
+    by : (t u : Bool) → is_word prefix ≡ t → is_word count ≡ u → (if is_word prefix then made_by count prefix else None) ≡ None
+    by false u is other = unchosen (is_word prefix) (made_by count prefix) None is
+    by true false is other = chosen_if (is_word prefix) (made_by count prefix) None is ∙ no_number count prefix other
     by true true is other = absurd (true≢false (sym (ap₂ (λ (x y : Bool). x && y) other is) ∙ e))
 no_make words e = refl
 

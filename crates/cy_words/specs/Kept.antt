@@ -6,19 +6,16 @@ use Rattle.std.specs.Str.{bytes_eq}
 use Rattle.clap.specs.Words.{Row, first_of, one_of}
 use Rattle.cy_words.specs.CheckWords.{CheckWords}
 use Rattle.cy_words.specs.Command.{Command, Check, Info, Play, Make}
-use Rattle.cy_words.specs.MakeWords.{MakeWords, count_of}
+use Rattle.cy_words.specs.MakeWords.{MakeWords, made_by}
 use Rattle.cy_words.specs.Options.{Options}
 use Rattle.cy_words.specs.PassWords.{pass_words}
 use Rattle.cy_words.specs.PlayWords.{PlayWords, asked_by, where_play, ◌>>=◌}
 use Rattle.cy_words.specs.Words.{InfoWords}
 
--- What five names ask for behind `pass`, and a number and a prefix behind `make`.
+-- What five names ask for behind `pass`.
 abbrev pub passed_by : (input output trace from to : List ℕ) → Option PlayWords
 passed_by input output trace from to =
     if bytes_eq from to then None else where_play (pass_words input output trace from to)
-
-abbrev pub made_by : (count prefix : List ℕ) → Option MakeWords
-made_by count prefix = option_map (λ n. record { count = n; prefix = prefix }) (count_of count)
 
 -- A flag is kept as a text.
 abbrev pub IsFlag : Option (List ℕ) → Type 0

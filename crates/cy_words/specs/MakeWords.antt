@@ -1,5 +1,6 @@
 -- The words of `make`.
-use Rattle.std.specs.Prelude.{ℕ, ◌||◌, nat_lt, if◌then◌else◌, List, [], ◌∷◌, Option, Some, None}
+use Rattle.std.specs.Prelude.{ℕ, ◌||◌, nat_lt, if◌then◌else◌, List, [], ◌∷◌, length, Option}
+use Rattle.std.specs.Prelude.{Some, None}
 use Rattle.std.specs.Option.{option_map}
 use Rattle.cy_words.specs.Words.{is_word}
 use Rattle.cy_words.specs.PlayWords.{number_of, ◌>>=◌}
@@ -21,9 +22,18 @@ where_made n = if nat_lt n 1 || nat_lt most_made n then None else Some n
 abbrev pub count_of : List ℕ → Option ℕ
 count_of text = number_of text >>= where_made
 
+-- The longest prefix, in bytes. The DAG file has it four times, each byte of it in at most four, and
+-- a configuration file has at most 16777216 bytes.
+abbrev pub longest_prefix : ℕ
+longest_prefix = 1000000
+
+-- What a number and a prefix ask for.
+abbrev pub made_by : (count prefix : List ℕ) → Option MakeWords
+made_by count prefix =
+    if nat_lt longest_prefix (length prefix) then None
+    else option_map (λ n. record { count = n; prefix = prefix }) (count_of count)
+
 -- What the words behind `make` ask for, where they are of its form.
 abbrev pub make_of : List (List ℕ) → Option MakeWords
-make_of (count ∷ prefix ∷ []) =
-    if is_word prefix
-    then option_map (λ n. record { count = n; prefix = prefix }) (count_of count) else None
+make_of (count ∷ prefix ∷ []) = if is_word prefix then made_by count prefix else None
 make_of words = None

@@ -1,7 +1,7 @@
 -- The words of `play`.
-use Rattle.std.specs.Prelude.{ℕ, ◌≡◌, ◌+◌, ◌*◌, ◌-◌, ◌^◌, ◌==◌, ◌&&◌, nat_le, nat_lt, not, Bool}
-use Rattle.std.specs.Prelude.{true, false, if◌then◌else◌, List, [], ◌∷◌, length, Option, Some, None}
-use Rattle.std.specs.Prelude.{unwrap_or}
+use Rattle.std.specs.Prelude.{ℕ, ◌≡◌, ◌+◌, ◌*◌, ◌-◌, ◌^◌, ◌==◌, ◌&&◌, ◌||◌, nat_le, nat_lt, not}
+use Rattle.std.specs.Prelude.{Bool, true, false, if◌then◌else◌, List, [], ◌∷◌, length, Option, Some}
+use Rattle.std.specs.Prelude.{None, unwrap_or}
 use Rattle.std.specs.List.{list_all, slice_split}
 use Rattle.std.specs.Option.{option_map}
 use Rattle.std.specs.Str.{bytes_eq}
@@ -37,7 +37,8 @@ digits_from value [] = Some value
 digits_from value (d ∷ digits) = with_digit value d >>= λ v. digits_from v digits
 
 unfoldable pub number_of : List ℕ → Option ℕ
-number_of text = if nat_lt 20 (length text) then None else digits_from 0 text
+number_of text =
+    if length text == 0 || nat_lt 20 (length text) then None else digits_from 0 text
 
 abbrev pub number_or : ℕ → Option (List ℕ) → Option ℕ
 number_or absent None = Some absent

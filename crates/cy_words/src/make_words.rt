@@ -1,8 +1,8 @@
 // The words of `make`.
 ghost use Rattle.std.specs.Prelude.{◌≡◌, option_map};
 ghost use Rattle.clap.specs.Words.{found_of, rows_of};
-ghost use Rattle.cy_words.specs.Kept.{made_by, make_in};
-ghost use Rattle.cy_words.specs.MakeWords.{count_of, make_of};
+ghost use Rattle.cy_words.specs.Kept.{make_in};
+ghost use Rattle.cy_words.specs.MakeWords.{count_of, made_by, make_of};
 ghost use Rattle.cy_words.specs.Views.{make_words_of};
 
 use crate::matches::value_of;
@@ -13,6 +13,9 @@ use cy_msg::Text;
 
 /// The most messages of a record that is made.
 const MOST_MADE: u64 = 1_048_576;
+
+/// The longest prefix, in bytes: with it the DAG file is within the limit of configuration files.
+const LONGEST_PREFIX: usize = 1_000_000;
 
 /// The words of `make`.
 #[derive(Clone, Copy)]
@@ -40,6 +43,9 @@ impl<'a> Make<'a> {
     fn with(count: &str, prefix: &'a str) -> Option<Self>
         ensures { option_map make_words_of result ≡ made_by count.now prefix.now }
     {
+        if prefix.len() > LONGEST_PREFIX {
+            return None;
+        }
         Some(Make {
             count: count_of(count)?,
             prefix,

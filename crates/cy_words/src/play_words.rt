@@ -53,12 +53,12 @@ fn with_digit(value: u64, byte: u8) -> Option<u64>
     }
 }
 
-// A number of at most 20 digits, where it has 64 bits.
+// A number of 1 to 20 digits, where it has 64 bits.
 #[tactic(auto, unfolding(crate::specs::PlayWords::number_of))]
 pub(crate) fn number_of(text: &str) -> Option<u64>
     ensures { result ≡ number_of text.now }
 {
-    if text.len() > 20 {
+    if text.is_empty() || text.len() > 20 {
         return None;
     }
     let mut value = 0u64;
