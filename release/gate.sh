@@ -6,4 +6,5 @@ top=$(cd "$(dirname "$0")/.." && pwd)
 program=${1:-$top/crates/cyber/out/cyber}
 commit=$(git -C "$top" rev-parse HEAD 2>/dev/null || echo unknown)
 [ -z "$(git -C "$top" status --porcelain -- crates crates.txt HANDLES 2>/dev/null)" ] || commit="$commit with changes"
-echo "commit $commit, program $(sha256sum "$program" | cut -d ' ' -f 1)"
+sum=$(sha256sum "$program")
+echo "commit $commit, program ${sum%% *}"

@@ -125,37 +125,41 @@ timeline() {
   replay_drive
   try 0 python3 "$line" out.trace --record out.rec -o run.json
   says err '.*of margin, frames; some flows are left out.*'
-  begin 'what is no trace, or another record, is refused in one line'
-  replay_drive
-  echo x >text
-  fails_in_one_line 1 'timeline: text: line 1: not a trace' python3 "$line" text -o run.json
-  fails_in_one_line 1 'timeline: .*drive.rec: not the record of this trace' \
-    python3 "$line" out.trace --record "$top/examples/drive/drive.rec" -o run.json
-  fails_in_one_line 1 'timeline: text: not a record' python3 "$line" out.trace --record text -o run.json
-  sed '5s/call/cull/' out.trace >bad.trace
-  fails_in_one_line 1 'timeline: bad.trace: line 5: .*' python3 "$line" bad.trace -o run.json
-  head -n 1000 out.trace >bad.trace
-  fails_in_one_line 1 'timeline: bad.trace: line 1000: a component without an end' python3 "$line" bad.trace -o run.json
-  head -n -5 out.trace >bad.trace
-  fails_in_one_line 1 'timeline: out.rec: not the record of this trace' python3 "$line" bad.trace --record out.rec -o run.json
-  sed '5s/1@/2@/' out.trace >bad.trace
-  fails_in_one_line 1 'timeline: bad.trace: line 1005: .*' python3 "$line" bad.trace -o run.json
-  sed '1004s/1000 1000@/1001 1000@/' out.trace >bad.trace
-  fails_in_one_line 1 "timeline: bad.trace: component smooth: a call on a message that /wheel/speed doesn't have" \
-    python3 "$line" bad.trace --record out.rec --wiring drive.check -o run.json
-  fails_in_one_line 1 'timeline: text: no component; .*' python3 "$line" out.trace --record out.rec --wiring text -o run.json
-  fails_in_one_line 1 'timeline: .*No such file.*' python3 "$line" none -o run.json
-  try 0 python3 "$line" --help
-  python3 "$top/bench/made.py" 20 made
-  python3 "$top/tests/replay.py" out.rec out.trace line --record made.record --dag made.dag
-  try 0 python3 "$top/tests/tools/damaged.py" 30 out.trace python3 "$line" FILE --record out.rec -o run.json
-  try 0 python3 "$top/tests/tools/damaged.py" 30 out.rec python3 "$line" out.trace --record FILE -o run.json
   begin 'a timeline of forty thousand calls takes less than 100 MB'
   python3 "$top/tests/tools/long_run.py" 40000 long
   try 0 python3 "$top/tests/tools/measure.py" usage python3 "$line" long.trace --record long.rec -o long.json
   [ "$(sed -n 's/^memory //p' usage)" -lt 100000000 ]
   count $? "$name: $(cat usage)"
   try 0 python3 "$check" long.json long.trace /in /out
+  refuses_traces "$line"
+}
+
+refuses_traces() { # the tool
+  begin 'what is no trace, or another record, is refused in one line'
+  replay_drive
+  echo x >text
+  fails_in_one_line 1 'timeline: text: line 1: not a trace' python3 "$1" text -o run.json
+  fails_in_one_line 1 'timeline: .*drive.rec: not the record of this trace' \
+    python3 "$1" out.trace --record "$top/examples/drive/drive.rec" -o run.json
+  fails_in_one_line 1 'timeline: text: not a record' python3 "$1" out.trace --record text -o run.json
+  sed '5s/call/cull/' out.trace >bad.trace
+  fails_in_one_line 1 'timeline: bad.trace: line 5: .*' python3 "$1" bad.trace -o run.json
+  head -n 1000 out.trace >bad.trace
+  fails_in_one_line 1 'timeline: bad.trace: line 1000: a component without an end' python3 "$1" bad.trace -o run.json
+  head -n -5 out.trace >bad.trace
+  fails_in_one_line 1 'timeline: out.rec: not the record of this trace' python3 "$1" bad.trace --record out.rec -o run.json
+  sed '5s/1@/2@/' out.trace >bad.trace
+  fails_in_one_line 1 'timeline: bad.trace: line 1005: .*' python3 "$1" bad.trace -o run.json
+  sed '1004s/1000 1000@/1001 1000@/' out.trace >bad.trace
+  fails_in_one_line 1 "timeline: bad.trace: component smooth: a call on a message that /wheel/speed doesn't have" \
+    python3 "$1" bad.trace --record out.rec --wiring drive.check -o run.json
+  fails_in_one_line 1 'timeline: text: no component; .*' python3 "$1" out.trace --record out.rec --wiring text -o run.json
+  fails_in_one_line 1 'timeline: .*No such file.*' python3 "$1" none -o run.json
+  try 0 python3 "$1" --help
+  python3 "$top/bench/made.py" 20 made
+  python3 "$top/tests/replay.py" out.rec out.trace line --record made.record --dag made.dag
+  try 0 python3 "$top/tests/tools/damaged.py" 30 out.trace python3 "$1" FILE --record out.rec -o run.json
+  try 0 python3 "$top/tests/tools/damaged.py" 30 out.rec python3 "$1" out.trace --record FILE -o run.json
 }
 
 pictures() {
@@ -310,6 +314,10 @@ release() {
   refuses_logs
   reads_manual tar/share/man/man1/cyber.1.gz
   completes tar/share
+  tours_the_package
+}
+
+tours_the_package() {
   begin 'the tour of the examples runs where the package alone is installed'
   if ! command -v dpkg-deb >/dev/null; then
     skip 'the package' 'no dpkg-deb'
