@@ -4,7 +4,7 @@ ghost use Rattle.cy_text.specs.Entries.{held_of};
 ghost use Rattle.cy_text.specs.Form.{after_item, after_colon, after_name, after_sign, after_string};
 ghost use Rattle.cy_text.specs.Form.{after_value, all_closed, at_field, at_first_item, at_item};
 ghost use Rattle.cy_text.specs.Form.{at_message, at_value, begun, closed, ends_value, finish};
-ghost use Rattle.cy_text.specs.Form.{items_of, opened, placed, step, start_of};
+ghost use Rattle.cy_text.specs.Form.{items_of, opened, placed, same_bracket, step, start_of};
 ghost use Rattle.cy_msg.specs.Answer.{AnswersFault};
 ghost use Rattle.cy_text.specs.Fault.{fault_in};
 ghost use Rattle.cy_text.specs.Views.{view_building, view_reading};
@@ -40,6 +40,18 @@ pub(crate) fn bad(kind: BadKind, at: u32) -> Failure
     ensures { result ≡ failures.Fault (faults.Bad kind at) }
 {
     Failure::Fault(Fault::Bad(kind, at))
+}
+
+// Whether two brackets are of one kind.
+fn same_bracket(one: Bracket, other: Bracket) -> bool
+    ensures { result ≡ same_bracket one other }
+{
+    match (one, other) {
+        (Bracket::Brace, Bracket::Brace) => true,
+        (Bracket::Brace, Bracket::Angle) => false,
+        (Bracket::Angle, Bracket::Brace) => false,
+        (Bracket::Angle, Bracket::Angle) => true,
+    }
 }
 
 impl Slot {
@@ -146,7 +158,7 @@ impl Building {
         let Some(frame) = frames.pop() else {
             return Err(bad(BadKind::Close, span.start));
         };
-        if frame.bracket != bracket {
+        if !same_bracket(frame.bracket, bracket) {
             return Err(bad(BadKind::Close, span.start));
         }
         let Frame {

@@ -8,7 +8,7 @@ use crate::number::value_of;
 use std::alloc::AllocError;
 
 /// What an escape stands for.
-#[derive(Clone, Copy, Debug, PartialEq, Eq)]
+#[derive(Clone, Copy)]
 pub(crate) enum Escape {
     Byte(u8),
     Char(char),

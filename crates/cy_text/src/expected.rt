@@ -4,7 +4,7 @@ use crate::token::Bracket;
 use cy_msg::{Bytes, Text};
 
 /// Where a value stands.
-#[derive(Clone, Copy, Debug, PartialEq, Eq)]
+#[derive(Clone, Copy)]
 pub(crate) enum Place {
     /// Behind a field's name.
     Field,

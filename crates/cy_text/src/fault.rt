@@ -7,7 +7,7 @@ use cy_msg::NamesError;
 use std::alloc::{AllocError, AllocFailed};
 
 /// What is wrong with a text, and the place of the token from the text's first byte.
-#[derive(Clone, Copy, Debug, PartialEq, Eq)]
+#[derive(Clone, Copy)]
 pub(crate) enum Fault {
     /// A token that is faulty or stands in a wrong place.
     Bad(BadKind, u32),
@@ -16,7 +16,7 @@ pub(crate) enum Fault {
 }
 
 /// What reading a text may answer in place of a value.
-#[derive(Clone, Copy, Debug, PartialEq, Eq)]
+#[derive(Clone, Copy)]
 pub(crate) enum Failure {
     Fault(Fault),
     Memory,

@@ -11,7 +11,7 @@ use crate::letters::{
 };
 
 /// What a number is: a whole one by its size, and anything else by its text.
-#[derive(Clone, Copy, Debug, PartialEq, Eq)]
+#[derive(Clone, Copy)]
 pub(crate) enum Number {
     Whole(u64),
     Literal,

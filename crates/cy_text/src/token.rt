@@ -19,7 +19,7 @@ use std::alloc::Global;
 use std::str;
 
 /// The two kinds of brackets in which a message stands.
-#[derive(Clone, Copy, Debug, PartialEq, Eq)]
+#[derive(Clone, Copy)]
 pub(crate) enum Bracket {
     /// `{` and `}`.
     Brace,
