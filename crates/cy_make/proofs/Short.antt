@@ -1,5 +1,5 @@
 -- The texts of the configuration files are short where their prefix is.
-use Rattle.std.proofs.Common.{◌≡◌, ℕ, ◌+◌, ◌*◌, ◌≤◌, ◌==◌, ◌||◌, List, [], ◌∷◌, ◌++◌, length, codes, Bool, true, false, if◌then◌else◌, flat_map, refl, ap, arith, length-append, nat_lt, lit≤}
+use Rattle.std.proofs.Common.{◌≡◌, ℕ, ◌+◌, ◌*◌, ◌≤◌, ◌==◌, ◌||◌, List, [], ◌∷◌, ◌++◌, length, codes, Bool, true, false, if◌then◌else◌, flat_map, ap, arith, length-append, nat_lt, lit≤}
 use Rattle.std.specs.Str.{is_utf8}
 use Rattle.cy_msg.specs.Quoted.{octal, escaped, quoted}
 use Rattle.cy_text.specs.Fields.{Fields, Held, Nothing, And, Whole, Literal, Word, Quote, Message}

@@ -1,5 +1,5 @@
 -- The sections that are read of a file are those of its bytes, and there are no others.
-use Rattle.std.proofs.Common.{◌≡◌, ℕ, zero, suc, ◌+◌, ◌-◌, ◌^◌, ◌<◌, ◌≤◌, ◌⊎◌, inl, inr, List, [], ◌∷◌, ◌++◌, length, take, drop, min, refl, ap, sym, ◌∙◌, subst, arith, length-append, length-drop, length-take, take-append-drop, Option, Some, None, Result, Ok, Err}
+use Rattle.std.proofs.Common.{◌≡◌, ℕ, zero, suc, ◌+◌, ◌-◌, ◌^◌, ◌<◌, ◌≤◌, inl, inr, List, [], ◌∷◌, ◌++◌, length, take, drop, refl, ap, sym, ◌∙◌, subst, arith, length-append, length-drop, length-take, take-append-drop, Option, Some, None, Result, Ok, Err}
 use Rattle.std.proofs.Math.Seq.{drop-append_seam, take-append_seam}
 use Rattle.std.proofs.lemmas.Bool.{cases_eq, cases_lt}
 use Rattle.std.proofs.lemmas.List.{drop-append-le, drop-drop, drop-take, take-append-le}
@@ -13,7 +13,7 @@ use Rattle.cy_section.specs.declared.types.SectionKind.TheVariants as kind
 use Rattle.cy_section.specs.Section.{kind_number}
 use Rattle.cy_reader.specs.Sections.{WholeSection, Sections, no_section, with_section, and_those_behind, longest_section, section_at, sections_in}
 use Rattle.cy_reader.specs.Tiling.{IsHead, IsPart, chunk_header, chunk_body, channel, IsNoSection, no_head, no_type, no_size, too_long, no_body, AreSections, ended, index, section, broken}
-use Rattle.cy_reader.proofs.SectionRows.{part_range, ends_there, head_cut, second_header, unknown_type, below_nought, index_there, part_too_long, part_cut, part_whole}
+use Rattle.cy_reader.proofs.SectionRows.{ends_there, head_cut, second_header, unknown_type, below_nought, index_there, part_too_long, part_cut, part_whole}
 
 -- ---- heads
 

@@ -1,5 +1,5 @@
 -- What is read of bytes is what the grammar says of them.
-use Rattle.std.proofs.Common.{◌≡◌, ℕ, zero, suc, ◌+◌, ◌*◌, ◌-◌, ◌/◌, ◌%◌, ◌^◌, ◌<◌, ◌≤◌, ◌⊎◌, inl, inr, List, [], ◌∷◌, ◌++◌, length, take, drop, min, refl, ap, sym, ◌∙◌, subst, arith, length-append, length-take, append_assoc, take-append-drop, Result, Ok, Err, Bool, true, false, nat_lt, ◌==◌, ◌||◌, if◌then◌else◌}
+use Rattle.std.proofs.Common.{◌≡◌, ℕ, zero, suc, ◌+◌, ◌*◌, ◌-◌, ◌/◌, ◌%◌, ◌^◌, ◌<◌, ◌≤◌, ◌⊎◌, inl, inr, List, [], ◌∷◌, ◌++◌, length, take, drop, refl, ap, sym, ◌∙◌, subst, arith, length-append, length-take, append_assoc, take-append-drop, Result, Ok, Err, nat_lt, ◌==◌, ◌||◌, if◌then◌else◌}
 use Rattle.std.proofs.Math.Seq.{drop-append_seam}
 use Rattle.std.proofs.lemmas.Bool.{cases_lt, le-ltb, lt-ltb}
 use Rattle.byteorder.specs.Endian.{little_number}
@@ -7,7 +7,7 @@ use Rattle.byteorder.specs.Numbers.{little_from-take}
 use Rattle.cy_wire.specs.declared.error.WireError.{WireError}
 use Rattle.cy_wire.specs.declared.error.WireError.TheVariants.{Cut, LongVarint, BadTag, Group}
 use Rattle.cy_wire.specs.Varint.{varint_in, varint_at, above, low_64_bits}
-use Rattle.cy_wire.specs.Field.{◌>>=◌, WireValue, Varint, Eight, Bytes, Four, WireField, Fields, with_field, wire_type, fixed_at, number_at, bytes_at, value_at, field_at, fields_of}
+use Rattle.cy_wire.specs.Field.{◌>>=◌, WireValue, Varint, Eight, Bytes, Four, WireField, with_field, wire_type, fixed_at, number_at, bytes_at, value_at, field_at, fields_of}
 use Rattle.cy_wire.specs.Form.{IsBase128, last, more, IsVarint, IsTag, IsValue, plain, eight, counted, four, IsField, tagged, AreHigh, IsNoVarint, cut, long, IsNoTag, large, unnumbered, untyped, IsNoValue, no_number, no_eight, no_length, no_bytes, no_four, IsNoField, no_varint, no_tag, group, no_value, IsFields, ended, field, broken}
 use Rattle.cy_wire.proofs.FormReads.{IsRead, zeroth, first, second, fifth, no_tag_read}
 use Rattle.cy_wire.proofs.Taken.{field_at-takes, fields_of-field, fields_of-fault, fields_of-end}

@@ -107,6 +107,38 @@ fn takes_known_words_alone(rt: HostRuntime) -> Result<(), Fail> {
     is_misused(&rt, alloc, &["info", "--x"])
 }
 
+// A play of files of which none is there, with these options, ends so.
+fn ends_a_play(
+    rt: &impl Abort,
+    alloc: Global,
+    options: [&str; 2],
+    status: Status,
+) -> Result<(), Fail> {
+    let words = [
+        "play", "--serial", "--dag", "d", "--record", "r", "--out", "o", "--trace", "t",
+        options[0], options[1],
+    ];
+    let ran = run(alloc, &words, MemStore::new(alloc))?;
+    let option = options[0];
+    assert_eq!(rt; ran.status, status, "{option}");
+    Ok(())
+}
+
+#[test]
+fn refuses_an_empty_number(rt: HostRuntime) -> Result<(), Fail> {
+    let alloc = rt.alloc();
+    for options in [
+        ["--begin", ""],
+        ["--end", ""],
+        ["--begin=", "--end=1"],
+        ["--end=", "--begin=1"],
+    ] {
+        ends_a_play(&rt, alloc, options, Status::Usage)?;
+    }
+    ends_a_play(&rt, alloc, ["--begin", "0"], Status::StoreFault)?;
+    ends_a_play(&rt, alloc, ["--begin=0", "--end=1"], Status::StoreFault)
+}
+
 // What can't be told ends as a fault of the sink, with a prefix of its line: that the words are of
 // no form, that the record is none, and that it or the record that is written can't be used.
 #[test]

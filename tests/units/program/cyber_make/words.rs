@@ -2,6 +2,8 @@
 use super::ran::run;
 use cy_store::{MemSink, MemStore};
 use cyber_cli::Status;
+use std::alloc::Global;
+use std::process::Abort;
 use std::test::Fail;
 
 #[test]
@@ -25,6 +27,31 @@ fn refuses_words_of_another_form(rt: HostRuntime) -> Result<(), Fail> {
         assert_eq!(rt; ran.store.file("m.adder.conf"), None, "{number}");
     }
     Ok(())
+}
+
+// A play of one message ends so with a prefix of so many bytes.
+fn ends_with_prefix(
+    rt: &impl Abort,
+    alloc: Global,
+    bytes: usize,
+    status: Status,
+) -> Result<(), Fail> {
+    let mut prefix = String::new(alloc);
+    for _ in 0..bytes {
+        prefix.push('m')?;
+    }
+    let words = ["make", "1", prefix.as_str()];
+    let ran = run(alloc, &words, MemStore::new(alloc), MemSink::new(alloc))?;
+    assert_eq!(rt; ran.status, status, "{bytes}");
+    Ok(())
+}
+
+#[test]
+fn takes_a_prefix_of_a_million_bytes_and_no_longer_one(rt: HostRuntime) -> Result<(), Fail> {
+    let alloc = rt.alloc();
+    ends_with_prefix(&rt, alloc, 1_000_000, Status::Done)?;
+    ends_with_prefix(&rt, alloc, 1_000_001, Status::Usage)?;
+    ends_with_prefix(&rt, alloc, 5_000_000, Status::Usage)
 }
 
 #[test]
