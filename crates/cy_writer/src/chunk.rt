@@ -1,5 +1,6 @@
 // A chunk, gathered one message after another.
-ghost use Rattle.std.specs.Prelude.{◌≡◌, ◌≤◌, ◌+◌, length, IfOk, IsOkUnless};
+ghost use Rattle.std.specs.Prelude.{◌≡◌, ◌≤◌, ◌+◌, ◌==◌, if◌then◌else◌, min, length};
+ghost use Rattle.std.specs.Prelude.{IfOk, IsOkUnless};
 ghost use Rattle.cy_writer.specs.Counted.{counted_with};
 
 use crate::WriteError;
@@ -38,17 +39,24 @@ pub(crate) struct Chunk {
     ghost headed: { 1 ≤ header.message_number → 16 ≤ length section },
 }
 
+// The least time of messages with one more.
+fn begin_with(header: &ChunkHeader, time: u64) -> u64
+    ensures { result ≡ (if header.now.message_number == 0 then time
+        else min header.now.begin_time time) }
+{
+    match header.message_number {
+        0 => time,
+        _ => header.begin_time.min(time),
+    }
+}
+
 /// The numbers of messages with one more, at a time and with a content of so many bytes.
 pub(crate) fn counted(header: &ChunkHeader, time: u64, size: u64) -> Result<ChunkHeader, WriteError>
     ensures counted { IfOk result (λ h. h ≡ counted_with header.now time size) }
     ensures only_memory { IsOkUnless result WriteError.Memory }
 {
-    let begin_time = match header.message_number {
-        0 => time,
-        _ => header.begin_time.min(time),
-    };
     Ok(ChunkHeader {
-        begin_time,
+        begin_time: begin_with(header, time),
         end_time: header.end_time.max(time),
         message_number: sum(header.message_number, 1)?,
         raw_size: sum(header.raw_size, size)?,

@@ -11,7 +11,7 @@ use cy_section::{ChunkHeader, Header, Piece, put_header};
 use std::alloc::Global;
 
 /// What the header of a whole record counts beside its messages.
-#[derive(Clone, Copy, Debug, PartialEq, Eq)]
+#[derive(Clone, Copy)]
 pub(crate) struct Counts {
     pub chunk_number: u64,
     pub channel_number: u64,

@@ -19,7 +19,7 @@ pub(crate) struct KeptChannel {
 }
 
 /// A chunk that was put: its header, and the places of its two sections' heads.
-#[derive(Clone, Copy, Debug, PartialEq, Eq)]
+#[derive(Clone, Copy)]
 pub(crate) struct KeptChunk {
     pub header_position: u64,
     pub body_position: u64,

@@ -5,7 +5,7 @@ ghost use Rattle.cy_writer.specs.Messages.{Giving, NextAnswer};
 use crate::WriteError;
 
 /// The number of a message's channel, counted from 0, and the message's time in nanoseconds.
-#[derive(Clone, Copy, Debug, PartialEq, Eq)]
+#[derive(Clone, Copy)]
 pub struct Stamp {
     /// The channel's number.
     pub channel: u32,

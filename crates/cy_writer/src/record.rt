@@ -8,7 +8,7 @@ use cy_store::Store;
 use std::alloc::Global;
 
 /// A channel whose name, type and description lie elsewhere.
-#[derive(Clone, Copy, Debug, PartialEq, Eq)]
+#[derive(Clone, Copy)]
 pub struct ChannelRef<'a> {
     /// Its name.
     pub name: &'a str,
