@@ -234,8 +234,8 @@ pub record Visiting (p : Pass) (c : ℕ) (x : VisitorView) (q : Pass) : Type 0 w
   pub room : (j : ℕ) (later : List (ℕ × ℕ)) → (seat_of p).fills ≡ (c, j) ∷ later → 1 ≤ x.spare
 
 -- The event Fetch, of the croutine in hand, which asked. What it finds is what the fetch rule gives
--- at the visitor, as it was while its door was held: it is noted, so the rule of the table says that
--- the component had it then.
+-- at the visitor, as it was while its door was held: it is noted, so the rule of the table says
+-- that the component had it then.
 pub record CanFetch (t : FlagTable) (p : Pass) (h : Hold) : Type 0 where
   pub visit : CanVisit t p (component_of h)
   pub holds : Holds t p h
@@ -251,8 +251,8 @@ pub record Fetched (t : FlagTable) (p : Pass) (h : Hold) (answer : Option Tuple)
   pub queue : visitor.queue ≡ queue_at (seat_of p).routes (seat_of p).counts (component_of h)
   pub roles : visitor.roles ≡ roles_at (seat_of p).routes (component_of h)
   pub found : answer ≡ option_map (λ f. f.0) (fetched_at h visitor)
-  pub none : IsNone answer
-      ↔ IsNone (fetch (cursor_after (routine_of h).calls) (length (tuples_at visitor)) visitor.queue)
+  pub none : IsNone answer ↔ IsNone (fetch (cursor_after (routine_of h).calls)
+      (length (tuples_at visitor)) visitor.queue)
   pub seat : seat_of q
       ≡ fetching (seat_of p) (in_hand (seat_of p)) visitor (fetched_at h visitor)
   pub holds : Holds t q k

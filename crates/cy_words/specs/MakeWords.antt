@@ -22,8 +22,8 @@ where_made n = if nat_lt n 1 || nat_lt most_made n then None else Some n
 abbrev pub count_of : List ℕ → Option ℕ
 count_of text = number_of text >>= where_made
 
--- The longest prefix, in bytes. The DAG file has it four times, each byte of it in at most four, and
--- a configuration file has at most 16777216 bytes.
+-- The longest prefix, in bytes. The DAG file has it four times, each byte of it in at most four,
+-- and a configuration file has at most 16777216 bytes.
 abbrev pub longest_prefix : ℕ
 longest_prefix = 1000000
 
