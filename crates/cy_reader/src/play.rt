@@ -10,8 +10,8 @@ ghost use Rattle.cy_reader.specs.Uses.{AreUses, use_of, use_at, number_by};
 ghost use Rattle.cy_reader.specs.Uses.{ArePassed, LooksAt, AreInOrder};
 
 use crate::{ChannelSet, LoadError, Record};
-use cy_request::Filter;
 use cy_msg::{Items, Names, PlayList, Token};
+use cy_request::Filter;
 use cy_wire::whole_of;
 use std::alloc::Global;
 
