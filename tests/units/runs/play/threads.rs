@@ -86,28 +86,35 @@ fn overlaps_the_calls_of_two_components(rt: HostRuntime) -> Result<(), Fail> {
     Ok(())
 }
 
-// Whether the first calls of two components, which one message triggers both, were in hand at once.
-fn are_in_hand_at_once(
-    rt: &HostRuntime,
+// How many calls two components have that one message triggers, and whether these were in hand at
+// once.
+fn paired_calls<R: Threads + Wait + Sync>(
+    rt: &R,
+    host: &HostRuntime,
     placement: &Placement,
     turns: u32,
-) -> Result<bool, Fail> {
+) -> Result<([u64; 2], bool), Fail> {
     let wiring = wiring(
-        rt,
+        host,
         &["/a", "/o", "/p"],
         &[(Kind::Pass, &[0]), (Kind::Pass, &[0])],
     )?;
-    let list = list(rt, &[(0, 1, Some(1))])?;
+    let list = list(host, &[(0, 1, Some(1))])?;
     let gate = PairGate::new(0, 1, turns);
-    let world = played(rt, rt, &wiring, &list, placement, &gate)?;
-    assert_eq!(rt; calls_of_two(&world), [1, 1]);
-    Ok(gate.paired())
+    let world = played(rt, host, &wiring, &list, placement, &gate)?;
+    Ok((calls_of_two(&world), gate.paired()))
 }
 
 #[test]
 fn has_two_calls_in_hand_at_once_on_two_processors_alone(rt: HostRuntime) -> Result<(), Fail> {
-    assert!(rt; are_in_hand_at_once(&rt, &pinned(&rt)?, 10_000_000)?);
-    assert!(rt; !are_in_hand_at_once(&rt, &placed(&rt, 2, false)?, 1_000)?);
+    assert_eq!(rt;
+        paired_calls(&rt, &rt, &pinned(&rt)?, 10_000_000)?,
+        ([1, 1], true)
+    );
+    assert_eq!(rt;
+        paired_calls(&rt, &rt, &placed(&rt, 2, false)?, 1_000)?,
+        ([1, 1], false)
+    );
     Ok(())
 }
 
