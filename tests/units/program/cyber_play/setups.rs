@@ -1,8 +1,8 @@
 // What setting up a replay of the chain answers where a file is in the way.
 use super::ran::chain_store;
 use cy_msg::Items;
-use cy_reader::Filter;
-use cy_replay::{Components, Fault, Replay, Request, SetupError, set_up};
+use cy_replay::{Fault, Replay, SetupError, set_up};
+use cy_request::{Components, Filter, Request};
 use cy_store::{MemStore, Store};
 use std::alloc::Global;
 use std::test::Fail;
