@@ -14,7 +14,7 @@ UNITS = TOP / "tests" / "units"
 # The test of the program, and the parts that it reads.
 PROGRAM = [TOP / "tests" / "program.sh", *sorted((TOP / "tests" / "program").glob("*.sh"))]
 # How a call of the program ends is not the error of a `Result`.
-STATUSES = ("cyber_cli", "Status")
+STATUSES = ("cy_commands", "Status")
 NO_REFUSALS = ("Memory", "Done")
 # A printed line with fewer letters of its own says too little.
 LETTERS = 5

@@ -4,24 +4,26 @@ use Rattle.std.specs.Prelude.{◌⊎◌, MatchOption}
 use Rattle.std.proofs.lemmas.Option.{MatchOption-at_some}
 use Rattle.cy_store.specs.Files.{Files}
 use Rattle.cy_store.specs.Store.{StoreView, Rose}
-use Rattle.cyber_cli.specs.declared.status.Status.{Status}
-use Rattle.cyber_cli.specs.declared.status.Status.TheVariants.{Done, Refused, Usage, StoreFault, SinkFault, Limit, Memory}
+use Rattle.cy_commands.specs.declared.status.Status.{Status}
+use Rattle.cy_commands.specs.declared.status.Status.TheVariants.{Done, Refused, Usage, StoreFault, SinkFault, Limit, Memory}
 use Rattle.cy_store.specs.Reads.{Reads, Accepts, Refuses, Absent}
 use Rattle.cy_replay.specs.declared.error.Refusal.{Refusal}
 use Rattle.cy_reader.specs.declared.error.LoadError.{LoadError}
 use Rattle.cy_reader.specs.Record.{Contents}
 use Rattle.cy_words.specs.MakeWords.{MakeWords}
 use Rattle.cy_words.specs.PlayWords.{PlayWords}
-use Rattle.cyber_cli.specs.PlayWork.{replayed_in}
+use Rattle.cy_commands.specs.PlayWork.{replayed_in}
 use Rattle.cy_words.specs.CheckWords.{CheckWords}
 use Rattle.cy_words.specs.Words.{InfoWords}
-use Rattle.cyber_cli.specs.Info.{told_of, load_status}
-use Rattle.cyber_cli.specs.Check.{checked_in}
-use Rattle.cyber_cli.specs.ConfigText.{fault_status}
+use Rattle.cy_commands.specs.Info.{told_of, load_status}
+use Rattle.cy_commands.specs.Check.{checked_in}
+use Rattle.cy_commands.specs.ConfigText.{fault_status}
 use Rattle.cy_words.specs.Command.{Command, Check, Info, Play, Make}
-use Rattle.cyber_cli.specs.Work.{Work}
-use Rattle.cyber_cli.specs.Outcome.{IsAccepted, IsTaken, IsRefused, IsAbsent}
-use Rattle.cyber_cli.specs.Due.{Sinks, Answers, IsDue, IsDueFor, IsMisused, IsTold, IsUntold, CallsFor, IsComplete}
+use Rattle.cy_commands.specs.Work.{Work}
+use Rattle.cy_commands.specs.Outcome.{IsAccepted, IsTaken, IsRefused, IsAbsent}
+use Rattle.cy_commands.specs.Due.{IsDue, IsDueFor, IsMisused}
+use Rattle.cyber_cli.specs.Told.{Sinks, IsTold, IsUntold}
+use Rattle.cyber_cli.specs.Ends.{Answers, CallsFor, IsComplete}
 
 -- a status other than SinkFault and Memory is answered where it is due
 told_so : (due : Status) (line : List ℕ) (old new : Sinks) (answer : Status) → IsTold due line old new answer → (answer ≡ due) ⊎ ((answer ≡ SinkFault) ⊎ (answer ≡ Memory))

@@ -4,7 +4,7 @@ use Rattle.std.proofs.lemmas.List.{take-append-le, take_min}
 use Rattle.std.proofs.Math.Seq.{take-append-add}
 use Rattle.std.specs.Option.{option_map}
 use Rattle.cy_store.specs.Store.{SinkView}
-use Rattle.cyber_cli.specs.Due.{Gets, GetsFront}
+use Rattle.cyber_cli.specs.Told.{Gets, GetsFront}
 
 then_front : (old mid new : Option (List ℕ)) (told rest : List ℕ) (n : ℕ) → mid ≡ option_map (λ b. b ++ told) old → new ≡ option_map (λ b. b ++ take n rest) mid
     → new ≡ option_map (λ b. b ++ take (length told + n) (told ++ rest)) old

@@ -1,12 +1,3 @@
-pub mod CheckExits
-pub mod Commas
 pub mod Complete
-pub mod DoneLine
 pub mod Fronts
-pub mod InfoExits
-pub mod MakeExits
-pub mod PlayExits
-pub mod PlayRuns
-pub mod PlayWriting
-pub mod Taped
 pub mod Telling

@@ -5,7 +5,7 @@ use Rattle.std.proofs.lemmas.Grind.{common_steps}
 use Rattle.cy_store.specs.Store.{SinkView}
 use Rattle.cy_store.specs.declared.error.SinkError.{SinkError}
 use Rattle.cy_store.specs.declared.error.SinkError.TheVariants as sink_error
-use Rattle.cyber_cli.specs.Due.{Gets, GetsFront}
+use Rattle.cyber_cli.specs.Told.{Gets, GetsFront}
 
 -- no byte of a line is a front of it
 nothing : (o : Option (List ℕ)) (line : List ℕ) → o ≡ option_map (λ b. b ++ take 0 line) o

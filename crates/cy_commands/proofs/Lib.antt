@@ -1,0 +1,9 @@
+pub mod CheckExits
+pub mod Commas
+pub mod DoneLine
+pub mod InfoExits
+pub mod MakeExits
+pub mod PlayExits
+pub mod PlayRuns
+pub mod PlayWriting
+pub mod Taped

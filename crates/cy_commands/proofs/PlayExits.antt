@@ -1,0 +1,131 @@
+-- How `play` ends, at each place where it may.
+use Rattle.std.proofs.Common.{ℕ, ◌≡◌, List, [], ◌∷◌, Option, IfSome, Ok, Err, IsErrOf, refl, sym, ap, subst, ◌∙◌, inl, inr, arith}
+use Rattle.std.specs.Option.{option_map}
+use Rattle.std.specs.FinMap.{insert}
+use Rattle.cy_store.specs.Files.{Files}
+use Rattle.cy_store.specs.Reads.{Accepts}
+use Rattle.cy_store.specs.Store.{StoreView, SameCounts, WriteRose}
+use Rattle.cy_store.specs.Write.{Write, name_of, after_writes}
+use Rattle.cy_writer.specs.Writes.{StopsAt, StopsBefore}
+use Rattle.cy_writer.proofs.Puts.{rose_more, after_writes-append, written_at-end}
+use Rattle.wake_core.specs.Plain.{Plain}
+use Rattle.wake_core.specs.Rest.{run_shown}
+use Rattle.cy_replay.specs.declared.error.SetupError.{SetupError}
+use Rattle.cy_replay.specs.declared.error.SetupError.TheVariants as setup
+use Rattle.cy_replay.specs.declared.setup.Replay.{Replay}
+use Rattle.cy_writer.specs.RecordWrites.{file_writes, record_puts}
+use Rattle.cy_replay.specs.Recording.{channels_of_tape, chunks_of_tape}
+use Rattle.cy_replay.specs.Setup.{IsSetUp, replayed}
+use Rattle.cy_writer.proofs.RecordBytes.{after_record, after_file}
+use Rattle.cy_replay.proofs.TapeText.{record_text}
+use Rattle.cy_commands.specs.declared.failure.File.{File}
+use Rattle.cy_commands.specs.declared.failure.Failure.{Failure}
+use Rattle.cy_commands.specs.declared.failure.Failure.TheVariants as failure
+use Rattle.cy_commands.specs.declared.status.Status.{Status}
+use Rattle.cy_commands.specs.declared.status.Status.TheVariants.{Done}
+use Rattle.cy_commands.specs.CheckEnds.{IsStarved, IsDueUnset}
+use Rattle.cy_words.specs.Command.{Play}
+use Rattle.cy_commands.specs.Work.{Work}
+use Rattle.cy_commands.specs.ConfigText.{is_limit}
+use Rattle.cy_commands.specs.Due.{IsDueFor}
+use Rattle.cy_commands.specs.Lines.{store_line}
+use Rattle.cy_commands.specs.PlayEnds.{SetsUp, HasRun, IsDueAfterPlay, IsLine, name_of_play, source_by, writes_by}
+use Rattle.cy_words.specs.PlayWords.{PlayWords}
+use Rattle.cy_commands.specs.PlayWork.{IsPlayWork, replayed_in, play_line, tape_record, run_trace}
+use Rattle.cy_commands.proofs.CheckExits.{view_same, refuses}
+
+starved : (w : PlayWords) (old new : StoreView) (due : Status) (line : List ℕ) → new.files ≡ old.files → IsStarved due line → IsDueFor (Play w) old new due line
+starved w old new due line same s = subst (λ (x : Status). IsDueFor (Play w) old new x line) (sym s.status) (inl same, s.told)
+
+-- the files are not accepted
+pub unset : (w : PlayWords) (old new : StoreView) (e : SetupError) (due : Status) (line : List ℕ) → SetsUp w old new (Err e) → IsDueUnset e due line → IsDueFor (Play w) old new due line
+unset w old new (setup.Refused refusal) due line came (inl s) = starved w old new due line came.same s
+unset w old new (setup.Refused refusal) due line came (inr told) =
+    let was = came.refused refusal refl in
+    subst (λ (x : Status). IsDueFor (Play w) old new x line) (sym told.0)
+    (refuses (Play w) old new (is_limit refusal.fault) line record {
+      same = view_same old new came.same was.0;
+      refused = record { refusal = refusal; refused = was.1; status = refl; told = told.1 };
+    })
+unset w old new (setup.Store file) due line came (inl s) = starved w old new due line came.same s
+unset w old new (setup.Store file) due line came (inr told) =
+    let was = came.failed file refl in
+    subst (λ (x : Status). IsDueFor (Play w) old new x line) (sym told.0) (inl record { name = file; read = was.0; rose = was.1.rose; same = came.same; told = told.1 })
+unset w old new setup.Memory due line came s = starved w old new due line came.same s
+
+-- what `play` makes of a replay
+abbrev pub work_of : PlayWords → Replay → Plain → Work
+work_of w x world = record { writes = writes_by w x world; text = play_line (source_by x) x.list (run_shown world) }
+
+-- what the writes leave
+leaves : (w : PlayWords) (x : Replay) (world : Plain) (m : Files) → after_writes (writes_by w x world) m
+    ≡ insert (insert m w.output (tape_record w (source_by x) world.tape)) w.trace (run_trace (source_by x) x.list.shadowed (run_shown world))
+leaves w x world m =
+    let s = source_by x in
+    let record_writes = file_writes w.output (record_puts (channels_of_tape s world.tape) (chunks_of_tape w.output s world.tape)) in
+    let trace = run_trace s x.list.shadowed (run_shown world) in
+    let trace_puts = (0, trace) ∷ [] in
+    after_writes-append record_writes (file_writes w.trace trace_puts) m
+    ∙ ap (after_writes (file_writes w.trace trace_puts)) (after_record (channels_of_tape s world.tape) (chunks_of_tape w.output s world.tape) m w.output)
+    ∙ after_file trace_puts (insert m w.output (tape_record w s world.tape)) w.trace
+    ∙ ap (insert (insert m w.output (tape_record w s world.tape)) w.trace) (written_at-end [] trace 0 refl)
+
+pub accepted : (w : PlayWords) (x : Replay) (world : Plain) (files : Option Files) → IfSome files (λ m. replayed_in w m ≡ Accepts (replayed x)) → IsSetUp w.request.filter x → HasRun w.serial x world → IsPlayWork w files (work_of w x world)
+accepted w x world files read s h = record {
+  read = replayed x;
+  accepted = read;
+  list = x.list;
+  listed = s.listed;
+  contexts = x.placement.contexts;
+  placed = s.placed;
+  world = world;
+  played = record { run = h.run; lawful = h.lawful };
+  record_text = record_text w.output (source_by x) world.tape s.once h.writable;
+  read_back = h.read_back;
+  writes = refl;
+  leaves = leaves w x world;
+  text = refl;
+}
+
+-- all was written
+pub done : (w : PlayWords) (x : Replay) (world : Plain) (old mid new : StoreView) (line : List ℕ) → SetsUp w old mid (Ok x) → IsSetUp w.request.filter x → HasRun w.serial x world → new.files ≡ option_map (after_writes (writes_by w x world)) mid.files
+    → IsLine x world line → IsDueFor (Play w) old new Done line
+done w x world old mid new line came s h written told = record {
+  work = work_of w x world;
+  accepted = accepted w x world old.files came.accepted.1 s h;
+  written = written ∙ ap (option_map (after_writes (writes_by w x world))) came.same;
+  told = told;
+}
+
+rose_since : (old mid new : StoreView) → mid.files ≡ old.files → SameCounts old mid → WriteRose mid new → WriteRose old new
+rose_since old mid new same counts (inl rose) = inl (rose_more old.faults mid.faults new.faults (omega (arith, counts.faults)) rose)
+rose_since old mid new same counts (inr (rose, untold)) = inr (rose_more old.misses mid.misses new.misses (omega (arith, counts.misses)) rose, sym same ∙ untold)
+
+-- a write failed, or memory ran out between two
+pub stopped : (w : PlayWords) (x : Replay) (world : Plain) (old mid new : StoreView) (found : Failure) (due : Status) (line : List ℕ) → SetsUp w old mid (Ok x) → IsSetUp w.request.filter x → HasRun w.serial x world
+    → ((f : File) → IsErrOf {T = List ℕ} (Err found) (failure.Store f) → (v : Write) × (name_of v ≡ name_of_play w f) × StopsAt (writes_by w x world) v mid.files new.files)
+    → (IsErrOf {T = List ℕ} (Err found) failure.Memory → StopsBefore (writes_by w x world) mid.files new.files)
+    → ((f : File) → IsErrOf {T = List ℕ} (Err found) (failure.Store f) → WriteRose mid new)
+    → IsDueAfterPlay w found due line → IsDueFor (Play w) old new due line
+stopped w x world old mid new (failure.Store f) due line came s h failed starved rose is =
+    let at = failed f refl in
+    let Q : Option Files → Type 0 = λ files. StopsAt (writes_by w x world) at.0 files new.files in
+    subst (λ (d : Status). IsDueFor (Play w) old new d line) (sym is.0)
+    (inr (record {
+      work = work_of w x world;
+      accepted = accepted w x world old.files came.accepted.1 s h;
+      failed = at.0;
+      rose = rose_since old mid new came.same came.accepted.0 (rose f refl);
+      stops = subst Q came.same at.2;
+      told = is.1 ∙ ap store_line (sym at.1);
+    }))
+stopped w x world old mid new failure.Memory due line came s h failed starved rose is =
+    let Q : Option Files → Type 0 = λ files. StopsBefore (writes_by w x world) files new.files in
+    subst (λ (d : Status). IsDueFor (Play w) old new d line) (sym is.0) (
+      inr (record {
+        work = work_of w x world;
+        accepted = accepted w x world old.files came.accepted.1 s h;
+        stops = subst Q came.same (starved refl);
+      }),
+      is.1,
+    )

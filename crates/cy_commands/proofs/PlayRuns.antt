@@ -1,0 +1,95 @@
+-- A replay that was played, and what is told of it.
+use Rattle.std.proofs.Common.{ℕ, zero, suc, Bool, true, false, ◌+◌, ◌*◌, ◌≡◌, ◌≤◌, ◌<◌, None, List, [], ◌∷◌, length, drop, refl, sym, ap, subst, ◌∙◌, arith}
+use Rattle.cy_msg.specs.Placement.{scan_of}
+use Rattle.cy_request.specs.declared.filter.Filter.{Filter}
+use Rattle.cy_comp.specs.declared.plan.Plan.{Plan}
+use Rattle.wake_core.specs.Bounds.{PlaceLaws}
+use Rattle.wake_core.specs.LawfulRun.{LawfulRun, Quiet}
+use Rattle.wake_core.specs.Plain.{Plain, opening_world}
+use Rattle.wake_core.specs.Planned.{planned}
+use Rattle.wake_core.specs.Rest.{run_shown}
+use Rattle.wake_core.specs.Run.{Run, routes_of}
+use Rattle.wake_core.specs.Serial.{SerialRun}
+use Rattle.wake_core.specs.Sound.{NotRunning}
+use Rattle.wake_core.specs.WorldCalls.{IsTooMany}
+use Rattle.wake_core.specs.declared.entries.TheConstants.{MOST_PLANNED}
+use Rattle.wake_core.specs.declared.route.Route.{Route}
+use Rattle.cy_replay.specs.Listing.{choice_of}
+use Rattle.cy_replay.specs.Setup.{IsSetUp}
+use Rattle.cy_replay.specs.Wiring.{wired_by}
+use Rattle.cy_replay.specs.RecordLaws.{PlacesAreThere}
+use Rattle.cy_replay.specs.declared.setup.Replay.{Replay}
+use Rattle.cy_trace.specs.TraceForm.{IsTraceText}
+use Rattle.cy_commands.specs.PlayEnds.{HasRun, source_by}
+use Rattle.cy_commands.specs.PlayWork.{IsRunOf, run_trace}
+use Rattle.cy_commands.specs.Summary.{calls_from}
+use Rattle.cy_commands.proofs.Taped.{lawful_origins}
+
+-- no more is planned than a world keeps
+pub not_too_many : (x : Replay) (counts : List ℕ) (n : ℕ) → counts ≡ x.counts → planned (routes_of x.wiring.plans) x.counts ≤ MOST_PLANNED → IsTooMany (routes_of x.wiring.plans) counts n → ⊥
+not_too_many x counts n same few many =
+    let p = many.0 ∙ ap (planned (routes_of x.wiring.plans)) same in
+    let more = many.1 in
+    omega (arith, p, more, few)
+
+-- the serial run from the opening world is one that was asked for
+pub serial_run : (serial : Bool) (x : Replay) (first new : Plain) → first ≡ opening_world (routes_of x.wiring.plans) x.counts
+    → SerialRun first.routes (scan_of x.placement.contexts) x.list.tokens (run_shown new) → IsRunOf serial (routes_of x.wiring.plans) (scan_of x.placement.contexts) x.list.tokens new
+serial_run true x first new opens run = subst (λ (w : Plain). SerialRun w.routes (scan_of x.placement.contexts) x.list.tokens (run_shown new)) opens run
+serial_run false x first new opens run = tt
+
+pub lawful_run : (x : Replay) (first new : Plain) → first ≡ opening_world (routes_of x.wiring.plans) x.counts → LawfulRun x.list.tokens first.routes new → LawfulRun x.list.tokens (routes_of x.wiring.plans) new
+lawful_run x first new opens lawful = subst (λ (w : Plain). LawfulRun x.list.tokens w.routes new) opens lawful
+
+pub any_run : (serial : Bool) (x : Replay) (new : Plain) → serial ≡ false → IsRunOf serial (routes_of x.wiring.plans) (scan_of x.placement.contexts) x.list.tokens new
+any_run true x new e = cc
+any_run false x new e = tt
+
+-- the trace of a world in which no more is planned than a world keeps
+abbrev pub ReadsBack : Replay → Plain → Type 0
+ReadsBack x w = planned w.routes w.counts ≤ MOST_PLANNED → IsTraceText (run_trace (source_by x) x.list.shadowed (run_shown w))
+
+planned_as : (x : Replay) (w : Plain) → w.routes ≡ routes_of x.wiring.plans → w.counts ≡ x.counts → planned (routes_of x.wiring.plans) x.counts ≤ MOST_PLANNED → planned w.routes w.counts ≤ MOST_PLANNED
+planned_as x w routes counts few =
+    let same : planned w.routes w.counts ≡ planned (routes_of x.wiring.plans) x.counts = ap (λ (r : List Route). planned r w.counts) routes ∙ ap (planned (routes_of x.wiring.plans)) counts in
+    omega (arith, same, few)
+
+-- a lawful run from the opening world can be written, and its trace is read back
+pub has_run : (serial : Bool) (f : Filter) (x : Replay) (first new : Plain) → PlacesAreThere → PlaceLaws → IsSetUp f x → first ≡ opening_world (routes_of x.wiring.plans) x.counts
+    → IsRunOf serial (routes_of x.wiring.plans) (scan_of x.placement.contexts) x.list.tokens new → LawfulRun x.list.tokens (routes_of x.wiring.plans) new → new.counts ≡ first.counts → ReadsBack x new → HasRun serial x new
+has_run serial f x first new places stand s opens run lawful stays reads =
+    let counts : new.counts ≡ x.counts = stays ∙ ap (λ (w : Plain). w.counts) opens in
+    let many : length new.counts ≡ length x.wiring.names = ap length counts ∙ s.many in
+    record {
+      run = run;
+      lawful = lawful;
+      counts = many;
+      writable = record {
+        channels = λ n t at. let below = lawful.sound.consistent.room.channels n t at in omega (arith, below, many);
+        origins = lawful_origins stand x.recorded (choice_of f (wired_by x.wiring)) x.list (routes_of x.wiring.plans) new s.listed lawful;
+        places = places x.recorded (choice_of f (wired_by x.wiring)) x.list s.listed;
+      };
+      read_back = reads (planned_as x new lawful.wired counts s.limited);
+    }
+
+-- nobody runs a component at the end of a run
+pub none_running : (w : Plain) (c : ℕ) → Quiet w → NotRunning w.hands c
+none_running w c quiet p runs = let free : w.hands p ≡ None = quiet.free p in cc
+
+-- the calls so far, and those of the components that follow
+pub record CallsSoFar (run : Run) (plans : List Plan) (component count : ℕ) : Type 0 where
+  pub few : count ≤ component * 72057594037927936
+  pub so_far : count + calls_from run component (drop component plans) ≡ calls_from run 0 plans
+
+calls_step : (run : Run) (plans : List Plan) (n component : ℕ) → n < length plans → calls_from run component (drop n plans) ≡ length (run.calls component) + calls_from run (component + 1) (drop (suc n) plans)
+calls_step run [] n component inside = absurd (omega arith)
+calls_step run (p ∷ plans) zero component inside = refl
+calls_step run (p ∷ plans) (suc n) component inside = calls_step run plans n component (omega arith)
+
+pub calls_more : (run : Run) (plans : List Plan) (component count here : ℕ) → CallsSoFar run plans component count → component < length plans → here ≡ length (run.calls component) → here ≤ 72057594037927936 → CallsSoFar run plans (component + 1) (count + here)
+calls_more run plans component count here c inside is small =
+    let few = c.few in
+    let so_far = c.so_far in
+    let next : component + 1 ≡ suc component = omega arith in
+    let step = calls_step run plans component component inside ∙ ap (λ (n : ℕ). length (run.calls component) + calls_from run (component + 1) (drop n plans)) (sym next) in
+    record { few = omega (arith, few, small); so_far = omega (arith, so_far, step, is) }

@@ -1,0 +1,14 @@
+use Rattle.std.proofs.Common.{ap}
+use Rattle.cy_store.specs.Memory.{Memory, shows_of}
+use Rattle.cy_words.specs.PlayViews.{play_words_of}
+use Rattle.cy_words.specs.Views.{make_words_of}
+use Rattle.cy_commands.proofs.MakeExits.{made, has_reader}
+use Rattle.cy_commands.proofs.make.set_up_made.Goals as goal
+
+pub read_files-requires : goal.read_files-requires
+read_files-requires c = has_reader (make_words_of c.args.make.now) (play_words_of c.args.play.now) c.requires.play
+
+pub returns-in-Ok-read_files-clause-made : goal.returns-in-Ok-read_files-clause-made
+returns-in-Ok-read_files-clause-made c =
+    made (make_words_of c.args.make.now) (play_words_of c.args.play.now) c.in-Ok-read_files.replay _ _ c.requires.play (ap (λ (m : Memory). (shows_of m).files) c.new-drafts.ensures) c.in-Ok.ensures.done
+    c.in-Ok-read_files.ensures.comes.accepted.1 c.in-Ok-read_files.ensures.set_up

@@ -1,0 +1,10 @@
+use Rattle.std.proofs.Common.{rules, ◌≤◌, length, ap}
+use Rattle.wake_core.specs.Rest.{run_shown}
+use Rattle.wake_core.specs.WorldOf.{plain_of}
+use Rattle.cy_commands.proofs.PlayRuns.{calls_more}
+use Rattle.cy_commands.proofs.play.calls_in.Goals as goal
+
+pub loop-component-preserved : goal.loop-component-preserved
+loop-component-preserved c =
+    let small : length c.calls_of.result.now ≤ 72057594037927936 = search rules in
+    calls_more (run_shown (plain_of c.args.world.now)) c.args.plans.now c.loop-component.component c.loop-component.count (length c.calls_of.result.now) c.loop-component.invariant (search rules) (ap length c.calls_of.ensures) small

@@ -1,0 +1,17 @@
+pub mod Check
+pub mod CheckEnds
+pub mod ConfigText
+pub mod Due
+pub mod Info
+pub mod InfoEnds
+pub mod Line
+pub mod Lines
+pub mod LoadText
+pub mod MakeEnds
+pub mod MakeWork
+pub mod Outcome
+pub mod PlayEnds
+pub mod PlayWork
+pub mod Status
+pub mod Summary
+pub mod Work

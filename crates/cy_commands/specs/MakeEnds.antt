@@ -1,0 +1,68 @@
+-- How `make` ends.
+use Rattle.std.specs.Prelude.{ℕ, ◌≡◌, ◌++◌, true, List, None, codes}
+use Rattle.cy_store.specs.Reads.{Accepts}
+use Rattle.cy_replay.specs.declared.setup.Replay.{Replay}
+use Rattle.cy_request.specs.Request.{OfFiles}
+use Rattle.cy_replay.specs.Setup.{IsSetUp, replayed}
+use Rattle.cy_make.specs.declared.config.Config.TheVariants.{Dag}
+use Rattle.cy_make.specs.declared.error.MakeError.{MakeError}
+use Rattle.cy_make.specs.declared.error.MakeError.TheVariants as make_error
+use Rattle.cy_make.specs.Texts.{suffix_of}
+use Rattle.cy_make.specs.Inputs.{record_name}
+use Rattle.cy_commands.specs.declared.make.Names.{Names}
+use Rattle.cy_commands.specs.declared.failure.Failure.{Failure}
+use Rattle.cy_commands.specs.declared.failure.Failure.TheVariants as failure
+use Rattle.cy_commands.specs.declared.failure.File.{File}
+use Rattle.cy_commands.specs.declared.failure.File.TheVariants as file
+use Rattle.cy_commands.specs.declared.status.Status.{Status}
+use Rattle.cy_commands.specs.declared.status.Status.TheVariants.{StoreFault, Memory}
+use Rattle.cy_commands.specs.Lines.{store_line, memory_line}
+use Rattle.cy_words.specs.MakeWords.{MakeWords}
+use Rattle.cy_commands.specs.MakeWork.{play_made, made_files}
+use Rattle.cy_words.specs.PassWords.{all_messages}
+use Rattle.cy_words.specs.PlayWords.{PlayWords}
+use Rattle.cy_commands.specs.PlayWork.{replayed_in}
+
+-- A replay is that of the files that are made.
+pub record IsMade (w : MakeWords) (x : Replay) : Type 0 where
+  pub read : replayed_in (play_made w) (made_files w) ≡ Accepts (replayed x)
+  pub set_up : IsSetUp all_messages x
+
+-- The status that is due where a file of the play was not made, and its line.
+abbrev pub IsDueUnmade : MakeWords → MakeError → Status → List ℕ → Type 0
+IsDueUnmade w (make_error.Config c) due line = (due ≡ StoreFault)
+    × (line ≡ store_line (w.prefix ++ suffix_of c))
+IsDueUnmade w make_error.Record due line = (due ≡ StoreFault)
+    × (line ≡ store_line (record_name w.prefix))
+IsDueUnmade w make_error.Memory due line = (due ≡ Memory) × (line ≡ memory_line)
+
+-- The same of the files that are written for the play.
+abbrev pub result_suffix : File → List ℕ
+result_suffix file.Output = codes ".out"
+result_suffix file.Trace = codes ".trace"
+
+abbrev pub IsDueUnplayed : MakeWords → Failure → Status → List ℕ → Type 0
+IsDueUnplayed w (failure.Store f) due line = (due ≡ StoreFault)
+    × (line ≡ store_line (w.prefix ++ result_suffix f))
+IsDueUnplayed w failure.Memory due line = (due ≡ Memory) × (line ≡ memory_line)
+
+-- The names of the files of a prefix, and a play of all messages by such names.
+abbrev pub names_of : List ℕ → Names
+names_of prefix = record {
+  dag = prefix ++ suffix_of Dag;
+  input = record_name prefix;
+  output = prefix ++ codes ".out";
+  trace = prefix ++ codes ".trace";
+}
+
+abbrev pub play_named : Names → PlayWords
+play_named n = record {
+  request = record {
+    components = OfFiles n.dag None;
+    input = n.input;
+    filter = all_messages;
+  };
+  output = n.output;
+  trace = n.trace;
+  serial = true;
+}

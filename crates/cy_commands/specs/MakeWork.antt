@@ -1,0 +1,46 @@
+-- What `make` makes.
+use Rattle.std.specs.Prelude.{◌≡◌, ◌++◌, true, codes, Some, None}
+use Rattle.std.specs.FinMap.{empty}
+use Rattle.cy_store.specs.Files.{Files}
+use Rattle.cy_store.specs.Write.{after_writes}
+use Rattle.cy_section.specs.RecordText.{IsRecordText}
+use Rattle.cy_make.specs.declared.config.Config.TheVariants.{Dag}
+use Rattle.cy_make.specs.Messages.{channels_of, messages_to}
+use Rattle.cy_make.specs.Texts.{suffix_of}
+use Rattle.cy_make.specs.Inputs.{record_name, made_record, input_writes, with_inputs}
+use Rattle.cy_request.specs.Request.{OfFiles}
+use Rattle.cy_commands.specs.Work.{Work}
+use Rattle.cy_words.specs.MakeWords.{MakeWords}
+use Rattle.cy_words.specs.PassWords.{all_messages}
+use Rattle.cy_words.specs.PlayWords.{PlayWords}
+use Rattle.cy_commands.specs.PlayWork.{IsPlayWork}
+
+-- A serial play of all messages of the record that is made, through the components that are made,
+-- with the default scheduler.
+abbrev pub play_made : MakeWords → PlayWords
+play_made w = record {
+  request = record {
+    components = OfFiles (w.prefix ++ suffix_of Dag) None;
+    input = record_name w.prefix;
+    filter = all_messages;
+  };
+  output = w.prefix ++ codes ".out";
+  trace = w.prefix ++ codes ".trace";
+  serial = true;
+}
+
+-- The files that are played: those that are made, and no others.
+abbrev pub made_files : MakeWords → Files
+made_files w = with_inputs w.count w.prefix empty
+
+-- It writes the files of a play and then what `play` makes of these files, after which all of them
+-- have their texts and every other name is as before; and it prints the line of `play`.
+pub record IsMakeWork (w : MakeWords) (work : Work) : Type 0 where
+  pub played : Work
+  pub by_play : IsPlayWork (play_made w) (Some (made_files w)) played
+  pub record_text : IsRecordText (channels_of w.count) (messages_to w.count)
+      (made_record w.count w.prefix)
+  pub writes : work.writes ≡ input_writes w.count w.prefix ++ played.writes
+  pub leaves : (m : Files) → after_writes work.writes m
+      ≡ after_writes played.writes (with_inputs w.count w.prefix m)
+  pub text : work.text ≡ played.text

@@ -1,0 +1,105 @@
+-- What `play` makes of its files, and which it refuses.
+use Rattle.std.specs.Prelude.{ℕ, ◌≡◌, ⊤, Bool, true, false, List, [], ◌∷◌, ◌++◌, length, map}
+use Rattle.std.specs.Prelude.{Option, IfSome}
+use Rattle.std.specs.FinMap.{insert}
+use Rattle.cy_store.specs.Files.{Files}
+use Rattle.cy_store.specs.Reads.{Reads, Accepts, Refuses}
+use Rattle.cy_store.specs.Write.{Write, after_writes}
+use Rattle.cy_msg.specs.Placement.{scan_of}
+use Rattle.cy_msg.specs.declared.placement.ContextPlan.{ContextPlan}
+use Rattle.cy_msg.specs.declared.play_list.PlayList.{PlayList}
+use Rattle.cy_msg.specs.declared.token.Token.{Token}
+use Rattle.cy_section.specs.RecordText.{IsRecordText, record_bytes}
+use Rattle.cy_reader.specs.Play.{IsPlayList}
+use Rattle.cy_sched.specs.Placing.{IsPlaced}
+use Rattle.cy_trace.specs.TraceForm.{IsTraceText}
+use Rattle.cy_trace.specs.TraceText.{trace_text}
+use Rattle.wake_core.specs.LawfulRun.{LawfulRun}
+use Rattle.wake_core.specs.Plain.{Plain}
+use Rattle.wake_core.specs.Rest.{run_shown}
+use Rattle.wake_core.specs.Run.{Run, routes_of}
+use Rattle.wake_core.specs.declared.route.Route.{Route}
+use Rattle.wake_core.specs.Serial.{SerialRun}
+use Rattle.cy_replay.specs.declared.error.Refusal.{Refusal}
+use Rattle.cy_replay.specs.Listing.{choice_of}
+use Rattle.cy_writer.specs.RecordWrites.{file_writes, record_puts}
+use Rattle.cy_replay.specs.Recording.{Source, channels_of_tape, messages_of_tape, chunks_of_tape}
+use Rattle.cy_replay.specs.Setup.{Replayed, replay_in}
+use Rattle.cy_commands.specs.declared.status.Status.{Status}
+use Rattle.cy_commands.specs.Work.{Work}
+use Rattle.cy_commands.specs.ConfigText.{fault_text, fault_status}
+use Rattle.cy_commands.specs.Lines.{file_line}
+use Rattle.cy_words.specs.PlayWords.{PlayWords}
+use Rattle.cy_commands.specs.Summary.{calls_from, done_line}
+
+-- The files are read and judged in the order of refusals.
+abbrev pub replayed_in : PlayWords → Files → Reads Refusal Replayed
+replayed_in w files = replay_in w.request files
+
+-- What the record is written from, its bytes for a tape, and the trace of a run.
+abbrev pub source_in : Replayed → PlayList → Source
+source_in read list = record {
+  whole = read.contents;
+  names = read.wired.names;
+  plans = read.wired.plans;
+  places = list.places;
+}
+
+abbrev pub tape_record : PlayWords → Source → List Token → List ℕ
+tape_record w s tape = record_bytes (channels_of_tape s tape) (chunks_of_tape w.output s tape)
+
+abbrev pub run_trace : Source → ℕ → Run → List ℕ
+run_trace s shadowed run = trace_text s.names s.plans shadowed run
+
+-- The record is written piece by piece, and then the trace in one piece.
+abbrev pub play_writes : PlayWords → Source → ℕ → Run → List Write
+play_writes w s shadowed run =
+    file_writes w.output (record_puts (channels_of_tape s run.tape)
+    (chunks_of_tape w.output s run.tape))
+    ++ file_writes w.trace ((0, run_trace s shadowed run) ∷ [])
+
+abbrev pub play_line : Source → PlayList → Run → List ℕ
+play_line s list run = done_line (length list.tokens) list.shadowed (calls_from run 0 s.plans)
+    (length run.tape)
+
+-- The run that a world shows is the serial one, where that is asked for; on threads it may be any.
+abbrev pub IsRunOf : (serial : Bool) → List Route → List ℕ → List Token → Plain → Type 0
+IsRunOf true routes scan tokens w = SerialRun routes scan tokens (run_shown w)
+IsRunOf false routes scan tokens w = ⊤
+
+-- A lawful run of the play list over the placed components: the serial one, where it is asked for.
+pub record IsPlayed (serial : Bool) (read : Replayed) (list : PlayList)
+    (contexts : List ContextPlan) (w : Plain) : Type 0 where
+  pub run : IsRunOf serial (routes_of read.wired.plans) (scan_of contexts) list.tokens w
+  pub lawful : LawfulRun list.tokens (routes_of read.wired.plans) w
+
+-- The files are accepted, and this is what `play` makes of them: the record and the trace of one
+-- lawful run, each of the form that is read back, written in their order, after which both files
+-- hold them and every other name is as before; and the line with the run's numbers.
+pub record IsPlayWork (w : PlayWords) (files : Option Files) (work : Work) : Type 0 where
+  pub read : Replayed
+  pub accepted : IfSome files (λ m. replayed_in w m ≡ Accepts read)
+  pub list : PlayList
+  pub listed : IsPlayList read.contents (choice_of w.request.filter read.wired) list
+  pub contexts : List ContextPlan
+  pub placed : IsPlaced read.configured.sched (map (λ c. c.name) read.configured.dag.components)
+      contexts
+  pub world : Plain
+  pub played : IsPlayed w.serial read list contexts world
+  pub record_text : IsRecordText (channels_of_tape (source_in read list) world.tape)
+      (messages_of_tape (source_in read list) world.tape)
+      (tape_record w (source_in read list) world.tape)
+  pub read_back : IsTraceText (run_trace (source_in read list) list.shadowed (run_shown world))
+  pub writes : work.writes ≡ play_writes w (source_in read list) list.shadowed (run_shown world)
+  pub leaves : (m : Files) → after_writes work.writes m
+      ≡ insert (insert m w.output (tape_record w (source_in read list) world.tape)) w.trace
+      (run_trace (source_in read list) list.shadowed (run_shown world))
+  pub text : work.text ≡ play_line (source_in read list) list (run_shown world)
+
+-- A file is refused, with the status and the line of its fault.
+pub record IsPlayRefusal (w : PlayWords) (files : Option Files) (due : Status) (line : List ℕ) :
+    Type 0 where
+  pub refusal : Refusal
+  pub refused : IfSome files (λ m. replayed_in w m ≡ Refuses refusal)
+  pub status : due ≡ fault_status refusal.fault
+  pub told : line ≡ file_line refusal.file (fault_text refusal.fault)

@@ -1,0 +1,118 @@
+// The command `check`.
+ghost use Rattle.std.specs.Prelude.{◌≡◌, IfOk, IsOkUnless};
+ghost use Rattle.cy_sched.specs.SchedFile.{IsPlaceable};
+ghost use Rattle.cy_replay.specs.Comes.{ComesTo};
+ghost use Rattle.cy_replay.specs.Configuration.{IsAsked};
+ghost use Rattle.cy_replay.specs.Steps.{configured};
+ghost use Rattle.cy_commands.specs.Check.{checked_in, unknown_in};
+ghost use Rattle.cy_words.specs.Command as command;
+ghost use Rattle.cy_commands.specs.Due.{IsDueFor};
+ghost use Rattle.cy_commands.specs.Line.{bytes_of_line};
+ghost use Rattle.cy_commands.specs.CheckEnds.{IsDueUnset, IsTextOf};
+ghost use Rattle.cy_words.specs.Views.{check_words_of};
+
+use crate::config_text::{fault_status, refusal_line, store_line};
+use crate::due::{Due, out_of_memory};
+use crate::line::Line;
+use crate::status::Status;
+use cy_check::{SchedulerFile, check_text};
+use cy_msg::{Bytes, Text};
+use cy_replay::{Configuration, SetupError, place_components, read_configuration, wire_components};
+use cy_sched::Sched;
+use cy_store::Store;
+use cy_words::Check;
+use std::alloc::Global;
+
+/// What is due where the files are not accepted.
+pub fn due_unset<'a>(alloc: Global, error: SetupError) -> Due<'a>
+    ensures { IsDueUnset error result.status (bytes_of_line result.line) }
+{
+    match error {
+        SetupError::Refused(refusal) => match refusal_line(alloc, &refusal) {
+            Ok(line) => Due {
+                status: fault_status(&refusal.fault),
+                line: Line::Made(line),
+            },
+            Err(_) => out_of_memory(),
+        },
+        SetupError::Store { file } => match store_line(alloc, file.as_str()) {
+            Ok(line) => Due {
+                status: Status::StoreFault,
+                line: Line::Made(line),
+            },
+            Err(_) => out_of_memory(),
+        },
+        SetupError::Memory => out_of_memory(),
+    }
+}
+
+// Reads the files, and wires their components over no channels of a record.
+fn read_files<S: Store>(
+    alloc: Global,
+    store: &mut S,
+    check: &Check,
+) -> Result<Configuration, SetupError>
+    ensures comes { ComesTo configured (checked_in (check_words_of check.now))
+        (IsAsked check.now.dag.now (check_words_of check.now).sched (S.shows store.old).files)
+        (S.shows store.old) (S.shows store.new) result }
+    ensures placeable { IfOk result (λ c. IsPlaceable c.sched) }
+{
+    let configuration = read_configuration(alloc, store, check.dag, check.sched)?;
+    let _wiring = wire_components(alloc, check.dag, &configuration, &[])?;
+    Ok(configuration)
+}
+
+// The fields of a scheduler file that aren't known.
+fn unknown_in(sched: &Sched) -> &[Text]
+    ensures { result.now ≡ unknown_in sched.now }
+{
+    match sched {
+        Sched::Classic { unknown, .. } => unknown.as_slice(),
+        Sched::Choreography { unknown, .. } => unknown.as_slice(),
+    }
+}
+
+// The text of what was read.
+fn text_of(alloc: Global, check: &Check, configuration: &Configuration) -> Result<Bytes, SetupError>
+    requires { IsPlaceable configuration.now.sched }
+    ensures text { IfOk result
+        (IsTextOf (check_words_of check.now) (configured configuration.now)) }
+    ensures only_memory { IsOkUnless result SetupError.Memory }
+{
+    let placement = place_components(alloc, configuration)?;
+    let scheduler = SchedulerFile {
+        file: check.sched.unwrap_or(""),
+        unknown: unknown_in(&configuration.sched),
+    };
+    let configs = configuration.configs.as_slice();
+    match check_text(
+        alloc,
+        check.dag,
+        &configuration.dag,
+        configs,
+        &placement,
+        scheduler,
+    ) {
+        Ok(text) => Ok(text),
+        Err(_) => Err(SetupError::Memory),
+    }
+}
+
+/// What is due for `check` of a DAG file and a scheduler file: the text of what they say, or why
+/// they are not accepted. Nothing is written to the store.
+pub fn run_check<'a, S: Store>(alloc: Global, check: &Check<'a>, store: &mut S) -> Due<'a>
+    ensures { IsDueFor (command.Check (check_words_of check.now)) (S.shows store.old)
+        (S.shows store.new) result.status (bytes_of_line result.line) }
+{
+    let configuration = match read_files(alloc, store, check) {
+        Ok(configuration) => configuration,
+        Err(error) => return due_unset(alloc, error),
+    };
+    match text_of(alloc, check, &configuration) {
+        Ok(text) => Due {
+            status: Status::Done,
+            line: Line::Made(text),
+        },
+        Err(_) => out_of_memory(),
+    }
+}

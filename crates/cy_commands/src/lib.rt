@@ -1,0 +1,29 @@
+//! The commands of the program `cyber` on one thread: what each makes of the files that it reads, and
+//! which status is due then.
+//!
+//! `specs/Due` says which status is due, `specs/Outcome` what the files are to each command: by
+//! `specs/PlayWork`, `specs/MakeWork`, `specs/Check` and `specs/Info`. Which words ask for which
+//! command says `cy_words`; a play on threads stands in `cyber_cli`, and so does how a status is told.
+#![tactic(auto)]
+
+mod asked;
+mod check;
+mod config_text;
+mod due;
+mod failure;
+mod fault_text;
+mod info;
+mod line;
+mod load_text;
+mod make;
+mod play;
+mod status;
+mod summary;
+
+pub use asked::{due_for, due_of, misused};
+pub use check::due_unset;
+pub use due::{Due, out_of_memory};
+pub use fault_text::OUTPUT_LINE;
+pub use line::Line;
+pub use play::{due_played, opening, played_world, read_files};
+pub use status::Status;

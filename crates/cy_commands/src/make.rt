@@ -1,0 +1,174 @@
+// The command `make`.
+ghost use Rattle.std.specs.Prelude.{◌≡◌, ◌≤◌, ◌<◌, ◌++◌, ℕ, List, codes, IfOk, IsOkUnless};
+ghost use Rattle.cy_make.specs.Texts.{suffix_of};
+ghost use Rattle.cy_words.specs.Command as command;
+ghost use Rattle.cy_commands.specs.Due.{IsDueFor};
+ghost use Rattle.cy_commands.specs.Line.{bytes_of_line};
+ghost use Rattle.cy_commands.specs.Lines.{store_line};
+ghost use Rattle.cy_commands.specs.MakeEnds.{IsMade, IsDueUnmade, names_of};
+ghost use Rattle.cy_commands.specs.MakeEnds.{IsDueUnplayed, play_named, result_suffix};
+ghost use Rattle.cy_commands.specs.MakeWork.{play_made};
+ghost use Rattle.cy_words.specs.PlayViews.{play_words_of};
+ghost use Rattle.cy_words.specs.Views.{make_words_of};
+
+use crate::due::{Due, out_of_memory};
+use crate::failure::{Failure, File};
+use crate::line::Line;
+use crate::play::{played_world, read_files, write_both};
+use crate::status::Status;
+use cy_make::{Config, MakeError, name_with, write_inputs};
+use cy_msg::Text;
+use cy_replay::Replay;
+use cy_request::Components;
+use cy_store::{MemStore, Store};
+use cy_words::{Make, Play};
+use std::alloc::{AllocError, Global};
+
+// The names of the files that are played, and of those that are written for it.
+#[derive(Drop)]
+struct Names {
+    dag: Text,
+    input: Text,
+    output: Text,
+    trace: Text,
+}
+
+impl Names {
+    // Those of a prefix.
+    fn of(alloc: Global, prefix: &str) -> Result<Self, AllocError>
+        ensures { IfOk result (λ n. n ≡ names_of prefix.now) }
+    {
+        Ok(Names {
+            dag: name_with(alloc, prefix, ".dag")?,
+            input: name_with(alloc, prefix, ".record")?,
+            output: name_with(alloc, prefix, ".out")?,
+            trace: name_with(alloc, prefix, ".trace")?,
+        })
+    }
+
+    // A play of all messages by these names.
+    fn play(&self) -> Play<'_>
+        ensures { play_words_of result ≡ play_named self.now }
+    {
+        Play {
+            components: Components::Files {
+                dag: self.dag.as_str(),
+                sched: None,
+            },
+            input: self.input.as_str(),
+            output: self.output.as_str(),
+            trace: self.trace.as_str(),
+            only: None,
+            drop: None,
+            begin: 0,
+            end: u64::MAX,
+            serial: true,
+        }
+    }
+}
+
+// Makes the files in memory, and sets up a replay of them.
+fn set_up_made(alloc: Global, make: &Make, play: &Play) -> Result<Replay, Failure>
+    requires few { make.now.count ≤ 1048576 }
+    requires play { play_words_of play.now ≡ play_made (make_words_of make.now) }
+    ensures made { IfOk result (IsMade (make_words_of make.now)) }
+    ensures only_memory { IsOkUnless result Failure.Memory }
+{
+    let mut drafts = MemStore::new(alloc);
+    let Ok(()) = write_inputs(alloc, &mut drafts, make.count, make.prefix) else {
+        return Err(Failure::Memory);
+    };
+    match read_files(alloc, &mut drafts, play) {
+        Ok(replay) => Ok(replay),
+        // No call of these drafts fails, and no text of theirs is refused.
+        Err(_) => Err(Failure::Memory),
+    }
+}
+
+// What stands behind the prefix in the line that tells of a configuration file.
+fn config_failed(config: Config) -> &'static str
+    ensures { result.now ≡ suffix_of config ++ codes ": the store failed\n" }
+{
+    match config {
+        Config::Adder => ".adder.conf: the store failed\n",
+        Config::Band => ".band.conf: the store failed\n",
+        Config::Last8 => ".last8.conf: the store failed\n",
+        Config::Late => ".late.conf: the store failed\n",
+        Config::Dag => ".dag: the store failed\n",
+    }
+}
+
+// The same of a file that is written for the play.
+fn result_failed(file: File) -> &'static str
+    ensures { result.now ≡ result_suffix file ++ codes ": the store failed\n" }
+{
+    match file {
+        File::Output => ".out: the store failed\n",
+        File::Trace => ".trace: the store failed\n",
+    }
+}
+
+// A call of the store failed at a file, of which the line tells with what stands behind the prefix.
+fn file_failed<'a>(make: &Make<'a>, told: &'static str) -> Due<'a>
+    ensures status { result.status ≡ Status.StoreFault }
+    ensures line { (suffix : List ℕ) → told.now ≡ suffix ++ codes ": the store failed\n"
+        → bytes_of_line result.line ≡ store_line (make.now.prefix.now ++ suffix) }
+{
+    Due {
+        status: Status::StoreFault,
+        line: Line::Named(make.prefix, told),
+    }
+}
+
+// What is due where a file of the play was not made.
+fn due_unmade<'a>(make: &Make<'a>, error: MakeError) -> Due<'a>
+    ensures { IsDueUnmade (make_words_of make.now) error result.status (bytes_of_line result.line) }
+{
+    match error {
+        MakeError::Config(config) => file_failed(make, config_failed(config)),
+        MakeError::Record => file_failed(make, ".record: the store failed\n"),
+        MakeError::Memory => out_of_memory(),
+    }
+}
+
+// What is due where the play was not written.
+fn due_unplayed<'a>(make: &Make<'a>, failure: Failure) -> Due<'a>
+    ensures { IsDueUnplayed (make_words_of make.now) failure result.status
+        (bytes_of_line result.line) }
+{
+    match failure {
+        Failure::Store(file) => file_failed(make, result_failed(file)),
+        Failure::Memory => out_of_memory(),
+    }
+}
+
+/// What is due for `make` with these words: it makes the files of a play of so many messages in
+/// memory, sets the play up from these texts and plays it. Then it writes the files, and behind
+/// them the record of all messages and the trace of all calls. It reads no file of the store.
+pub fn run_make<'a, S: Store>(alloc: Global, make: &Make<'a>, store: &mut S) -> Due<'a>
+    requires some { 0 < make.now.count }
+    requires few { make.now.count ≤ 1048576 }
+    ensures { IsDueFor (command.Make (make_words_of make.now)) (S.shows store.old)
+        (S.shows store.new) result.status (bytes_of_line result.line) }
+{
+    let Ok(names) = Names::of(alloc, make.prefix) else {
+        return out_of_memory();
+    };
+    let play = names.play();
+    let Ok(replay) = set_up_made(alloc, make, &play) else {
+        return out_of_memory();
+    };
+    let Ok(world) = played_world(alloc, &play, &replay) else {
+        return out_of_memory();
+    };
+    if let Err(error) = write_inputs(alloc, store, make.count, make.prefix) {
+        return due_unmade(make, error);
+    }
+    match write_both(alloc, store, &play, replay, &world) {
+        Ok(line) => Due {
+            status: Status::Done,
+            line: Line::Made(line),
+        },
+        Err(failure) => due_unplayed(make, failure),
+    }
+}

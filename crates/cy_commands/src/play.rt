@@ -1,0 +1,314 @@
+// The commands `play` and `pass` on one thread.
+ghost use Rattle.std.specs.Prelude.{◌≡◌, ◌≤◌, ◌<◌, ℕ, length, map, Ok, IfOk, OnOk, IsErrOf};
+ghost use Rattle.std.specs.Prelude.{IsOkUnless};
+ghost use Rattle.std.specs.Option.{option_map};
+ghost use Rattle.cy_store.specs.Store.{StoreView, WriteRose};
+ghost use Rattle.cy_store.specs.Write.{Write, name_of, after_writes};
+ghost use Rattle.cy_writer.specs.Writes.{StopsAt, StopsBefore};
+ghost use Rattle.wake_core.specs.LawfulRun.{Quiet};
+ghost use Rattle.wake_core.specs.Plain.{opening_world};
+ghost use Rattle.wake_core.specs.Rest.{run_shown};
+ghost use Rattle.wake_core.specs.Run.{routes_of};
+ghost use Rattle.wake_core.specs.WorldOf.{plain_of};
+ghost use Rattle.cy_trace.specs.TraceText.{trace_text as text_of};
+ghost use Rattle.cy_replay.specs.Comes.{ComesTo};
+ghost use Rattle.cy_request.specs.Request.{HasReader};
+ghost use Rattle.cy_replay.specs.Setup.{IsAsked, IsSetUp, replayed};
+ghost use Rattle.cy_commands.specs.declared.failure.File.{File};
+ghost use Rattle.cy_words.specs.Command as command;
+ghost use Rattle.cy_commands.specs.Due.{IsDueFor};
+ghost use Rattle.cy_commands.specs.Line.{bytes_of_line};
+ghost use Rattle.cy_commands.specs.PlayEnds.{SetsUp, HasRun, IsDueAfterPlay, IsTold, IsLine};
+ghost use Rattle.cy_commands.specs.PlayEnds.{name_of_play, unwritten, writes_by};
+ghost use Rattle.cy_words.specs.PlayViews.{play_words_of};
+ghost use Rattle.cy_words.specs.PlayWords.{names_in};
+ghost use Rattle.cy_commands.specs.PlayWork.{replayed_in};
+ghost use Rattle.cy_commands.specs.Summary.{calls_from};
+
+use crate::check::due_unset;
+use crate::due::{Due, out_of_memory, store_failed};
+use crate::failure::{Failure, File};
+use crate::line::Line;
+use crate::status::Status;
+use crate::summary::done_line;
+use cy_comp::{Call, Plan};
+use cy_msg::{Bytes, Items, Text};
+use cy_replay::{Played, Replay, SetupError, played_places_are_there, set_up, write_record};
+use cy_request::{Filter, Request};
+use cy_store::Store;
+use cy_trace::{TraceError, trace_is_read_back, trace_text};
+use cy_words::Play;
+use cy_writer::{WriteError, write_file};
+use std::alloc::{AllocError, Global};
+use wake_core::{CoreError, World, laws, serial};
+
+// The trace of a run, and the line that tells of it.
+#[derive(Drop)]
+struct Told {
+    trace: Bytes,
+    line: Bytes,
+}
+
+// The parts of a list.
+fn parts_of<'a>(alloc: Global, list: &'a str) -> Result<Vec<&'a str>, AllocError>
+    ensures { IfOk result (λ parts. map (λ part. part.now) parts.items ≡ names_in list.now) }
+{
+    let bytes = list.as_bytes();
+    let mut parts = Vec::new(alloc);
+    let mut start = 0;
+    for (place, byte) in bytes.iter().enumerate() {
+        if *byte != b',' {
+            continue;
+        }
+        parts.push(&list[start..place])?;
+        start = place + 1;
+    }
+    parts.push(&list[start..])?;
+    Ok(parts)
+}
+
+// The names of a list.
+fn names_of(alloc: Global, list: &str) -> Result<Items<Text>, SetupError>
+    ensures names { IfOk result (λ names. names ≡ names_in list.now) }
+    ensures only_memory { IsOkUnless result SetupError.Memory }
+{
+    let parts = parts_of(alloc, list)?;
+    let mut names = Vec::with_capacity(alloc, parts.len())?;
+    for part in &parts {
+        names.push(Text::new(alloc, part)?)?;
+    }
+    Ok(Items::new(names))
+}
+
+// The names of a list, where there is one.
+fn names_or_none(alloc: Global, list: Option<&str>) -> Result<Option<Items<Text>>, SetupError>
+    ensures names { IfOk result (λ names. names
+        ≡ option_map (λ l. names_in l.now) list.entry) }
+    ensures only_memory { IsOkUnless result SetupError.Memory }
+{
+    match list {
+        Some(list) => Ok(Some(names_of(alloc, list)?)),
+        None => Ok(None),
+    }
+}
+
+// Which messages the words let through.
+fn filter_of(alloc: Global, play: &Play) -> Result<Filter, SetupError>
+    ensures filter { IfOk result (λ f. f ≡ (play_words_of play.now).request.filter) }
+    ensures only_memory { IsOkUnless result SetupError.Memory }
+{
+    let only = names_or_none(alloc, play.only)?;
+    let drop = match names_or_none(alloc, play.drop)? {
+        Some(names) => names,
+        None => Items::new(Vec::new(alloc)),
+    };
+    let (begin, end) = (play.begin, play.end);
+    Ok(Filter {
+        only,
+        drop,
+        begin,
+        end,
+    })
+}
+
+/// Reads the files, and sets up what is played.
+pub fn read_files<S: Store>(alloc: Global, store: &mut S, play: &Play) -> Result<Replay, SetupError>
+    requires { HasReader (play_words_of play.now).request.components }
+    ensures comes { ComesTo replayed (replayed_in (play_words_of play.now))
+        (IsAsked (play_words_of play.now).request (S.shows store.old).files)
+        (S.shows store.old) (S.shows store.new) result }
+    ensures set_up { IfOk result (IsSetUp (play_words_of play.now).request.filter) }
+{
+    let filter = filter_of(alloc, play)?;
+    let request = Request {
+        components: play.components,
+        input: play.input,
+        filter: &filter,
+    };
+    set_up(alloc, store, &request)
+}
+
+/// The world of a replay, in which nothing has happened.
+pub fn opening(alloc: Global, play: &Play, replay: &Replay) -> Result<World, AllocError>
+    requires { IsSetUp (play_words_of play.now).request.filter replay.now }
+    ensures opens { IfOk result (λ w. plain_of w
+        ≡ opening_world (routes_of replay.now.wiring.plans) replay.now.counts) }
+{
+    match World::new(alloc, &replay.wiring, replay.counts.as_slice()) {
+        Ok(world) => Ok(world),
+        Err(CoreError::Memory) => Err(AllocError),
+        Err(CoreError::TooMany { .. }) => unreachable!(),
+    }
+}
+
+/// The world after a replay was played serially.
+pub fn played_world(alloc: Global, play: &Play, replay: &Replay) -> Result<World, AllocError>
+    requires { IsSetUp (play_words_of play.now).request.filter replay.now }
+    ensures run { IfOk result (λ w. HasRun (play_words_of play.now).serial replay.now
+        (plain_of w)) }
+{
+    let mut world = opening(alloc, play, replay)?;
+    serial(&mut world, &replay.list, &replay.placement);
+    played_places_are_there();
+    laws::places();
+    trace_is_read_back(&world, &replay.wiring, replay.list.shadowed);
+    Ok(world)
+}
+
+// The calls of a component of a world whose run has come to its end.
+fn calls_of(world: &World, component: u32) -> &[Call]
+    requires quiet { Quiet (plain_of world.now) }
+    requires known { component < length (plain_of world.now).routes }
+    ensures { result.now ≡ (plain_of world.now).calls component }
+{
+    world.sound();
+    world.routine(component).calls()
+}
+
+// How many calls there were.
+fn calls_in(world: &World, plans: &[Plan]) -> u64
+    requires quiet { Quiet (plain_of world.now) }
+    requires routes { (plain_of world.now).routes ≡ routes_of plans.now }
+    requires few { length plans.now ≤ 64 }
+    ensures { result ≡ calls_from (run_shown (plain_of world.now)) 0 plans.now }
+{
+    let mut count = 0;
+    for component in 0..plans.len() {
+        count += calls_of(world, component as u32).len() as u64;
+    }
+    count
+}
+
+// The trace of a replay's run and the line that tells of it. The record that was read and the play
+// list are given back first: the text may have their room.
+fn tell_run(alloc: Global, play: &Play, replay: Replay, world: &World) -> Result<Told, Failure>
+    requires { HasRun (play_words_of play.now).serial replay (plain_of world.now) }
+    ensures told { IfOk result (IsTold replay (plain_of world.now)) }
+    ensures only_memory { IsOkUnless result Failure.Memory }
+{
+    let Replay {
+        recorded,
+        wiring,
+        list,
+        ..
+    } = replay;
+    let shadowed = list.shadowed;
+    drop(recorded);
+    drop(list);
+    let trace = match trace_text(alloc, world, &wiring, shadowed) {
+        Ok(trace) => trace,
+        Err(TraceError::Memory) => return Err(Failure::Memory),
+        Err(TraceError::Bad { .. }) => unreachable!(),
+    };
+    let calls = calls_in(world, wiring.plans.as_slice());
+    let written = world.tape_list().len() as u64;
+    let line = done_line(alloc, world.played(), shadowed, calls, written)?;
+    Ok(Told { trace, line })
+}
+
+// A failure to write a file.
+fn unwritten(file: File, error: WriteError) -> Failure
+    ensures { result ≡ unwritten file error }
+{
+    match error {
+        WriteError::Failed => Failure::Store(file),
+        WriteError::Broken => Failure::Store(file),
+        WriteError::Memory => Failure::Memory,
+    }
+}
+
+// Writes the record of a replay's run, and then its trace. Answers the line that tells of it.
+pub(crate) fn write_both<S: Store>(
+    alloc: Global,
+    store: &mut S,
+    play: &Play,
+    replay: Replay,
+    world: &World,
+) -> Result<Bytes, Failure>
+    requires set_up { IsSetUp (play_words_of play.now).request.filter replay }
+    requires run { HasRun (play_words_of play.now).serial replay (plain_of world.now) }
+    ensures done { OnOk result ((S.shows store.new).files
+        ≡ option_map (after_writes (writes_by (play_words_of play.now) replay
+        (plain_of world.now))) (S.shows store.old).files) }
+    ensures line { IfOk result (IsLine replay (plain_of world.now)) }
+    ensures failed { (f : File) → IsErrOf result (Failure.Store f)
+        → ((w : Write) × (name_of w ≡ name_of_play (play_words_of play.now) f)
+        × StopsAt (writes_by (play_words_of play.now) replay (plain_of world.now)) w
+        (S.shows store.old).files (S.shows store.new).files) }
+    ensures memory { IsErrOf result Failure.Memory
+        → StopsBefore (writes_by (play_words_of play.now) replay (plain_of world.now))
+        (S.shows store.old).files (S.shows store.new).files }
+    ensures causes { (f : File) → IsErrOf result (Failure.Store f) → WriteRose (S.shows store.old)
+        (S.shows store.new) }
+{
+    let played = Played {
+        whole: &replay.recorded,
+        wiring: &replay.wiring,
+        list: &replay.list,
+    };
+    if let Err(error) = write_record(alloc, store, play.output, &played, world.tape_list()) {
+        return Err(unwritten(File::Output, error));
+    }
+    let told = tell_run(alloc, play, replay, world)?;
+    if let Err(error) = write_file(store, play.trace, told.trace.as_slice()) {
+        return Err(unwritten(File::Trace, error));
+    }
+    let Told { line, .. } = told;
+    Ok(line)
+}
+
+// What is due where a replay that was set up was not played and written.
+fn due_after<'a>(play: &Play<'a>, failure: Failure) -> Due<'a>
+    ensures { IsDueAfterPlay (play_words_of play.now) failure result.status
+        (bytes_of_line result.line) }
+{
+    match failure {
+        Failure::Memory => out_of_memory(),
+        Failure::Store(file) => store_failed(match file {
+            File::Output => play.output,
+            File::Trace => play.trace,
+        }),
+    }
+}
+
+/// What is due once a replay that was set up was played: its record and its trace are written.
+pub fn due_played<'a, S: Store>(
+    alloc: Global,
+    store: &mut S,
+    play: &Play<'a>,
+    replay: Replay,
+    world: &World,
+) -> Due<'a>
+    requires set_up { IsSetUp (play_words_of play.now).request.filter replay }
+    requires run { HasRun (play_words_of play.now).serial replay (plain_of world.now) }
+    ensures { (before : StoreView) → SetsUp (play_words_of play.now) before (S.shows store.old)
+        (Ok replay) → IsDueFor (command.Play (play_words_of play.now)) before
+        (S.shows store.new) result.status (bytes_of_line result.line) }
+{
+    match write_both(alloc, store, play, replay, world) {
+        Ok(line) => Due {
+            status: Status::Done,
+            line: Line::Made(line),
+        },
+        Err(failure) => due_after(play, failure),
+    }
+}
+
+/// What is due for a `play` with these words, or for `pass`, where one thread plays all: it sets up
+/// a replay, plays it, and writes the record of all messages and then the trace of all calls. All
+/// reading is done before the first file is made, and the record is written before anything else
+/// takes memory.
+pub fn run_play<'a, S: Store>(alloc: Global, play: &Play<'a>, store: &mut S) -> Due<'a>
+    requires { HasReader (play_words_of play.now).request.components }
+    ensures { IsDueFor (command.Play (play_words_of play.now)) (S.shows store.old)
+        (S.shows store.new) result.status (bytes_of_line result.line) }
+{
+    let replay = match read_files(alloc, store, play) {
+        Ok(replay) => replay,
+        Err(error) => return due_unset(alloc, error),
+    };
+    let Ok(world) = played_world(alloc, play, &replay) else {
+        return out_of_memory();
+    };
+    due_played(alloc, store, play, replay, &world)
+}

@@ -1,5 +1,0 @@
-use Rattle.cyber_cli.proofs.MakeExits.{line_of}
-use Rattle.cyber_cli.proofs.commands.make.file_failed.Goals as goal
-
-pub returns-clause-line : goal.returns-clause-line
-returns-clause-line c = λ suffix e. line_of c.args.make.now.prefix.now suffix c.args.told.now e

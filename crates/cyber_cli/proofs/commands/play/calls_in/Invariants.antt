@@ -1,7 +1,0 @@
-use Rattle.wake_core.specs.Rest.{run_shown}
-use Rattle.wake_core.specs.WorldOf.{plain_of}
-use Rattle.cyber_cli.proofs.PlayRuns.{CallsSoFar}
-use Rattle.cyber_cli.proofs.commands.play.calls_in.Given as goal
-
-abbrev pub invariant-loop-component : goal.invariant-loop-component
-invariant-loop-component l = CallsSoFar (run_shown (plain_of l.world)) l.plans l.component l.count

@@ -1,0 +1,36 @@
+-- What the program answers: which status is due for the words and the store, and how it is told.
+use Rattle.std.specs.Prelude.{ℕ, ◌≡◌, ◌⊎◌, List, Option, Some}
+use Rattle.cy_store.specs.Files.{Files}
+use Rattle.cy_store.specs.Store.{StoreView, Rose}
+use Rattle.cy_words.specs.Command.{Command}
+use Rattle.cy_commands.specs.declared.status.Status.{Status}
+use Rattle.cy_commands.specs.declared.status.Status.TheVariants.{Done, Refused, StoreFault, Limit}
+use Rattle.cy_commands.specs.Outcome.{IsTaken, IsRefused, IsAbsent}
+use Rattle.cy_commands.specs.Due.{IsDue}
+use Rattle.cyber_cli.specs.Told.{Sinks, IsTold}
+
+-- Some status is due by what is asked for and the store, and the answer tells it.
+pub record Answers (asked : Option Command) (old_store new_store : StoreView) (old new : Sinks)
+    (answer : Status) : Type 0 where
+  pub due : Status
+  pub line : List ℕ
+  pub is_due : IsDue asked old_store new_store due line
+  pub is_told : IsTold due line old new answer
+
+-- What the files call for: Done where they are accepted, the status of their refusal, StoreFault
+-- where one isn't there.
+abbrev pub CallsFor : Command → Files → Status → Type 0
+CallsFor c m Done = IsTaken c m
+CallsFor c m Refused = (line : List ℕ) × IsRefused c (Some m) Refused line
+CallsFor c m Limit = (line : List ℕ) × IsRefused c (Some m) Limit line
+CallsFor c m StoreFault = (name : List ℕ) × IsAbsent c (Some m) name
+CallsFor c m other = ⊥
+
+-- Where a command is asked for, the store tells its files and no count of faults rose, the
+-- answer is what the files call for, or Memory.
+abbrev pub IsComplete : Option Command → StoreView → StoreView → Sinks → Sinks → Status → Type 0
+IsComplete asked old_store new_store old new answer = (c : Command) (m : Files) (due : Status)
+    → asked ≡ Some c → old_store.files ≡ Some m → CallsFor c m due
+    → (Rose old_store.faults new_store.faults → ⊥) → (Rose old.out.faults new.out.faults → ⊥)
+    → (Rose old.err.faults new.err.faults → ⊥)
+    → (answer ≡ due) ⊎ (answer ≡ Memory)

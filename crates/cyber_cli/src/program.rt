@@ -1,0 +1,130 @@
+// The top calls.
+ghost use Rattle.std.specs.Prelude.{ℕ, ◌≡◌, List, Option};
+ghost use Rattle.cy_commands.specs.Due.{IsDue, IsDueFor};
+ghost use Rattle.cy_commands.specs.Line.{bytes_of_line};
+ghost use Rattle.cy_words.specs.Asking.{IsReadAs};
+ghost use Rattle.cy_words.specs.Command as asked;
+ghost use Rattle.cy_words.specs.Command.{Asks, AsksStill, IsAsked};
+ghost use Rattle.cy_words.specs.Scan.{command_of};
+ghost use Rattle.cy_words.specs.Views.{command_asked, IsInForm};
+ghost use Rattle.cyber_cli.specs.Ends.{Answers, IsComplete};
+
+use crate::telling::tell;
+use crate::threads::run_play_with_threads;
+use cy_commands::{Due, Status, due_for, due_of, misused, out_of_memory};
+use cy_msg::Text;
+use cy_run::Gate;
+use cy_store::{Sink, Store};
+use cy_words::{Command, CommandWords, WordsError};
+use std::alloc::Global;
+use std::sync::Wait;
+use std::thread::Threads;
+
+// Does a command with threads, and says which status is due.
+fn due_with<'a, S: Store, G: Gate, R: Threads + Wait + Sync>(
+    rt: &R,
+    alloc: Global,
+    command: &Command<'a>,
+    store: &mut S,
+    gate: &G,
+) -> Due<'a>
+    requires { IsInForm command.now }
+    ensures { IsDueFor (command_asked command.now) (S.shows store.old) (S.shows store.new)
+        result.status (bytes_of_line result.line) }
+{
+    match command {
+        Command::Play(play) => run_play_with_threads(rt, alloc, play, store, gate),
+        _ => due_for(alloc, command, store),
+    }
+}
+
+// Does what words that were read ask for, with threads, and says which status is due.
+fn due_with_threads<'s, S: Store, G: Gate, R: Threads + Wait + Sync>(
+    rt: &R,
+    alloc: Global,
+    read: &'s Result<Option<CommandWords<'_>>, WordsError>,
+    store: &mut S,
+    gate: &G,
+) -> Due<'s>
+    ensures { (words : List (List ℕ)) → IsReadAs (command_of words) words read.now
+        → IsDue (command_of words) (S.shows store.old) (S.shows store.new) result.status
+        (bytes_of_line result.line) }
+{
+    match read {
+        Ok(Some(words)) => match words.command(alloc) {
+            Ok(command) => due_with(rt, alloc, &command, store, gate),
+            Err(WordsError::Memory) => out_of_memory(),
+        },
+        Ok(None) => misused(),
+        Err(WordsError::Memory) => out_of_memory(),
+    }
+}
+
+/// Does what the words ask for.
+///
+/// `play --dag F --record F --out F --trace F`, with `--sched F` and the options `--channels LIST`,
+/// `--drop LIST`, `--begin N` and `--end N` that choose messages, plays a record through the
+/// components of a DAG, and writes a record of all messages and a trace of all calls. Components
+/// run on threads, as the placement says; with `--serial` one thread does all. `pass RECORD OUT
+/// TRACE FROM TO` is a serial play through one component that passes each message of the channel
+/// FROM on to the channel TO.
+///
+/// `check --dag F [--sched F]` prints what configuration files say, and `info FILE` what a record
+/// is.
+///
+/// `make N PREFIX` makes the files of a play of N messages, whose names begin with PREFIX, and
+/// plays them.
+///
+/// The text or the line that tells what was done goes to `out`, and one that tells of a refusal or
+/// a fault goes to `err`. The answer is one of the seven statuses; its contract says which is due,
+/// what stands in the store then, and how it is told. A processor passes `gate` before each call of
+/// a component. It may wait.
+pub fn cyber<S: Store, O: Sink, E: Sink, G: Gate, R: Threads + Wait + Sync>(
+    rt: &R,
+    alloc: Global,
+    words: &[Text],
+    store: &mut S,
+    out: &mut O,
+    err: &mut E,
+    gate: &G,
+) -> Status
+    ensures answers { (command : Option asked.Command) → IsAsked (Asks words.now) command
+        → Answers command (S.shows store.old) (S.shows store.new) record {
+          out = O.shows out.old;
+          err = E.shows err.old;
+        } record { out = O.shows out.new; err = E.shows err.new } result }
+    ensures complete { (command : Option asked.Command) → IsAsked (Asks words.now) command
+        → IsComplete command (S.shows store.old) (S.shows store.new) record {
+          out = O.shows out.old;
+          err = E.shows err.old;
+        } record { out = O.shows out.new; err = E.shows err.new } result }
+{
+    let read = CommandWords::asking(alloc, words);
+    let due = due_with_threads(rt, alloc, &read, store, gate);
+    tell(&due, out, err)
+}
+
+/// The same without threads, and without waiting: a `play` that is not serial is of no known form
+/// here.
+pub fn cyber_still<S: Store, O: Sink, E: Sink>(
+    alloc: Global,
+    words: &[Text],
+    store: &mut S,
+    out: &mut O,
+    err: &mut E,
+) -> Status
+    ensures answers { (command : Option asked.Command) → IsAsked (AsksStill words.now) command
+        → Answers command (S.shows store.old) (S.shows store.new) record {
+          out = O.shows out.old;
+          err = E.shows err.old;
+        } record { out = O.shows out.new; err = E.shows err.new } result }
+    ensures complete { (command : Option asked.Command) → IsAsked (AsksStill words.now) command
+        → IsComplete command (S.shows store.old) (S.shows store.new) record {
+          out = O.shows out.old;
+          err = E.shows err.old;
+        } record { out = O.shows out.new; err = E.shows err.new } result }
+{
+    let read = CommandWords::asking_still(alloc, words);
+    let due = due_of(alloc, &read, store);
+    tell(&due, out, err)
+}

@@ -1,0 +1,87 @@
+// The command `play` on threads.
+ghost use Rattle.std.specs.Prelude.{◌≡◌, false, IfOk};
+ghost use Rattle.wake_core.specs.WorldOf.{plain_of};
+ghost use Rattle.cy_request.specs.Request.{HasReader};
+ghost use Rattle.cy_replay.specs.Setup.{IsSetUp};
+ghost use Rattle.cy_words.specs.Command as command;
+ghost use Rattle.cy_commands.specs.Due.{IsDueFor};
+ghost use Rattle.cy_commands.specs.Line.{bytes_of_line};
+ghost use Rattle.cy_commands.specs.PlayEnds.{HasRun};
+ghost use Rattle.cy_words.specs.PlayViews.{play_words_of};
+
+use cy_commands::{Due, due_played, due_unset, opening, out_of_memory, played_world, read_files};
+use cy_replay::{Replay, played_places_are_there};
+use cy_run::{Gate, run_threads};
+use cy_store::Store;
+use cy_trace::trace_is_read_back;
+use cy_words::Play;
+use std::alloc::{AllocError, Global};
+use std::sync::Wait;
+use std::thread::Threads;
+use wake_core::{World, laws};
+
+// The world after a replay was played on threads.
+fn world_of_threads<G: Gate, R: Threads + Wait + Sync>(
+    rt: &R,
+    alloc: Global,
+    play: &Play,
+    replay: &Replay,
+    gate: &G,
+) -> Result<World, AllocError>
+    requires set_up { IsSetUp (play_words_of play.now).request.filter replay.now }
+    requires threads { (play_words_of play.now).serial ≡ false }
+    ensures run { IfOk result (λ w. HasRun (play_words_of play.now).serial replay.now
+        (plain_of w)) }
+{
+    let world = opening(alloc, play, replay)?;
+    let (wiring, list) = (&replay.wiring, &replay.list);
+    let Ok(world) = run_threads(rt, alloc, world, wiring, list, &replay.placement, gate) else {
+        return Err(AllocError);
+    };
+    played_places_are_there();
+    laws::places();
+    trace_is_read_back(&world, wiring, replay.list.shadowed);
+    Ok(world)
+}
+
+// The world after a replay was played as the words say.
+fn world_as_asked<G: Gate, R: Threads + Wait + Sync>(
+    rt: &R,
+    alloc: Global,
+    play: &Play,
+    replay: &Replay,
+    gate: &G,
+) -> Result<World, AllocError>
+    requires { IsSetUp (play_words_of play.now).request.filter replay.now }
+    ensures run { IfOk result (λ w. HasRun (play_words_of play.now).serial replay.now
+        (plain_of w)) }
+{
+    if play.serial {
+        played_world(alloc, play, replay)
+    } else {
+        world_of_threads(rt, alloc, play, replay, gate)
+    }
+}
+
+/// What is due for a `play` with these words, or for `pass`, where there are threads: on these the
+/// components run, unless the play is serial. It may wait.
+pub fn run_play_with_threads<'a, S: Store, G: Gate, R: Threads + Wait + Sync>(
+    rt: &R,
+    alloc: Global,
+    play: &Play<'a>,
+    store: &mut S,
+    gate: &G,
+) -> Due<'a>
+    requires { HasReader (play_words_of play.now).request.components }
+    ensures { IsDueFor (command.Play (play_words_of play.now)) (S.shows store.old)
+        (S.shows store.new) result.status (bytes_of_line result.line) }
+{
+    let replay = match read_files(alloc, store, play) {
+        Ok(replay) => replay,
+        Err(error) => return due_unset(alloc, error),
+    };
+    let Ok(world) = world_as_asked(rt, alloc, play, &replay, gate) else {
+        return out_of_memory();
+    };
+    due_played(alloc, store, play, replay, &world)
+}
