@@ -57,9 +57,11 @@ def has_clause(contracts, cell):
 
 
 def has_edit(crate, cell):
-    """Whether an edit of the crate stands where the gate tries it, or in brackets, where `tests/edits.sh` does."""
+    """Whether an edit, of the crate or of the one named before it, stands where the gate tries it, or in brackets, where `tests/edits.sh` does."""
+    *other, name = quoted(cell)[0].split("/")
+    crate = other[0] if other else crate
     folder = TOP / "tests" / "edits" / crate if cell.startswith("(") else CRATES / crate / "must-fail"
-    return (folder / f"{quoted(cell)[0]}.edit").exists()
+    return (folder / f"{name}.edit").exists()
 
 
 def faults_of(row):
@@ -72,7 +74,7 @@ def faults_of(row):
         yield f"no call {call}"
     elif not has_clause(contracts, row["Clause"]):
         yield f"no clause {row['Clause']} of {call}"
-    if re.fullmatch(r"`\w+`|\(`\w+`\)", edit) and not has_edit(crate, edit):
+    if re.fullmatch(r"`[\w/]+`|\(`[\w/]+`\)", edit) and not has_edit(crate, edit):
         yield f"no edit {edit}"
 
 
