@@ -14,10 +14,10 @@ use Rattle.cy_replay.specs.declared.error.SetupError.{SetupError}
 use Rattle.cy_replay.specs.declared.error.SetupError.TheVariants as setup
 use Rattle.cy_replay.specs.declared.setup.Replay.{Replay}
 use Rattle.cy_writer.specs.RecordWrites.{file_writes, record_puts}
-use Rattle.cy_replay.specs.Recording.{channels_of_tape, chunks_of_tape}
+use Rattle.cy_recording.specs.Recording.{channels_of_tape, chunks_of_tape}
 use Rattle.cy_replay.specs.Setup.{IsSetUp, replayed}
 use Rattle.cy_writer.proofs.RecordBytes.{after_record, after_file}
-use Rattle.cy_replay.proofs.TapeText.{record_text}
+use Rattle.cy_recording.proofs.TapeText.{record_text}
 use Rattle.cy_commands.specs.declared.failure.File.{File}
 use Rattle.cy_commands.specs.declared.failure.Failure.{Failure}
 use Rattle.cy_commands.specs.declared.failure.Failure.TheVariants as failure

@@ -17,7 +17,7 @@ use Rattle.wake_core.specs.declared.route.Route.{Route}
 use Rattle.cy_replay.specs.Listing.{choice_of}
 use Rattle.cy_replay.specs.Setup.{IsSetUp}
 use Rattle.cy_replay.specs.Wiring.{wired_by}
-use Rattle.cy_replay.specs.RecordLaws.{PlacesAreThere}
+use Rattle.cy_recording.specs.RecordLaws.{PlacesAreThere}
 use Rattle.cy_replay.specs.declared.setup.Replay.{Replay}
 use Rattle.cy_trace.specs.TraceForm.{IsTraceText}
 use Rattle.cy_commands.specs.PlayEnds.{HasRun, source_by}

@@ -9,7 +9,7 @@ use Rattle.cy_writer.specs.declared.error.WriteError.{WriteError}
 use Rattle.cy_writer.specs.declared.error.WriteError.TheVariants as write_error
 use Rattle.cy_writer.specs.Writes.{puts_into, Makes, StopsAt, StopsBefore}
 use Rattle.cy_writer.proofs.Puts.{put_of, map-after_writes, StopsAt-first, StopsAt-then, StopsBefore-first, StopsBefore-then}
-use Rattle.cy_replay.specs.Recording.{Source, channels_of_tape, chunks_of_tape}
+use Rattle.cy_recording.specs.Recording.{Source, channels_of_tape, chunks_of_tape}
 use Rattle.cy_writer.specs.RecordWrites.{file_writes, record_puts}
 use Rattle.cy_commands.specs.declared.failure.File.{File}
 use Rattle.cy_commands.specs.declared.failure.File.TheVariants as file

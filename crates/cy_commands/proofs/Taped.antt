@@ -18,7 +18,7 @@ use Rattle.wake_core.specs.Plain.{Plain}
 use Rattle.wake_core.specs.Run.{played_of, writes_from}
 use Rattle.wake_core.specs.declared.route.Route.{Route}
 use Rattle.wake_core.specs.Sound.{Sound, IsOutput, StandsOn}
-use Rattle.cy_replay.proofs.Origins.{GoodOut, GoodTuple, outcome-good, IsAmong, list_origins}
+use Rattle.cy_recording.proofs.Origins.{GoodOut, GoodTuple, outcome-good, IsAmong, list_origins}
 use Rattle.cy_trace.proofs.OutSuits.{on_each, taken_at, Made, outs_count, outs_made, passing}
 
 -- a message that no component wrote is among those that were played

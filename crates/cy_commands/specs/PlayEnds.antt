@@ -11,7 +11,7 @@ use Rattle.wake_core.specs.Plain.{Plain}
 use Rattle.wake_core.specs.Rest.{run_shown}
 use Rattle.wake_core.specs.Run.{routes_of}
 use Rattle.cy_replay.specs.Comes.{ComesTo}
-use Rattle.cy_replay.specs.Recording.{Source, IsWritable}
+use Rattle.cy_recording.specs.Recording.{Source, IsWritable}
 use Rattle.cy_replay.specs.Setup.{replayed, IsAsked}
 use Rattle.cy_replay.specs.declared.error.SetupError.{SetupError}
 use Rattle.cy_replay.specs.declared.setup.Replay.{Replay}

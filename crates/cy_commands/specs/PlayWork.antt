@@ -23,7 +23,7 @@ use Rattle.wake_core.specs.Serial.{SerialRun}
 use Rattle.cy_replay.specs.declared.error.Refusal.{Refusal}
 use Rattle.cy_replay.specs.Listing.{choice_of}
 use Rattle.cy_writer.specs.RecordWrites.{file_writes, record_puts}
-use Rattle.cy_replay.specs.Recording.{Source, channels_of_tape, messages_of_tape, chunks_of_tape}
+use Rattle.cy_recording.specs.Recording.{Source, channels_of_tape, messages_of_tape, chunks_of_tape}
 use Rattle.cy_replay.specs.Setup.{Replayed, replay_in}
 use Rattle.cy_commands.specs.declared.status.Status.{Status}
 use Rattle.cy_commands.specs.Work.{Work}

@@ -16,3 +16,4 @@ pub mod TextRead
 pub mod TextTold
 pub mod SectionRows
 pub mod Tiled
+pub mod NamedChannels

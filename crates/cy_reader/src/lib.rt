@@ -17,6 +17,7 @@ mod info;
 mod known;
 mod laws;
 mod loading;
+mod named;
 mod play;
 mod record;
 mod sections;

@@ -1,4 +1,3 @@
-pub mod ChannelTable
 pub mod Coming
 pub mod Configs
 pub mod Counting
@@ -7,14 +6,10 @@ pub mod Joined
 pub mod Judged
 pub mod Judging
 pub mod Limits
-pub mod Origins
 pub mod PassTested
 pub mod PassWired
 pub mod Playable
-pub mod RecordChannels
 pub mod Records
 pub mod Setting
-pub mod TapeRecord
-pub mod TapeText
 pub mod Texts
 pub mod Wirings

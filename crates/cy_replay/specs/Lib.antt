@@ -4,9 +4,6 @@ pub mod Faults
 pub mod Judged
 pub mod Listing
 pub mod Passing
-pub mod RecordLaws
-pub mod RecordSteps
-pub mod Recording
 pub mod Setup
 pub mod Steps
 pub mod Wiring

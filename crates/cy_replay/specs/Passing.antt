@@ -13,7 +13,7 @@ use Rattle.cy_sched.specs.SchedFile.{default_sched}
 use Rattle.cy_replay.specs.declared.error.Fault.TheVariants as fault
 use Rattle.cy_replay.specs.declared.error.Refusal.{Refusal}
 use Rattle.cy_replay.specs.Configuration.{Configured}
-use Rattle.cy_replay.specs.Recording.{as_read, known_as}
+use Rattle.cy_reader.specs.Named.{as_read, known_as}
 use Rattle.cy_replay.specs.Wiring.{Wired, wiring_in}
 
 -- The component `pass`, of the class of those that pass messages on: it reads one channel, in a

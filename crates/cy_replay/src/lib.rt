@@ -1,10 +1,9 @@
-//! From the files of a replay to what is replayed, and to the record that is written of it.
+//! From the files of a replay to what is replayed.
 //!
 //! `specs/Setup` says what all files of a replay come to, and what it is set up with:
 //! `specs/Configuration` what the configuration files come to, `specs/Passing` what stands in their
 //! place where one component passes messages on, `specs/Wiring` what wiring components does,
-//! `specs/Comes` what a call answers that reads files, `specs/Recording` what the record of a tape
-//! is.
+//! `specs/Comes` what a call answers that reads files.
 #![tactic(auto)]
 
 mod configuration;
@@ -12,9 +11,7 @@ mod counts;
 mod error;
 mod listing;
 mod passing;
-mod played;
 mod read;
-mod recording;
 mod setup;
 mod text;
 mod wiring;
@@ -22,9 +19,7 @@ mod wiring;
 pub use configuration::Configuration;
 pub use error::{Fault, Refusal, SetupError};
 pub use passing::pass_is_wired;
-pub use played::Played;
 pub use read::read_configuration;
-pub use recording::{played_places_are_there, tape_record_is_its_text, write_record};
 pub use setup::{Replay, set_up};
 pub use text::LONGEST_CONFIG;
 pub use wiring::{place_components, wire_components};

@@ -6,7 +6,6 @@ ghost use Rattle.cy_replay.specs.Passing.{PassIsWired, passing, type_read};
 ghost use Rattle.cy_replay.specs.Steps.{configured};
 
 use crate::read::default_scheduler;
-use crate::recording::channel_named;
 use crate::{Configuration, SetupError};
 use cy_comp::Kind;
 use cy_dag::{Config, Dag, DagComponent, DagReader};
@@ -19,7 +18,7 @@ fn type_of(alloc: Global, recorded: &Record, channel: &str) -> Result<Text, Setu
     ensures is { IfOk result (λ t. t ≡ type_read recorded.now channel.now) }
     ensures only_memory { IsOkUnless result SetupError.Memory }
 {
-    let message_type = match channel_named(recorded, channel) {
+    let message_type = match recorded.channel_named(channel) {
         Some(known) => known.message_type.as_str(),
         None => "",
     };

@@ -10,7 +10,8 @@ ghost use Rattle.cy_commands.specs.PlayEnds.{HasRun};
 ghost use Rattle.cy_words.specs.PlayViews.{play_words_of};
 
 use cy_commands::{Due, due_played, due_unset, opening, out_of_memory, played_world, read_files};
-use cy_replay::{Replay, played_places_are_there};
+use cy_recording::played_places_are_there;
+use cy_replay::Replay;
 use cy_run::{Gate, run_threads};
 use cy_store::Store;
 use cy_trace::trace_is_read_back;

@@ -2,7 +2,7 @@
 use cy_comp::{Kind, Plan, Wiring};
 use cy_msg::{Items, Names, PlayList, Text, Token};
 use cy_reader::{Record, load};
-use cy_replay::{Played, write_record};
+use cy_recording::{Played, write_record};
 use cy_store::MemStore;
 use cy_writer::{RecordWriter, WriteError};
 use std::test::Fail;

@@ -1,0 +1,4 @@
+pub mod ChannelTable
+pub mod Origins
+pub mod TapeRecord
+pub mod TapeText

@@ -1,0 +1,96 @@
+-- The record that is written of a tape: its channels and its messages.
+use Rattle.std.specs.Prelude.{ℕ, ℤ, ◌≡◌, ◌<◌, ◌==◌, if◌then◌else◌, List, [], ◌∷◌, ◌++◌, length, map}
+use Rattle.std.specs.Prelude.{Option, Some, None, unwrap_or, slice_get}
+use Rattle.std.specs.List.{find, list_any}
+use Rattle.cy_msg.specs.declared.token.Token.{Token}
+use Rattle.cy_msg.specs.Names.{channel_name}
+use Rattle.cy_wire.specs.Wire.{whole_content}
+use Rattle.cy_section.specs.declared.types.Channel.{Channel}
+use Rattle.cy_section.specs.declared.types.BodyMessage.{BodyMessage}
+use Rattle.cy_reader.specs.declared.known.Known.{Known}
+use Rattle.cy_reader.specs.Record.{Contents}
+use Rattle.cy_reader.specs.Named.{channel_made, as_read, known_as}
+use Rattle.cy_reader.specs.Play.{message_at}
+use Rattle.cy_comp.specs.declared.plan.Plan.{Plan}
+use Rattle.cy_recording.specs.declared.played.Played.{Played}
+use Rattle.cy_writer.specs.RecordWrites.{chunks_given}
+
+-- What the record of a tape is written from: the record that was read, the names of the channels
+-- and the components over them, and the places of the played messages in the record that was read.
+pub record Source : Type 0 where
+  pub whole : Contents
+  pub names : List (List ℕ)
+  pub plans : List Plan
+  pub places : List ℕ
+
+abbrev pub source_of : Played → Source
+source_of p = record {
+  whole = p.whole.now;
+  names = p.wiring.now.names;
+  plans = p.wiring.now.plans;
+  places = p.list.now.places;
+}
+
+-- One that a component writes has the type of that component's messages and an empty description.
+abbrev pub as_written : List ℕ → List Known → Option Plan → Channel
+as_written name channels (Some plan) = channel_made name plan.out_type []
+as_written name channels None = as_read name (known_as name channels)
+
+-- The channel of a number, as it is written.
+abbrev pub channel_of : Source → ℕ → Channel
+channel_of s number = as_written (channel_name s.names number) s.whole.channels
+    (find (λ plan. plan.out == number) s.plans)
+
+-- A number behind others, unless it stands among them.
+abbrev pub with_number : List ℕ → ℕ → List ℕ
+with_number known number =
+    if list_any (λ other. number == other) known then known else known ++ number ∷ []
+
+-- The numbers of the channels that have a message, each once, in the order of their first messages,
+-- behind those that are known.
+abbrev pub numbers_after : List ℕ → List Token → List ℕ
+numbers_after known [] = known
+numbers_after known (t ∷ rest) = numbers_after (with_number known t.channel) rest
+
+-- The channels of the record of a tape: those that have a message on it.
+abbrev pub channels_of_tape : Source → List Token → List Channel
+channels_of_tape s tape = map (channel_of s) (numbers_after [] tape)
+
+-- The contents of the played messages, in the order in which they are played.
+abbrev pub played_contents : Source → List (List ℕ)
+played_contents s = map (λ place. (message_at s.whole place).content) s.places
+
+-- The content of a message: that of the played message which it comes from, or the written form of
+-- its value.
+abbrev pub content_by : List (List ℕ) → Option ℕ → Option ℤ → List ℕ
+content_by contents (Some place) whole = unwrap_or (slice_get contents place) []
+content_by contents None (Some value) = whole_content value
+content_by contents None None = []
+
+abbrev pub content_of : Source → Token → List ℕ
+content_of s t = content_by (played_contents s) t.origin t.whole
+
+-- A message of a tape, as it is written.
+abbrev pub message_of : Source → Token → BodyMessage
+message_of s t = record {
+  channel_name = channel_name s.names t.channel;
+  time = t.time;
+  content = content_of s t;
+}
+
+abbrev pub messages_of_tape : Source → List Token → List BodyMessage
+messages_of_tape s tape = map (message_of s) tape
+
+-- The chunks in which they are written, in the file of a name.
+abbrev pub chunks_of_tape : List ℕ → Source → List Token → List (List BodyMessage)
+chunks_of_tape name s tape =
+    chunks_given name (channels_of_tape s tape) (messages_of_tape s tape)
+
+-- What a tape needs so that its record can be written: each message stands on a channel that has a
+-- name, and comes from a played message, if from any; and each place is one of the record that was
+-- read.
+pub record IsWritable (s : Source) (tape : List Token) : Type 0 where
+  pub channels : (n : ℕ) (t : Token) → slice_get tape n ≡ Some t → t.channel < length s.names
+  pub origins : (n o : ℕ) (t : Token) → slice_get tape n ≡ Some t → t.origin ≡ Some o
+      → o < length s.places
+  pub places : (n place : ℕ) → slice_get s.places n ≡ Some place → place < length s.whole.messages

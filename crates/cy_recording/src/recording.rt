@@ -1,0 +1,117 @@
+// The record of a replay.
+ghost use Rattle.std.specs.Prelude.{◌≡◌, ◌<◌, ◌==◌, ℕ, List, [], ◌∷◌, true, None, Some, map};
+ghost use Rattle.std.specs.Prelude.{slice_get, length, IfOk, OnOk, IfSome, IsErrOf, IsOkUnless};
+ghost use Rattle.std.specs.Prelude.{option_map};
+ghost use Rattle.std.specs.List.{find};
+ghost use Rattle.cy_msg.specs.Names.{channel_name};
+ghost use Rattle.cy_store.specs.Store.{HasWriteCauses};
+ghost use Rattle.cy_section.specs.declared.types.Channel.{Channel};
+ghost use Rattle.cy_writer.specs.Writes.{Makes};
+ghost use Rattle.cy_writer.specs.Record.{channel_shown, channels_shown};
+ghost use Rattle.cy_writer.specs.RecordWrites.{file_writes, record_puts};
+ghost use Rattle.cy_reader.specs.Named.{channel_made};
+ghost use Rattle.cy_recording.specs.Recording.{IsWritable, source_of, channel_of};
+ghost use Rattle.cy_recording.specs.Recording.{channels_of_tape, chunks_of_tape};
+
+mod laws;
+mod tape_channels;
+mod tape_messages;
+
+use crate::Played;
+use crate::recording::tape_channels::TapeChannels;
+use crate::recording::tape_messages::TapeMessages;
+use cy_comp::Plan;
+use cy_msg::Token;
+use cy_reader::Record;
+use cy_section::Channel;
+use cy_store::Store;
+use cy_writer::{ChannelRef, WriteError};
+pub use laws::{played_places_are_there, tape_record_is_its_text};
+use std::alloc::Global;
+
+// The component that writes a channel.
+fn writer_of(plans: &[Plan], channel: u32) -> Option<&Plan>
+    ensures { option_map (λ p. p.now) result ≡ find (λ plan. plan.out == channel) plans.now }
+{
+    plans.iter().find(|plan| plan.out == channel)
+}
+
+// The type and description of a channel.
+fn form_of<'a>(played: &Played<'a>, channel: u32) -> (&'a str, &'a [u8])
+    requires { channel < length (source_of played.now).names }
+    ensures { channel_of (source_of played.now) channel ≡ channel_made
+        (channel_name (source_of played.now).names channel) result.0.now result.1.now }
+{
+    if let Some(plan) = writer_of(played.wiring.plans.as_slice(), channel) {
+        return (plan.out_type.as_str(), &[]);
+    }
+    match played
+        .whole
+        .channel_named(played.wiring.names.name(channel))
+    {
+        Some(known) => (known.message_type.as_str(), known.proto_desc.as_slice()),
+        None => ("", &[]),
+    }
+}
+
+// A channel, as it is written.
+fn written_channel<'a>(played: &Played<'a>, channel: u32) -> ChannelRef<'a>
+    requires { channel < length (source_of played.now).names }
+    ensures { channel_shown result ≡ channel_of (source_of played.now) channel }
+{
+    let (message_type, proto_desc) = form_of(played, channel);
+    ChannelRef {
+        name: played.wiring.names.name(channel),
+        message_type,
+        proto_desc,
+    }
+}
+
+// Channels, as they are written.
+fn written_channels<'a>(
+    alloc: Global,
+    played: &Played<'a>,
+    channels: &[u32],
+) -> Result<Vec<ChannelRef<'a>>, WriteError>
+    requires { (n c : ℕ) → slice_get channels.now n ≡ Some c
+        → c < length (source_of played.now).names }
+    ensures channels { IfOk result (λ v. channels_shown v.items
+        ≡ map (channel_of (source_of played.now)) channels.now) }
+    ensures only_memory { IsOkUnless result WriteError.Memory }
+{
+    let mut written = Vec::with_capacity(alloc, channels.len())?;
+    for channel in channels {
+        written.push(written_channel(played, *channel))?;
+    }
+    Ok(written)
+}
+
+/// Writes the record of a tape into the file of a name: the channels that have a message on it, in
+/// the order of their first messages, and then each message, with its time and content. A content
+/// is that of the played message which it comes from, where it lies in the record that was read, or
+/// the written form of the message's value. A channel that a component writes has that component's
+/// type, and any other the type and description that it has in the record that was read.
+///
+/// After an error the writes before the one that failed, or that wanted memory, are done. It takes
+/// the room for its tables of channels before it makes the file.
+pub fn write_record<S: Store>(
+    alloc: Global,
+    store: &mut S,
+    name: &str,
+    played: &Played<'_>,
+    tape: &[Token],
+) -> Result<(), WriteError>
+    requires { IsWritable (source_of played.now) tape.now }
+    ensures makes { Makes (file_writes name.now
+        (record_puts (channels_of_tape (source_of played.now) tape.now)
+        (chunks_of_tape name.now (source_of played.now) tape.now)))
+        (S.shows store.old) (S.shows store.new) result }
+    ensures unbroken { IsErrOf result WriteError.Broken → ⊥ }
+    ensures causes { HasWriteCauses (IsErrOf result WriteError.Failed) (S.shows store.old)
+        (S.shows store.new) }
+{
+    let channels = TapeChannels::of(alloc, played.wiring.names.count(), tape)?;
+    let written = written_channels(alloc, played, &channels.order)?;
+    let messages = TapeMessages::new(alloc, played, &channels, tape);
+    cy_writer::write_record(alloc, store, name, &written, messages)
+}
