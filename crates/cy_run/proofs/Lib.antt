@@ -2,3 +2,4 @@ pub mod Delivering
 pub mod Filled
 pub mod Played
 pub mod Mustered
+pub mod Posted

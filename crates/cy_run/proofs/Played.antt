@@ -1,7 +1,7 @@
 -- The messages of a list, one after another, by the player.
-use Rattle.std.proofs.Common.{ℕ, ◌+◌, ◌≡◌, ◌≤◌, ◌<◌, ◌==◌, ◌∙◌, cond, Bool, true, false, List, [], ◌∷◌, ◌++◌, refl, sym, ap, subst, arith, length, take, get_or, Some, zero, suc}
+use Rattle.std.proofs.Common.{ℕ, ◌+◌, ◌≡◌, ◌≤◌, ◌<◌, ◌==◌, ◌∙◌, cond, Bool, true, false, List, [], ◌∷◌, ◌++◌, refl, sym, ap, subst, arith, length, take, get_or, Some, zero, suc, append_assoc, append-nil}
 use Rattle.std.proofs.lemmas.Bool.Decides.{nat_tests}
-use Rattle.std.proofs.lemmas.List.{take_more, take_all}
+use Rattle.std.proofs.lemmas.List.{take_more, take_all, map-append}
 use Rattle.std.proofs.lemmas.Option.{slice_get-get_or}
 use Rattle.std.specs.Prelude.{slice_get, slice_index}
 use Rattle.cy_msg.specs.declared.token.Token.{Token}
@@ -14,11 +14,10 @@ use Rattle.wake_core.specs.Serial.{last_clock}
 use Rattle.wake_core.specs.TapeLaws.{PutLaws}
 use Rattle.cy_table.specs.declared.pass.Pass.{Pass}
 use Rattle.cy_table.specs.declared.table.FlagTable.{FlagTable}
-use Rattle.cy_table.specs.Seats.{Seat}
-use Rattle.cy_table.specs.Steps.{ticking}
-use Rattle.cy_table.specs.Plays.{Thread}
-use Rattle.cy_table.specs.Calls.{made_of, seat_of, thread_of, knowing, Stays, CanClose}
-use Rattle.cy_run.specs.Playing.{IsFreePlayer, IsNextFor, after_play, IsToBePlayed, PlaysOn}
+use Rattle.cy_table.specs.Seats.{Seat, Entry}
+use Rattle.cy_table.specs.Seats.Entry.{Clock, Closing}
+use Rattle.cy_table.specs.Calls.{made_of, seat_of, CanClose}
+use Rattle.cy_run.specs.Playing.{IsFreePlayer, IsNextFor, after_play, after_end, clocks_of, IsToBePlayed, IsPlayed, PlaysOn}
 
 -- There is one message more of its channel in a list than before it.
 one_more : (xs : List Token) (i : ℕ) (t : Token) → slice_get xs i ≡ Some t → length (on_channel t.channel (take i xs)) + 1 ≤ length (on_channel t.channel xs)
@@ -59,12 +58,20 @@ next_for t tokens items i d p q timed numbered made same lt on =
           (made.counted token.channel ∙ ap (λ l. slice_index l token.channel) (sym seated.counts));
     }
 
+-- One message more was noted.
+noted_more : (old now : List Entry) (tokens items : List Token) (i : ℕ) (d : Token) → items ≡ tokens → i < length items → now ≡ old ++ clocks_of (take i tokens)
+    → now ++ Clock (get_or items i d).time ∷ [] ≡ old ++ clocks_of (take (i + 1) tokens)
+noted_more old now tokens items i d same lt is =
+    ap (λ l. l ++ Clock (get_or items i d).time ∷ []) is ∙ (append_assoc old (clocks_of (take i tokens)) (Clock (get_or items i d).time ∷ [])
+    ∙ ap (λ l. old ++ l) (sym (map-append (λ (token : Token). Clock token.time) (take i tokens) (get_or items i d ∷ [])) ∙ ap clocks_of (sym (subst (λ l. take (i + 1) l ≡ take i l ++ get_or items i d ∷ []) same (take_more items i d lt)))))
+
 pub plays_more : (t : FlagTable) (tokens items : List Token) (i : ℕ) (d : Token) (p q u : Pass) → IsTimed tokens → items ≡ tokens → i < length items → PlaysOn t tokens i p q
     → IsFreePlayer t u → seat_of u ≡ after_play (seat_of q) (get_or items i d) → (seat_of u).clock ≤ last_clock → PlaysOn t tokens (i + 1) p u
 plays_more t tokens items i d p q u timed same lt on mine seat bound =
     let token = get_or items i d in let at : slice_get tokens i ≡ Some token = at_place tokens items i d same lt in record {
       mine = mine;
       played = ap (λ (v : Seat). v.played) seat ∙ (ap (λ l. l ++ token ∷ []) on.played ∙ sym (subst (λ l. take (i + 1) l ≡ take i l ++ token ∷ []) same (take_more items i d lt)));
+      noted = ap (λ (v : Seat). v.note) seat ∙ noted_more (seat_of p).note (seat_of q).note tokens items i d same lt on.noted;
       split = ap (λ (v : Seat). v.split) seat ∙ on.split;
       bound = bound;
       clock = λ later e. subst (λ n. n ≤ later.time) (sym (ap (λ (v : Seat). v.clock) seat)) (timed i token later at e);
@@ -75,18 +82,28 @@ pub plays_begin : (t : FlagTable) (tokens : List Token) (p : Pass) → IsToBePla
 plays_begin t tokens p o = record {
   mine = o.mine;
   played = o.none_played;
+  noted = sym (append-nil (seat_of p).note);
   split = refl;
   bound = subst (λ n. n ≤ last_clock) (sym o.start) (omega arith);
   clock = λ token e. subst (λ n. n ≤ token.time) (sym o.start) (omega arith);
 }
 
 -- At its end all was played.
-pub can_close : PutLaws → (t : FlagTable) (tokens items : List Token) (i : ℕ) (p q u : Pass) (time : ℕ) → IsToPlay (made_of t) tokens → items ≡ tokens → length items ≤ i → PlaysOn t tokens i p q → Stays t q u
-    → thread_of u ≡ knowing q (ticking (seat_of q) time) → CanClose t u
-can_close law t tokens items i p q u time made same le on s told =
-    let seat : seat_of u ≡ ticking (seat_of q) time = ap (λ (m : Thread). m.0) told in let seated = on.mine.free.seated in record {
-      at = s.at;
-      player = s.number ∙ on.mine.player;
-      all = ap (λ (v : Seat). length v.played) seat ∙ (ap length (on.played ∙ take_all i tokens (subst (λ l. length l ≤ i) same le)) ∙ (sym (law.all (made_of t) tokens made)
-          ∙ (ap (λ (r : List Route). to_play_from r 0 (made_of t).counts) (sym (ap (λ (v : Seat). v.routes) seat ∙ seated.routes)) ∙ ap (to_play_from (seat_of u).routes 0) (sym (ap (λ (v : Seat). v.counts) seat ∙ seated.counts)))));
+pub can_close : PutLaws → (t : FlagTable) (tokens items : List Token) (i : ℕ) (p q : Pass) → IsToPlay (made_of t) tokens → items ≡ tokens → length items ≤ i → PlaysOn t tokens i p q → CanClose t q
+can_close law t tokens items i p q made same le on = let seated = on.mine.free.seated in record {
+  at = seated.at;
+  player = on.mine.player;
+  all = ap length (on.played ∙ take_all i tokens (subst (λ l. length l ≤ i) same le)) ∙ (sym (law.all (made_of t) tokens made)
+      ∙ (ap (λ (r : List Route). to_play_from r 0 (made_of t).counts) (sym seated.routes) ∙ ap (to_play_from (seat_of q).routes 0) (sym seated.counts)));
+}
+
+pub played_all : (t : FlagTable) (tokens items : List Token) (i : ℕ) (p q u : Pass) → items ≡ tokens → length items ≤ i → PlaysOn t tokens i p q → IsFreePlayer t u → seat_of u ≡ after_end (seat_of q) → IsPlayed t tokens p u
+played_all t tokens items i p q u same le on mine seat =
+    let whole : take i tokens ≡ tokens = take_all i tokens (subst (λ l. length l ≤ i) same le) in record {
+      mine = mine;
+      exact = ap (λ (v : Seat). v.played) seat ∙ (on.played ∙ whole);
+      clock = ap (λ (v : Seat). v.clock) seat;
+      closed = ap (λ (v : Seat). v.closing) seat;
+      noted = ap (λ (v : Seat). v.note) seat ∙ (ap (λ l. l ++ Clock last_clock ∷ Closing true ∷ []) (on.noted ∙ ap (λ l. (seat_of p).note ++ clocks_of l) whole) ∙ append_assoc (seat_of p).note (clocks_of tokens) (Clock last_clock ∷ Closing true ∷ []));
+      split = ap (λ (v : Seat). v.split) seat ∙ on.split;
     }

@@ -1,6 +1,6 @@
 -- What the player does.
-use Rattle.std.specs.Prelude.{ℕ, ◌+◌, ◌≡◌, ◌≤◌, true, List, [], ◌∷◌, ◌++◌, length, slice_get}
-use Rattle.std.specs.Prelude.{slice_index, take, Some, None}
+use Rattle.std.specs.Prelude.{ℕ, ◌+◌, ◌≡◌, ◌≤◌, true, List, [], ◌∷◌, ◌++◌, length, map}
+use Rattle.std.specs.Prelude.{slice_get, slice_index, take, Some, None}
 use Rattle.cy_msg.specs.declared.token.Token.{Token}
 use Rattle.cy_msg.specs.Tokens.{on_channel}
 use Rattle.wake_core.specs.Run.{writes_from}
@@ -8,7 +8,8 @@ use Rattle.wake_core.specs.Rest.{IsToPlay}
 use Rattle.wake_core.specs.Serial.{last_clock}
 use Rattle.cy_table.specs.declared.pass.Pass.{Pass}
 use Rattle.cy_table.specs.declared.table.FlagTable.{FlagTable}
-use Rattle.cy_table.specs.Seats.{Seat}
+use Rattle.cy_table.specs.Seats.{Seat, Entry}
+use Rattle.cy_table.specs.Seats.Entry.{Clock, Closing}
 use Rattle.cy_table.specs.Calls.{made_of, seat_of, number_of}
 use Rattle.cy_run.specs.Passes.{IsFree}
 
@@ -34,6 +35,7 @@ after_play v token = record v {
   token = token;
   played = v.played ++ token ∷ [];
   clock = token.time;
+  note = v.note ++ Clock token.time ∷ [];
 }
 
 -- The table's world was made for this list and is at its beginning, for all that the player knows.
@@ -43,19 +45,35 @@ pub record IsToBePlayed (t : FlagTable) (tokens : List Token) (p : Pass) : Type 
   pub none_played : (seat_of p).played ≡ []
   pub start : (seat_of p).clock ≡ 0
 
+-- The clock comes to its greatest value, and then the player says that all was played.
+abbrev pub after_end : Seat → Seat
+after_end v = record v {
+  clock = last_clock;
+  closing = true;
+  note = v.note ++ Clock last_clock ∷ Closing true ∷ [];
+}
+
+-- What the player notes of the clock while it plays these messages.
+abbrev pub clocks_of : List Token → List Entry
+clocks_of tokens = map (λ (token : Token). Clock token.time) tokens
+
 -- The list was played: just its messages, in order; the clock is at its greatest value; and the
--- player said that all was played.
+-- player said that all was played. It set the clock to the time of each message in turn, then to
+-- its greatest value, and behind that it closed.
 pub record IsPlayed (t : FlagTable) (tokens : List Token) (p q : Pass) : Type 0 where
   pub mine : IsFreePlayer t q
   pub exact : (seat_of q).played ≡ tokens
   pub clock : (seat_of q).clock ≡ last_clock
   pub closed : (seat_of q).closing ≡ true
+  pub noted : (seat_of q).note
+      ≡ (seat_of p).note ++ (clocks_of tokens ++ Clock last_clock ∷ Closing true ∷ [])
   pub split : (seat_of q).split ≡ (seat_of p).split
 
 -- So many messages of the list were played.
 pub record PlaysOn (t : FlagTable) (tokens : List Token) (n : ℕ) (p q : Pass) : Type 0 where
   pub mine : IsFreePlayer t q
   pub played : (seat_of q).played ≡ take n tokens
+  pub noted : (seat_of q).note ≡ (seat_of p).note ++ clocks_of (take n tokens)
   pub split : (seat_of q).split ≡ (seat_of p).split
   pub bound : (seat_of q).clock ≤ last_clock
   pub clock : (token : Token) → slice_get tokens n ≡ Some token → (seat_of q).clock ≤ token.time

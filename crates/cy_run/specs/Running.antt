@@ -1,5 +1,6 @@
 -- What a run needs, and how its workers come and go.
-use Rattle.std.specs.Prelude.{ℕ, ◌≡◌, ◌≤◌, ◌<◌, List, All, length, map}
+use Rattle.std.specs.Prelude.{ℕ, ◌+◌, ◌≡◌, ◌≤◌, ◌<◌, List, [], ◌∷◌, ◌++◌, All, length, map}
+use Rattle.std.specs.Prelude.{replicate}
 use Rattle.cy_msg.specs.declared.token.Token.{Token}
 use Rattle.cy_msg.specs.declared.placement.ContextPlan.{ContextPlan}
 use Rattle.cy_comp.specs.declared.plan.Plan.{Plan}
@@ -42,6 +43,14 @@ pub record IsCrew (t : FlagTable) (contexts parkers : ℕ) (p q : Pass) (crew : 
     pub same : seat_of q ≡ record (seat_of p) { split = length crew }
     pub few : length crew ≤ parkers
     pub hired : All (IsHired t contexts parkers) crew
+
+-- The context of each worker, in order: each context as often as it asks for processors.
+abbrev pub posts_from : (first : ℕ) → List ContextPlan → List ℕ
+posts_from n [] = []
+posts_from n (plan ∷ rest) = replicate plan.processors n ++ posts_from (n + 1) rest
+
+abbrev pub plans_of : List Worker → List ℕ
+plans_of crew = map (λ w. w.plan) crew
 
 -- All were taken in again.
 pub record IsMustered (t : FlagTable) (p q : Pass) : Type 0 where

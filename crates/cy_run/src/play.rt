@@ -1,9 +1,10 @@
 // The player: it plays the messages of a list at the table, and closes.
 ghost use Rattle.std.specs.Prelude.{◌≡◌, ◌≤◌};
 ghost use Rattle.wake_core.specs.Serial.{last_clock};
-ghost use Rattle.cy_table.specs.Calls.{seat_of, Stays};
+ghost use Rattle.cy_table.specs.Calls.{seat_of, CanClose, Stays};
 ghost use Rattle.cy_run.specs.Passes.{IsMadeOf};
-ghost use Rattle.cy_run.specs.Playing.{IsFreePlayer, IsNextFor, after_play, IsToBePlayed, IsPlayed};
+ghost use Rattle.cy_run.specs.Playing.{IsFreePlayer, IsNextFor, IsToBePlayed, IsPlayed};
+ghost use Rattle.cy_run.specs.Playing.{after_play, after_end};
 
 use crate::Idle;
 use crate::deliver::{deliver, triggered_by};
@@ -13,8 +14,8 @@ use cy_table::{FlagTable, Pass};
 use std::sync::Wait;
 use wake_core::laws;
 
-// Plays the messages of a list, one after another, when the processors came and at their pace. Then
-// it sets the clock to its greatest value and says that all was played.
+// Plays the messages of a list, one after another, when the processors came and at their pace, and
+// ends the play.
 pub(crate) fn play_all<R: Wait>(
     rt: &R,
     table: &FlagTable,
@@ -36,6 +37,18 @@ pub(crate) fn play_all<R: Wait>(
         ahead = keep_pace(rt, token, idle, wiring, ahead, lead);
         play(rt, table, player, token, idle, wiring);
     }
+    end_play(rt, table, player, idle);
+}
+
+// Sets the clock to its greatest value, and then says that all was played.
+fn end_play<R: Wait>(rt: &R, table: &FlagTable, player: &mut Pass, idle: &Idle)
+    requires mine { IsFreePlayer table.now player.old }
+    requires all { CanClose table.now player.old }
+    requires bound { (seat_of player.old).clock ≤ last_clock }
+    ensures same { Stays table.now player.old player.new }
+    ensures mine { IsFreePlayer table.now player.new }
+    ensures seat { seat_of player.new ≡ after_end (seat_of player.old) }
+{
     table.tick(player, u64::MAX);
     idle.heed_clock(rt, u64::MAX);
     table.set_closing(player);

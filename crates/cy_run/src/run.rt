@@ -1,5 +1,6 @@
 // A whole run, on one thread or on many.
-ghost use Rattle.std.specs.Prelude.{◌≡◌, ◌≤◌, ◌+◌, ◌<◌, length, vec_len, vec_capacity, All};
+ghost use Rattle.std.specs.Prelude.{◌≡◌, ◌≤◌, ◌+◌, ◌<◌, ◌++◌, length, replicate, vec_len};
+ghost use Rattle.std.specs.Prelude.{vec_capacity, All};
 ghost use Rattle.std.specs.Prelude.{IfOk, OnOk};
 ghost use Rattle.cy_msg.specs.Placement.{scan_of, processors_of};
 ghost use Rattle.cy_msg.specs.declared.placement.TheConstants.{MOST_PROCESSORS};
@@ -12,6 +13,7 @@ ghost use Rattle.cy_table.specs.Calls.{seat_of};
 ghost use Rattle.cy_run.specs.Passes.{IsFree};
 ghost use Rattle.cy_run.specs.Playing.{IsFreePlayer};
 ghost use Rattle.cy_run.specs.Running.{MayRun, orders_of, IsAlone, IsCrew, IsMustered};
+ghost use Rattle.cy_run.specs.Running.{plans_of, posts_from};
 
 use crate::{Gate, Idle, RunError, Worker, drive};
 use cy_comp::Wiring;
@@ -116,6 +118,7 @@ fn crew_of(
     requires all { processors ≡ processors_of plans.now }
     ensures crew { IfOk result (λ v. IsCrew table.now (length plans.now) processors player.old
         player.new v.items) }
+    ensures posts { IfOk result (λ v. plans_of v.items ≡ posts_from 0 plans.now) }
 {
     let mut crew = Vec::with_capacity(alloc, processors as usize)?;
     for (plan, context) in plans.iter().enumerate() {
@@ -154,6 +157,8 @@ fn add_workers(
     ensures crew { OnOk result (IsCrew table.now contexts processors player.old player.new
         crew.new.items) }
     ensures all { OnOk result (vec_len crew.new ≡ vec_len crew.old + count) }
+    ensures posts { OnOk result (plans_of crew.new.items
+        ≡ plans_of crew.old.items ++ replicate count plan) }
 {
     for _ in 0..count {
         let me = crew.len() as u32;

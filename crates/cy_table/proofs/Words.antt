@@ -1,5 +1,5 @@
 -- What the steps of the clock, of the closing word, of news and of the bench may do, by their laws.
-use Rattle.std.proofs.Common.{ℕ, ◌+◌, ◌*◌, ◌==◌, ◌≡◌, ◌≢◌, ◌≤◌, ◌<◌, refl, sym, ◌∙◌, ap, subst, ⊎_elim, List, [], ◌∷◌, ◌++◌, length, set, slice_index}
+use Rattle.std.proofs.Common.{ℕ, ◌+◌, ◌*◌, ◌==◌, ◌≡◌, ◌≢◌, ◌≤◌, ◌<◌, refl, sym, ◌∙◌, ap, subst, ⊎_elim, inr, true, List, [], ◌∷◌, ◌++◌, length, set, slice_index}
 use mathlib.Core.Option.{none, some}
 use lib.ListN.{get_elem?}
 use Rattle.atomic_table.specs.Table.{State as Table, Allows, Splits, Joins, step, keeps}
@@ -17,7 +17,7 @@ use Rattle.cy_table.specs.Steps.{Sits, seeing, ticking, heeding, closing_all, lo
 use Rattle.cy_table.specs.Laws.{ClockSteps, ClosingSteps, StateLoads, FlagStores, BenchSteps}
 use Rattle.cy_table.specs.Plays.{Thread, but_first, but_last, saw, ticked, heeded, closed, looked, cleared}
 use Rattle.cy_table.proofs.Telling.{clock_word_is}
-use Rattle.cy_table.proofs.Allowing.{all_were, ruled_then, ruled_seeing}
+use Rattle.cy_table.proofs.Allowing.{all_were, ruled_then, ruled_noting, ruled_seeing}
 
 sits_at : {made : Plain} {s : Table Part Seat} (k : Ruled made s) (id : ℕ) (v : Seat) → lib.ListN.get_elem? s.views id ≡ mathlib.Core.Option.some v → v.live ≢ 0 → Sits k.rooms k.world s id v
 sits_at k id v at live = record { rules = k.rules; at = at; live = live }
@@ -29,7 +29,8 @@ sees law made slots id m live s k deep at bound =
 
 pub ticks : ClockSteps → (made : Plain) (slots id time : ℕ) (m : Thread) → m.0.live ≢ 0 → id ≡ 0 → m.0.clock ≤ time → Allows (Ruled made) slots id m 1 (λ _. time) (λ _. ticked (step slots 1 time 0 none) m time)
 ticks law made slots id time m live player later = subst (λ j. Allows (Ruled made) slots j m 1 (λ _. time) (λ _. ticked (step slots 1 time 0 none) m time)) (sym player)
-    (λ s k deep at bound. (ticking m.0 time, keeps, tt, ruled_then k 0 (ticking m.0 time) refl m.0 at (λ w u e. tick e) (law.tick k.rooms k.world s m.0 time m.1 (sits_at k 0 m.0 at live) later) refl, refl))
+    (λ s k deep at bound. let b = law.tick k.rooms k.world s m.0 time m.1 (sits_at k 0 m.0 at live) later in
+    (ticking m.0 time, keeps, tt, ruled_noting k 0 (ticking m.0 time) refl m.0 at (λ w u e. tick e) b (Clock time) refl (inr (ap (λ (w : Plain). w.clock) b.happens.effect)), refl))
 
 pub heeds : ClosingSteps → (made : Plain) (slots id : ℕ) (m : Thread) → m.0.live ≢ 0 → Allows (Ruled made) slots id m 2 (λ n. n) (heeded (step slots 2 0 0 none) m)
 heeds law made slots id m live s k deep at bound =
@@ -44,7 +45,8 @@ heeds law made slots id m live s k deep at bound =
 pub closes : ClosingSteps → (made : Plain) (slots id : ℕ) (m : Thread) → m.0.live ≢ 0 → id ≡ 0 → length m.0.played ≡ to_play_from m.0.routes 0 m.0.counts
     → Allows (Ruled made) slots id m 2 (λ _. 1) (λ _. closed (step slots 2 1 0 none) m 1)
 closes law made slots id m live player all = subst (λ j. Allows (Ruled made) slots j m 2 (λ _. 1) (λ _. closed (step slots 2 1 0 none) m 1)) (sym player)
-    (λ s k deep at bound. (closing_all m.0, keeps, tt, ruled_then k 0 (closing_all m.0) refl m.0 at (λ w u e. close e) (law.close k.rooms k.world s m.0 m.1 (sits_at k 0 m.0 at live) all) refl, refl))
+    (λ s k deep at bound. let b = law.close k.rooms k.world s m.0 m.1 (sits_at k 0 m.0 at live) all in
+    (closing_all m.0, keeps, tt, ruled_noting k 0 (closing_all m.0) refl m.0 at (λ w u e. close e) b (Closing true) refl (inr (ap (λ (w : Plain). w.closing) b.happens.effect)), refl))
 
 first_of : ℕ → List ℕ → ℕ
 first_of d [] = d

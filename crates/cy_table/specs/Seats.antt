@@ -32,7 +32,7 @@ pub record Seen : Type 0 where
   pub calls : List Call
 
 -- What a thread found, in order: a croutine held, or in a state after its update; the visitor of a
--- component at a fetch; the clock; and whether the run is closing.
+-- component at a fetch; the clock; and whether the run is closing. The player notes so what it sets.
 pub data Entry : Type 0 where
   Busy : ℕ → Entry
   Found : ℕ → State → Entry

@@ -147,19 +147,19 @@ looking v c later waits = record v {
 abbrev pub clearing_but : Seat → List ℕ → Seat
 clearing_but v rest = record v { clearing = rest }
 
--- The load and the store of the clock.
+-- The load of the clock, and its store, which the player notes too.
 abbrev pub seeing : Seat → ℕ → Seat
 seeing v time = record v { clock = time; note = v.note ++ Clock time ∷ [] }
 
 abbrev pub ticking : Seat → ℕ → Seat
-ticking v time = record v { clock = time }
+ticking v time = seeing v time
 
--- The load and the store of the word that says whether the run is closing.
+-- The load of the word that says whether the run is closing, and its store, which is noted too.
 abbrev pub heeding : Seat → Bool → Seat
 heeding v found = record v { closing = found; note = v.note ++ Closing found ∷ [] }
 
 abbrev pub closing_all : Seat → Seat
-closing_all v = record v { closing = true }
+closing_all v = heeding v true
 
 -- The swaps of a door that was found open: the tape, or a visitor, is in hand.
 abbrev pub entering : Seat → TapeView → Seat

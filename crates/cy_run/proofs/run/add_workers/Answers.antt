@@ -1,6 +1,7 @@
-use Rattle.std.proofs.Common.{rules, subst, sym}
-use Rattle.cy_run.specs.Running.{IsCrew}
+use Rattle.std.proofs.Common.{rules, ◌+◌, ◌≡◌, ◌++◌, replicate, refl, subst, sym}
+use Rattle.cy_run.specs.Running.{IsCrew, plans_of}
 use Rattle.cy_run.proofs.Mustered.{hires}
+use Rattle.cy_run.proofs.Posted.{posted}
 use Rattle.cy_run.proofs.run.add_workers.Goals as goal
 
 pub loop-preserved : goal.loop-preserved
@@ -10,4 +11,6 @@ loop-preserved c = let i = c.loop.invariant in (
       c.in_ok-pass.ensures.split.0 c.in_ok-pass.ensures.split.1 c.in_ok-pass.ensures.split.2 c.requires.plan (search rules) (search rules)),
   search rules,
   search rules,
+  subst (λ l. plans_of l ≡ plans_of c.args.crew.now.items ++ replicate (c.loop.counter + 1) c.args.plan) (sym (search rules))
+      (posted c.loop.crew.items record { pass = c.in_ok-pass.pass; plan = c.args.plan; me = c.len-me.result } (plans_of c.args.crew.now.items) c.loop.counter c.args.plan i.3 refl),
 )
