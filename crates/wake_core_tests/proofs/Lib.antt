@@ -1,0 +1,5 @@
+pub mod Messages
+pub mod Hands
+pub mod Together
+pub mod Worked
+pub mod Opening
