@@ -6,4 +6,5 @@ pub mod MakeExits
 pub mod PlayExits
 pub mod PlayRuns
 pub mod PlayWriting
+pub mod Refusing
 pub mod Taped

@@ -11,11 +11,10 @@ use Rattle.cy_writer.proofs.Puts.{rose_more, after_writes-append, written_at-end
 use Rattle.wake_core.specs.Plain.{Plain}
 use Rattle.wake_core.specs.Rest.{run_shown}
 use Rattle.cy_replay.specs.declared.error.SetupError.{SetupError}
-use Rattle.cy_replay.specs.declared.error.SetupError.TheVariants as setup
 use Rattle.cy_replay.specs.declared.setup.Replay.{Replay}
 use Rattle.cy_writer.specs.RecordWrites.{file_writes, record_puts}
 use Rattle.cy_recording.specs.Recording.{channels_of_tape, chunks_of_tape}
-use Rattle.cy_replay.specs.Setup.{IsSetUp, replayed}
+use Rattle.cy_replay.specs.Setup.{IsAsked, IsSetUp, replayed}
 use Rattle.cy_writer.proofs.RecordBytes.{after_record, after_file}
 use Rattle.cy_recording.proofs.TapeText.{record_text}
 use Rattle.cy_commands.specs.declared.failure.File.{File}
@@ -23,35 +22,20 @@ use Rattle.cy_commands.specs.declared.failure.Failure.{Failure}
 use Rattle.cy_commands.specs.declared.failure.Failure.TheVariants as failure
 use Rattle.cy_commands.specs.declared.status.Status.{Status}
 use Rattle.cy_commands.specs.declared.status.Status.TheVariants.{Done}
-use Rattle.cy_commands.specs.CheckEnds.{IsStarved, IsDueUnset}
+use Rattle.cy_commands.specs.Unset.{IsDueUnset}
 use Rattle.cy_words.specs.Command.{Play}
 use Rattle.cy_commands.specs.Work.{Work}
-use Rattle.cy_commands.specs.ConfigText.{is_limit}
 use Rattle.cy_commands.specs.Due.{IsDueFor}
 use Rattle.cy_commands.specs.Lines.{store_line}
 use Rattle.cy_commands.specs.PlayEnds.{SetsUp, HasRun, IsDueAfterPlay, IsLine, name_of_play, source_by, writes_by}
 use Rattle.cy_words.specs.PlayWords.{PlayWords}
 use Rattle.cy_commands.specs.PlayWork.{IsPlayWork, replayed_in, play_line, tape_record, run_trace}
-use Rattle.cy_commands.proofs.CheckExits.{view_same, refuses}
-
-starved : (w : PlayWords) (old new : StoreView) (due : Status) (line : List ℕ) → new.files ≡ old.files → IsStarved due line → IsDueFor (Play w) old new due line
-starved w old new due line same s = subst (λ (x : Status). IsDueFor (Play w) old new x line) (sym s.status) (inl same, s.told)
+use Rattle.cy_commands.proofs.Refusing as refusing
 
 -- the files are not accepted
 pub unset : (w : PlayWords) (old new : StoreView) (e : SetupError) (due : Status) (line : List ℕ) → SetsUp w old new (Err e) → IsDueUnset e due line → IsDueFor (Play w) old new due line
-unset w old new (setup.Refused refusal) due line came (inl s) = starved w old new due line came.same s
-unset w old new (setup.Refused refusal) due line came (inr told) =
-    let was = came.refused refusal refl in
-    subst (λ (x : Status). IsDueFor (Play w) old new x line) (sym told.0)
-    (refuses (Play w) old new (is_limit refusal.fault) line record {
-      same = view_same old new came.same was.0;
-      refused = record { refusal = refusal; refused = was.1; status = refl; told = told.1 };
-    })
-unset w old new (setup.Store file) due line came (inl s) = starved w old new due line came.same s
-unset w old new (setup.Store file) due line came (inr told) =
-    let was = came.failed file refl in
-    subst (λ (x : Status). IsDueFor (Play w) old new x line) (sym told.0) (inl record { name = file; read = was.0; rose = was.1.rose; same = came.same; told = told.1 })
-unset w old new setup.Memory due line came s = starved w old new due line came.same s
+unset w old new e due line came told =
+    refusing.unset (Play w) replayed (replayed_in w) (IsAsked w.request old.files) old new e due line record { asked = λ file a. a; refused = λ due line r. r; absent = λ file h. h } came told
 
 -- what `play` makes of a replay
 abbrev pub work_of : PlayWords → Replay → Plain → Work

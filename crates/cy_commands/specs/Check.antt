@@ -1,7 +1,7 @@
--- What `check` makes of configuration files, and which it refuses.
+-- What `check` makes of configuration files.
 use Rattle.std.specs.Prelude.{ℕ, ◌≡◌, List, [], map, Option, IfSome, unwrap_or}
 use Rattle.cy_store.specs.Files.{Files}
-use Rattle.cy_store.specs.Reads.{Reads, Accepts, Refuses, ◌>>=◌}
+use Rattle.cy_store.specs.Reads.{Reads, Accepts, ◌>>=◌}
 use Rattle.cy_msg.specs.declared.placement.ContextPlan.{ContextPlan}
 use Rattle.cy_sched.specs.Placing.{IsPlaced}
 use Rattle.cy_sched.specs.declared.sched.Sched.{Sched}
@@ -10,11 +10,8 @@ use Rattle.cy_check.specs.CheckText.{text_of}
 use Rattle.cy_replay.specs.declared.error.Refusal.{Refusal}
 use Rattle.cy_replay.specs.Configuration.{Configured, configuration_in}
 use Rattle.cy_replay.specs.Wiring.{wiring_in}
-use Rattle.cy_commands.specs.declared.status.Status.{Status}
 use Rattle.cy_words.specs.CheckWords.{CheckWords}
 use Rattle.cy_commands.specs.Work.{Work}
-use Rattle.cy_commands.specs.Lines.{file_line}
-use Rattle.cy_commands.specs.ConfigText.{fault_text, fault_status}
 
 -- The files are read, and their components wired over no channels of a record.
 abbrev pub checked_in : CheckWords → Files → Reads Refusal Configured
@@ -41,11 +38,3 @@ pub record IsCheckWork (w : CheckWords) (files : Option Files) (work : Work) : T
   pub placed : IsPlaced read.sched (map (λ c. c.name) read.dag.components) contexts
   pub silent : work.writes ≡ []
   pub text : work.text ≡ check_text_of w read contexts
-
--- A file is refused, with the status and the line of its fault.
-pub record IsCheckRefusal (w : CheckWords) (files : Option Files) (due : Status) (line : List ℕ) :
-    Type 0 where
-  pub refusal : Refusal
-  pub refused : IfSome files (λ m. checked_in w m ≡ Refuses refusal)
-  pub status : due ≡ fault_status refusal.fault
-  pub told : line ≡ file_line refusal.file (fault_text refusal.fault)

@@ -10,10 +10,6 @@ memory_line = codes "cyber: out of memory\n"
 abbrev pub output_line : List ℕ
 output_line = codes "cyber: the output failed\n"
 
--- What befell a file.
-abbrev pub file_line : List ℕ → List ℕ → List ℕ
-file_line name text = codes "cyber: " ++ name ++ codes ": " ++ text ++ codes "\n"
-
 -- A file whose call failed.
 abbrev pub store_line : List ℕ → List ℕ
 store_line name = codes "cyber: " ++ name ++ codes ": the store failed\n"

@@ -9,10 +9,11 @@ use Rattle.cy_replay.specs.Setup as setup
 use Rattle.cy_replay.specs.Setup.{Replayed}
 use Rattle.cy_words.specs.Command.{Command, Check, Info, Play, Make}
 use Rattle.cy_commands.specs.Work.{Work}
-use Rattle.cy_commands.specs.Check.{IsCheckWork, IsCheckRefusal, checked_in}
-use Rattle.cy_commands.specs.Info.{IsInfoWork, IsInfoRefusal, told_of}
+use Rattle.cy_commands.specs.Check.{IsCheckWork, checked_in}
+use Rattle.cy_commands.specs.Info.{IsInfoWork, told_of}
 use Rattle.cy_commands.specs.MakeWork.{IsMakeWork}
-use Rattle.cy_commands.specs.PlayWork.{IsPlayWork, IsPlayRefusal, replayed_in}
+use Rattle.cy_commands.specs.PlayWork.{IsPlayWork, replayed_in}
+use Rattle.cy_commands.specs.Refused.{IsRefusal}
 
 -- A file that the command reads has this name. `make` reads none.
 abbrev pub IsReadBy : Command → Option Files → List ℕ → Type 0
@@ -37,9 +38,9 @@ IsTaken (Make w) m = ⊤
 
 -- The first thing in the command's way is a refusal, with this status and this line.
 abbrev pub IsRefused : Command → Option Files → Status → List ℕ → Type 0
-IsRefused (Check w) files due line = IsCheckRefusal w files due line
-IsRefused (Info w) files due line = IsInfoRefusal w files due line
-IsRefused (Play w) files due line = IsPlayRefusal w files due line
+IsRefused (Check w) files due line = IsRefusal (checked_in w) files due line
+IsRefused (Info w) files due line = IsRefusal (told_of w) files due line
+IsRefused (Play w) files due line = IsRefusal (replayed_in w) files due line
 IsRefused (Make w) files due line = ⊥
 
 -- It is a file of this name, which isn't there.

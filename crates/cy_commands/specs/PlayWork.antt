@@ -1,9 +1,9 @@
--- What `play` makes of its files, and which it refuses.
+-- What `play` makes of its files.
 use Rattle.std.specs.Prelude.{ℕ, ◌≡◌, ⊤, Bool, true, false, List, [], ◌∷◌, ◌++◌, length, map}
 use Rattle.std.specs.Prelude.{Option, IfSome}
 use Rattle.std.specs.FinMap.{insert}
 use Rattle.cy_store.specs.Files.{Files}
-use Rattle.cy_store.specs.Reads.{Reads, Accepts, Refuses}
+use Rattle.cy_store.specs.Reads.{Reads, Accepts}
 use Rattle.cy_store.specs.Write.{Write, after_writes}
 use Rattle.cy_msg.specs.Placement.{scan_of}
 use Rattle.cy_msg.specs.declared.placement.ContextPlan.{ContextPlan}
@@ -25,10 +25,7 @@ use Rattle.cy_replay.specs.Listing.{choice_of}
 use Rattle.cy_writer.specs.RecordWrites.{file_writes, record_puts}
 use Rattle.cy_recording.specs.Recording.{Source, channels_of_tape, messages_of_tape, chunks_of_tape}
 use Rattle.cy_replay.specs.Setup.{Replayed, replay_in}
-use Rattle.cy_commands.specs.declared.status.Status.{Status}
 use Rattle.cy_commands.specs.Work.{Work}
-use Rattle.cy_commands.specs.ConfigText.{fault_text, fault_status}
-use Rattle.cy_commands.specs.Lines.{file_line}
 use Rattle.cy_words.specs.PlayWords.{PlayWords}
 use Rattle.cy_commands.specs.Summary.{calls_from, done_line}
 
@@ -95,11 +92,3 @@ pub record IsPlayWork (w : PlayWords) (files : Option Files) (work : Work) : Typ
       ≡ insert (insert m w.output (tape_record w (source_in read list) world.tape)) w.trace
       (run_trace (source_in read list) list.shadowed (run_shown world))
   pub text : work.text ≡ play_line (source_in read list) list (run_shown world)
-
--- A file is refused, with the status and the line of its fault.
-pub record IsPlayRefusal (w : PlayWords) (files : Option Files) (due : Status) (line : List ℕ) :
-    Type 0 where
-  pub refusal : Refusal
-  pub refused : IfSome files (λ m. replayed_in w m ≡ Refuses refusal)
-  pub status : due ≡ fault_status refusal.fault
-  pub told : line ≡ file_line refusal.file (fault_text refusal.fault)

@@ -1,5 +1,7 @@
--- The number with which the process ends.
-use Rattle.std.specs.Prelude.{ℕ}
+-- The number with which the process ends, and the status of a file that is refused.
+use Rattle.std.specs.Prelude.{ℕ, if◌then◌else◌}
+use Rattle.cy_replay.specs.declared.error.Fault.{Fault}
+use Rattle.cy_replay.specs.FaultText.{is_limit}
 use Rattle.cy_commands.specs.declared.status.Status.{Status}
 use Rattle.cy_commands.specs.declared.status.Status.TheVariants.{Done, Refused, Usage, StoreFault}
 use Rattle.cy_commands.specs.declared.status.Status.TheVariants.{SinkFault, Limit, Memory}
@@ -13,3 +15,7 @@ code_of StoreFault = 3
 code_of SinkFault = 4
 code_of Limit = 5
 code_of Memory = 6
+
+-- A limit that was passed has a status of its own.
+abbrev pub fault_status : Fault → Status
+fault_status f = if is_limit f then Limit else Refused

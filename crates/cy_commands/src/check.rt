@@ -8,13 +8,13 @@ ghost use Rattle.cy_commands.specs.Check.{checked_in, unknown_in};
 ghost use Rattle.cy_words.specs.Command as command;
 ghost use Rattle.cy_commands.specs.Due.{IsDueFor};
 ghost use Rattle.cy_commands.specs.Line.{bytes_of_line};
-ghost use Rattle.cy_commands.specs.CheckEnds.{IsDueUnset, IsTextOf};
+ghost use Rattle.cy_commands.specs.CheckEnds.{IsTextOf};
 ghost use Rattle.cy_words.specs.Views.{check_words_of};
 
-use crate::config_text::{fault_status, refusal_line, store_line};
 use crate::due::{Due, out_of_memory};
 use crate::line::Line;
 use crate::status::Status;
+use crate::unset::due_unset;
 use cy_check::{SchedulerFile, check_text};
 use cy_msg::{Bytes, Text};
 use cy_replay::{Configuration, SetupError, place_components, read_configuration, wire_components};
@@ -22,29 +22,6 @@ use cy_sched::Sched;
 use cy_store::Store;
 use cy_words::Check;
 use std::alloc::Global;
-
-/// What is due where the files are not accepted.
-pub fn due_unset<'a>(alloc: Global, error: SetupError) -> Due<'a>
-    ensures { IsDueUnset error result.status (bytes_of_line result.line) }
-{
-    match error {
-        SetupError::Refused(refusal) => match refusal_line(alloc, &refusal) {
-            Ok(line) => Due {
-                status: fault_status(&refusal.fault),
-                line: Line::Made(line),
-            },
-            Err(_) => out_of_memory(),
-        },
-        SetupError::Store { file } => match store_line(alloc, file.as_str()) {
-            Ok(line) => Due {
-                status: Status::StoreFault,
-                line: Line::Made(line),
-            },
-            Err(_) => out_of_memory(),
-        },
-        SetupError::Memory => out_of_memory(),
-    }
-}
 
 // Reads the files, and wires their components over no channels of a record.
 fn read_files<S: Store>(

@@ -8,22 +8,21 @@
 
 mod asked;
 mod check;
-mod config_text;
 mod due;
 mod failure;
 mod fault_text;
 mod info;
 mod line;
-mod load_text;
 mod make;
 mod play;
 mod status;
 mod summary;
+mod unset;
 
 pub use asked::{due_for, due_of, misused};
-pub use check::due_unset;
 pub use due::{Due, out_of_memory};
 pub use fault_text::OUTPUT_LINE;
 pub use line::Line;
 pub use play::{due_played, opening, played_world, read_files};
 pub use status::Status;
+pub use unset::due_unset;

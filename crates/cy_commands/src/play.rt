@@ -25,12 +25,12 @@ ghost use Rattle.cy_words.specs.PlayWords.{names_in};
 ghost use Rattle.cy_commands.specs.PlayWork.{replayed_in};
 ghost use Rattle.cy_commands.specs.Summary.{calls_from};
 
-use crate::check::due_unset;
 use crate::due::{Due, out_of_memory, store_failed};
 use crate::failure::{Failure, File};
 use crate::line::Line;
 use crate::status::Status;
 use crate::summary::done_line;
+use crate::unset::due_unset;
 use cy_comp::{Call, Plan};
 use cy_msg::{Bytes, Items, Text};
 use cy_recording::{Played, played_places_are_there, write_record};

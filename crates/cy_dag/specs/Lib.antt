@@ -1,6 +1,7 @@
 pub mod Classes
 pub mod ConfigFile
 pub mod DagFile
+pub mod FaultText
 pub mod Format
 pub mod Refusals
 pub mod Triggers

@@ -1,41 +1,37 @@
 // What the reading of a DAG or a component file, and its wiring, may answer in place of a value.
-ghost use Rattle.std.specs.Prelude.{◌≡◌};
+ghost use Rattle.std.specs.Prelude.{◌≡◌, ◌++◌, OnOk};
+ghost use Rattle.cy_dag.specs.FaultText.{dag_text, is_dag_limit};
 ghost use Rattle.cy_dag.specs.Refusals.{refused_shape};
 ghost use Rattle.cy_dag.specs.declared.error.DagError.TheVariants as dag_error;
 
 use crate::Cycle;
 use cy_config::ConfigError;
+use cy_fault::{push_limit, push_named, push_numbers};
 use cy_msg::{NamesError, Text};
 use std::alloc::{AllocError, AllocFailed};
-use thiserror::Error;
 
 /// Why a DAG, a component file or the wiring of both is refused. Components are numbered from 0, in
 /// the order of the file. A count above the greatest `u32` is given as that.
-#[derive(Debug, Drop, Error)]
+#[derive(Drop)]
 pub enum DagError {
     /// A field's value isn't of its kind.
-    #[error("a field's value is not of its kind")]
     Shape {
         /// The field, as `module_config[0].components[1].config.name`.
         path: Text,
     },
     /// There is no component.
-    #[error("there is no component")]
     NoComponents,
     /// There are timer components.
-    #[error("there are timer components")]
     Timers {
         /// How many.
         count: u32,
     },
     /// There are more than 64 components.
-    #[error("there are too many components")]
     TooMany {
         /// How many.
         count: u32,
     },
     /// A field isn't there, or is empty where it may not be.
-    #[error("a field is missing")]
     Missing {
         /// The component.
         component: u32,
@@ -43,7 +39,6 @@ pub enum DagError {
         field: Text,
     },
     /// Two components have one name.
-    #[error("two components have one name")]
     NameTwice {
         /// The first that has it.
         first: u32,
@@ -51,19 +46,16 @@ pub enum DagError {
         second: u32,
     },
     /// There is no class of this name.
-    #[error("the class is not known")]
     UnknownClass {
         /// The component.
         component: u32,
     },
     /// A component reads no channel.
-    #[error("a component has no reader")]
     NoReader {
         /// The component.
         component: u32,
     },
     /// A component has more than four readers.
-    #[error("a component has too many readers")]
     TooManyReaders {
         /// The component.
         component: u32,
@@ -71,7 +63,6 @@ pub enum DagError {
         count: u32,
     },
     /// A component reads a channel twice.
-    #[error("a component reads a channel twice")]
     ReaderTwice {
         /// The component.
         component: u32,
@@ -79,7 +70,6 @@ pub enum DagError {
         channel: Text,
     },
     /// A component has fewer readers than its class reads.
-    #[error("a component has too few readers")]
     TooFewReaders {
         /// The component.
         component: u32,
@@ -87,7 +77,6 @@ pub enum DagError {
         count: u32,
     },
     /// A parameter isn't a whole number in its range.
-    #[error("a parameter is not a whole number in its range")]
     NotWhole {
         /// The component.
         component: u32,
@@ -95,7 +84,6 @@ pub enum DagError {
         field: Text,
     },
     /// Two components write one channel.
-    #[error("two components write one channel")]
     TwoWriters {
         /// The first that writes it.
         first: u32,
@@ -103,20 +91,65 @@ pub enum DagError {
         second: u32,
     },
     /// Components trigger one another in a circle.
-    #[error("components trigger one another in a circle")]
     TriggerCycle {
         /// The components, from the least one that is on a circle, each before its trigger.
         components: Cycle,
     },
     /// The record, the readers and the components have more than 1,024 different channels.
-    #[error("there are too many channels")]
     TooManyChannels {
         /// How many.
         count: u32,
     },
     /// There is no memory.
-    #[error("out of memory")]
     Memory,
+}
+
+impl DagError {
+    /// Adds its text to others. The only error is want of memory.
+    pub fn push_to(&self, to: &mut Vec<u8>) -> Result<(), AllocError>
+        ensures { OnOk result (to.new.items ≡ to.old.items ++ dag_text self.now) }
+    {
+        match self {
+            Self::Shape { path } => push_named(to, "Shape", &[], path),
+            Self::NoComponents => to.extend_from_slice(b"NoComponents"),
+            Self::Timers { count } => push_numbers(to, "Timers", &[*count]),
+            Self::TooMany { count } => push_limit(to, "TooMany", u64::from(*count)),
+            Self::Missing { component, field } => push_named(to, "Missing", &[*component], field),
+            Self::NameTwice { first, second } => push_numbers(to, "NameTwice", &[*first, *second]),
+            Self::UnknownClass { component } => push_numbers(to, "UnknownClass", &[*component]),
+            Self::NoReader { component } => push_numbers(to, "NoReader", &[*component]),
+            Self::TooManyReaders { component, count } => {
+                push_numbers(to, "TooManyReaders", &[*component, *count])
+            }
+            Self::ReaderTwice { component, channel } => {
+                push_named(to, "ReaderTwice", &[*component], channel)
+            }
+            Self::TooFewReaders { component, count } => {
+                push_numbers(to, "TooFewReaders", &[*component, *count])
+            }
+            Self::NotWhole { component, field } => push_named(to, "NotWhole", &[*component], field),
+            Self::TwoWriters { first, second } => {
+                push_numbers(to, "TwoWriters", &[*first, *second])
+            }
+            Self::TriggerCycle { components } => {
+                push_numbers(to, "TriggerCycle", components.as_slice())
+            }
+            Self::TooManyChannels { count } => {
+                push_limit(to, "TooManyChannels", u64::from(*count))
+            }
+            Self::Memory => to.extend_from_slice(b"out of memory"),
+        }
+    }
+
+    /// Whether it is a limit that was passed.
+    pub fn is_limit(&self) -> bool
+        ensures { result ≡ is_dag_limit self.now }
+    {
+        matches!(
+            self,
+            DagError::TooMany { .. } | DagError::TooManyChannels { .. }
+        )
+    }
 }
 
 impl From<AllocError> for DagError {

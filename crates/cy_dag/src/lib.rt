@@ -4,7 +4,8 @@
 //! `specs/Format` has the fields of both files, `specs/DagFile` what a DAG file says and the first
 //! cause for which it is refused, `specs/ConfigFile` the same of a component file,
 //! `specs/Classes` the classes by their names, `specs/Triggers` which components write one channel
-//! or trigger one another in a circle, and `specs/Wiring` the wiring of all.
+//! or trigger one another in a circle, and `specs/Wiring` the wiring of all. `specs/FaultText` says
+//! how a refusal is told.
 #![tactic(auto)]
 
 mod channels;

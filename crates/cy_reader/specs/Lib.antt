@@ -1,4 +1,5 @@
 pub mod Facts
+pub mod FaultText
 pub mod Found
 pub mod Heads
 pub mod Info

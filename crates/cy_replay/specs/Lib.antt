@@ -1,5 +1,6 @@
 pub mod Comes
 pub mod Configuration
+pub mod FaultText
 pub mod Faults
 pub mod Judged
 pub mod Listing

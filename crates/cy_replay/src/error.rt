@@ -1,10 +1,12 @@
 // Why a replay can't be set up.
-ghost use Rattle.std.specs.Prelude.{◌≡◌, ◌⊎◌};
+ghost use Rattle.std.specs.Prelude.{◌≡◌, ◌⊎◌, ◌++◌, IfOk, OnOk};
+ghost use Rattle.cy_replay.specs.FaultText.{fault_text, is_limit, refusal_line};
 ghost use Rattle.cy_replay.specs.Steps.{IsFault, IsRecordFault, dag_fault, sched_fault};
 ghost use Rattle.cy_replay.specs.declared.error.SetupError.TheVariants as setup_error;
 
 use cy_dag::DagError;
-use cy_msg::{NamesError, Text};
+use cy_fault::{push_file, push_limit};
+use cy_msg::{Bytes, NamesError, Text};
 use cy_reader::LoadError;
 use cy_sched::SchedError;
 use cy_text::TextError;
@@ -33,6 +35,36 @@ pub enum Fault {
     },
 }
 
+impl Fault {
+    /// Adds its text to others. The only error is want of memory.
+    pub fn push_to(&self, to: &mut Vec<u8>) -> Result<(), AllocError>
+        ensures { OnOk result (to.new.items ≡ to.old.items ++ fault_text self.now) }
+    {
+        match self {
+            Fault::ConfigTooLarge { count } => push_limit(to, "ConfigTooLarge", *count),
+            Fault::Text(error) => error.push_to(to),
+            Fault::Dag(error) => error.push_to(to),
+            Fault::Sched(error) => error.push_to(to),
+            Fault::Record(error) => error.push_to(to),
+            Fault::TooMany { count } => push_limit(to, "TooMany", *count),
+        }
+    }
+
+    /// Whether it is a limit that was passed.
+    pub fn is_limit(&self) -> bool
+        ensures { result ≡ is_limit self.now }
+    {
+        match self {
+            Fault::ConfigTooLarge { .. } => true,
+            Fault::Text(error) => error.is_limit(),
+            Fault::Dag(error) => error.is_limit(),
+            Fault::Sched(error) => error.is_limit(),
+            Fault::Record(error) => error.is_limit(),
+            Fault::TooMany { .. } => true,
+        }
+    }
+}
+
 /// A file that is refused.
 #[derive(Drop)]
 pub struct Refusal {
@@ -40,6 +72,27 @@ pub struct Refusal {
     pub file: Text,
     /// What is wrong with it.
     pub fault: Fault,
+}
+
+impl Refusal {
+    // Its line, at the end of others.
+    fn push_to(&self, to: &mut Vec<u8>) -> Result<(), AllocError>
+        ensures { OnOk result (to.new.items ≡ to.old.items ++ refusal_line self.now) }
+    {
+        push_file(to, self.file.as_str())?;
+        self.fault.push_to(to)?;
+        to.push(b'\n')?;
+        Ok(())
+    }
+
+    /// The line that tells it. The only error is want of memory.
+    pub fn line(&self, alloc: Global) -> Result<Bytes, AllocError>
+        ensures { IfOk result (λ line. line ≡ refusal_line self.now) }
+    {
+        let mut line = Vec::new(alloc);
+        self.push_to(&mut line)?;
+        Ok(Bytes::from_vec(line))
+    }
 }
 
 /// Why a replay can't be set up.

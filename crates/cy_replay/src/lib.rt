@@ -3,7 +3,8 @@
 //! `specs/Setup` says what all files of a replay come to, and what it is set up with:
 //! `specs/Configuration` what the configuration files come to, `specs/Passing` what stands in their
 //! place where one component passes messages on, `specs/Wiring` what wiring components does,
-//! `specs/Comes` what a call answers that reads files.
+//! `specs/Comes` what a call answers that reads files, `specs/FaultText` how a file that is refused
+//! is told.
 #![tactic(auto)]
 
 mod configuration;
@@ -18,6 +19,7 @@ mod wiring;
 
 pub use configuration::Configuration;
 pub use error::{Fault, Refusal, SetupError};
+pub use listing::read_record;
 pub use passing::pass_is_wired;
 pub use read::read_configuration;
 pub use setup::{Replay, set_up};

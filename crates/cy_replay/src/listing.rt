@@ -14,12 +14,8 @@ use cy_request::Filter;
 use cy_store::Store;
 use std::alloc::Global;
 
-/// Reads a record.
-pub(crate) fn read_record<S: Store>(
-    alloc: Global,
-    store: &mut S,
-    name: &str,
-) -> Result<Record, SetupError>
+/// Reads a record, or tells why the file is none. No file is changed.
+pub fn read_record<S: Store>(alloc: Global, store: &mut S, name: &str) -> Result<Record, SetupError>
     ensures { ComesTo (λ r. r) (record_in name.now) (λ file. file ≡ name.now) (S.shows store.old)
         (S.shows store.new) result }
 {

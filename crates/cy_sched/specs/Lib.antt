@@ -1,3 +1,4 @@
+pub mod FaultText
 pub mod Format
 pub mod Placing
 pub mod Ranks

@@ -6,3 +6,4 @@ pub mod Reading
 pub mod Messages
 pub mod Channels
 pub mod ReadBack
+pub mod FaultText

@@ -2,8 +2,8 @@
 //!
 //! `specs/Section` has the bytes of each section, `specs/Chunks` where a chunk ends,
 //! `specs/RecordText` the bytes of a record. `specs/Head` and `specs/Reading` have what is read: a
-//! head, and the value of a body, or the first fault with its place. A section is written at the
-//! end of a [`Piece`].
+//! head, and the value of a body, or the first fault with its place, which `specs/FaultText` tells. A
+//! section is written at the end of a [`Piece`].
 #![tactic(auto)]
 
 mod body;

@@ -7,6 +7,7 @@ pub mod Letters
 pub mod Numbers
 pub mod Strings
 pub mod Fault
+pub mod FaultText
 pub mod Tokens
 pub mod Form
 pub mod Views

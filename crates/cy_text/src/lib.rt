@@ -3,8 +3,9 @@
 //! `specs/Grammar` says which texts are of the form and which fields they say, `specs/FirstFault`
 //! where any other is refused, and `specs/Kinds` as what; `specs/Cuts` says what the tokens of a
 //! text are, over `specs/Pieces` and `specs/Quotations`. `specs/Tokens` and `specs/Form` are how
-//! all that is computed, and no part of what it means. `specs/Printed` says what is printed, and
-//! `specs/Laws` and `specs/PieceLaws` what holds of all texts.
+//! all that is computed, and no part of what it means. `specs/Printed` says what is printed,
+//! `specs/FaultText` how a fault is told, and `specs/Laws` and `specs/PieceLaws` what holds of all
+//! texts.
 #![tactic(auto)]
 
 mod building;

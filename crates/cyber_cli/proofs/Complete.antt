@@ -8,16 +8,14 @@ use Rattle.cy_commands.specs.declared.status.Status.{Status}
 use Rattle.cy_commands.specs.declared.status.Status.TheVariants.{Done, Refused, Usage, StoreFault, SinkFault, Limit, Memory}
 use Rattle.cy_store.specs.Reads.{Reads, Accepts, Refuses, Absent}
 use Rattle.cy_replay.specs.declared.error.Refusal.{Refusal}
-use Rattle.cy_reader.specs.declared.error.LoadError.{LoadError}
-use Rattle.cy_reader.specs.Record.{Contents}
 use Rattle.cy_words.specs.MakeWords.{MakeWords}
 use Rattle.cy_words.specs.PlayWords.{PlayWords}
 use Rattle.cy_commands.specs.PlayWork.{replayed_in}
 use Rattle.cy_words.specs.CheckWords.{CheckWords}
 use Rattle.cy_words.specs.Words.{InfoWords}
-use Rattle.cy_commands.specs.Info.{told_of, load_status}
+use Rattle.cy_commands.specs.Info.{told_of}
 use Rattle.cy_commands.specs.Check.{checked_in}
-use Rattle.cy_commands.specs.ConfigText.{fault_status}
+use Rattle.cy_commands.specs.Status.{fault_status}
 use Rattle.cy_words.specs.Command.{Command, Check, Info, Play, Make}
 use Rattle.cy_commands.specs.Work.{Work}
 use Rattle.cy_commands.specs.Outcome.{IsAccepted, IsTaken, IsRefused, IsAbsent}
@@ -77,7 +75,7 @@ called c old new m SinkFault line told quiet d = absurd d
 called c old new m Limit line told quiet d = inr (line, subst (λ (files : Option Files). IsRefused c files Limit line) told d.refused)
 called c old new m Memory line told quiet d = inl refl
 
--- what the files come to calls for one status: for `check` and `play`
+-- what the files come to calls for one status
 abbrev status_of : {A : Type 0} → Reads Refusal A → Status
 status_of (Accepts c) = Done
 status_of (Refuses r) = fault_status r.fault
@@ -92,19 +90,13 @@ check_status w m SinkFault h = absurd h
 check_status w m Limit h = h.1.status ∙ ap status_of (sym h.1.refused)
 check_status w m Memory h = absurd h
 
--- so does what `info` comes to
-abbrev status_told : Reads LoadError Contents → Status
-status_told (Accepts c) = Done
-status_told (Refuses e) = load_status e
-status_told (Absent name) = StoreFault
-
-info_status : (w : InfoWords) (m : Files) (due : Status) → CallsFor (Info w) m due → due ≡ status_told (told_of w m)
-info_status w m Done h = ap status_told (sym h.1)
-info_status w m Refused h = h.1.status ∙ ap status_told (sym h.1.refused)
+info_status : (w : InfoWords) (m : Files) (due : Status) → CallsFor (Info w) m due → due ≡ status_of (told_of w m)
+info_status w m Done h = ap status_of (sym h.1)
+info_status w m Refused h = h.1.status ∙ ap status_of (sym h.1.refused)
 info_status w m Usage h = absurd h
-info_status w m StoreFault h = ap status_told (sym h.1)
+info_status w m StoreFault h = ap status_of (sym h.1)
 info_status w m SinkFault h = absurd h
-info_status w m Limit h = h.1.status ∙ ap status_told (sym h.1.refused)
+info_status w m Limit h = h.1.status ∙ ap status_of (sym h.1.refused)
 info_status w m Memory h = absurd h
 
 play_status : (w : PlayWords) (m : Files) (due : Status) → CallsFor (Play w) m due → due ≡ status_of (replayed_in w m)

@@ -19,11 +19,11 @@ fn names(rt: &HostRuntime, dag: &Dag) -> Result<Vec<Text>, Fail> {
 // What a DAG and component files say, where no scheduler file is given.
 fn told(rt: &HostRuntime, text: &str, files: &[&str]) -> Result<String, Fail> {
     let tree = tree(rt, text.as_bytes())?;
-    let dag = read_dag(rt.alloc(), &tree)?;
+    let dag = read_dag(rt.alloc(), &tree).map_err(|_| "no DAG")?;
     let configs = configs(rt, &dag, files)?;
     let names = names(rt, &dag)?;
-    let sched = Sched::default_grp(rt.alloc())?;
-    let placement = place(rt.alloc(), &sched, &names)?;
+    let sched = Sched::default_grp(rt.alloc()).map_err(|_| "no scheduler")?;
+    let placement = place(rt.alloc(), &sched, &names).map_err(|_| "not placed")?;
     let unknown = [Text::new(rt.alloc(), "scheduler_conf.depth")?];
     let scheduler = SchedulerFile {
         file: "s.conf",

@@ -36,10 +36,10 @@ fn placed(rt: &HostRuntime, text: &str, names: &[&str]) -> Result<String, Fail> 
     let texts = texts(rt, names)?;
     match read_sched(rt.alloc(), &tree) {
         Ok(sched) => {
-            let placement = place(rt.alloc(), &sched, &texts)?;
+            let placement = place(rt.alloc(), &sched, &texts).map_err(|_| "not placed")?;
             line_of(rt, &placement)
         }
-        Err(error) => Err(Fail::from(error)),
+        Err(_) => Err(Fail::new("no scheduler")),
     }
 }
 
@@ -135,9 +135,9 @@ fn places_on_processors(rt: HostRuntime) -> Result<(), Fail> {
 
 #[test]
 fn places_where_there_is_no_file(rt: HostRuntime) -> Result<(), Fail> {
-    let sched = Sched::default_grp(rt.alloc())?;
+    let sched = Sched::default_grp(rt.alloc()).map_err(|_| "no scheduler")?;
     let names = [Text::new(rt.alloc(), "b")?, Text::new(rt.alloc(), "a")?];
-    let placement = place(rt.alloc(), &sched, &names)?;
+    let placement = place(rt.alloc(), &sched, &names).map_err(|_| "not placed")?;
     let line = line_of(&rt, &placement)?;
     assert_eq!(rt; line.as_str(), "default_grp 2: 0 1; ");
     Ok(())

@@ -22,7 +22,7 @@ fn config(rt: &HostRuntime, class: &str, text: &str) -> Result<Config, Fail> {
     let tree = tree(rt, text.as_bytes())?;
     match read_component_config(rt.alloc(), &tree, 0, class) {
         Ok(config) => Ok(config),
-        Err(error) => Err(Fail::from(error)),
+        Err(_) => Err(Fail::new("no component file")),
     }
 }
 
@@ -63,7 +63,7 @@ fn wired(
 ) -> Result<String, Fail> {
     let text = dag(rt, components)?;
     let tree = tree(rt, text.as_str().as_bytes())?;
-    let dag = read_dag(rt.alloc(), &tree)?;
+    let dag = read_dag(rt.alloc(), &tree).map_err(|_| "no DAG")?;
     let configs = configs(rt, &dag, files)?;
     match wire(rt.alloc(), &dag, &configs, channels) {
         Ok(wiring) => line_of(rt, &wiring),

@@ -1,9 +1,9 @@
 use Rattle.cy_words.specs.Views.{info_words_of}
-use Rattle.cy_commands.proofs.InfoExits.{unread, done, no_text}
+use Rattle.cy_commands.proofs.InfoExits.{unset, done, no_text}
 use Rattle.cy_commands.proofs.info.run_info.Goals as goal
 
 pub returns-in-Err : goal.returns-in-Err
-returns-in-Err g c = unread (info_words_of c.args.info.now) _ _ c.in-Err.error _ _ c.in-Err.ensures c.due_unread.ensures
+returns-in-Err g c = unset (info_words_of c.args.info.now) _ _ c.in-Err.error _ _ c.in-Err.ensures c.due_unset.ensures
 
 pub returns-in-Ok-info : goal.returns-in-Ok-info
 returns-in-Ok-info g c = done (info_words_of c.args.info.now) _ _ c.in-Ok.record c.in-Ok-info.text c.in-Ok.ensures c.in-Ok-info.ensures.text

@@ -1,0 +1,16 @@
+-- What it means that a command's files are refused.
+use Rattle.std.specs.Prelude.{ℕ, ◌≡◌, List, Option, IfSome}
+use Rattle.cy_store.specs.Files.{Files}
+use Rattle.cy_store.specs.Reads.{Reads, Refuses}
+use Rattle.cy_replay.specs.declared.error.Refusal.{Refusal}
+use Rattle.cy_replay.specs.FaultText.{refusal_line}
+use Rattle.cy_commands.specs.declared.status.Status.{Status}
+use Rattle.cy_commands.specs.Status.{fault_status}
+
+-- Reading them comes to the refusal of a file, which has the status of its fault and its own line.
+pub record IsRefusal {A : Type 0} (reads : Files → Reads Refusal A) (files : Option Files)
+    (due : Status) (line : List ℕ) : Type 0 where
+  pub refusal : Refusal
+  pub refused : IfSome files (λ m. reads m ≡ Refuses refusal)
+  pub status : due ≡ fault_status refusal.fault
+  pub told : line ≡ refusal_line refusal

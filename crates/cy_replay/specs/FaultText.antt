@@ -1,0 +1,30 @@
+-- How it is told what is wrong with a file of a replay, and whether it is a limit that was passed.
+use Rattle.std.specs.Prelude.{ℕ, List, Bool, true, codes}
+use Rattle.cy_fault.specs.FaultText.{file_line, limit_text}
+use Rattle.cy_text.specs.FaultText.{text_text, is_text_limit}
+use Rattle.cy_dag.specs.FaultText.{dag_text, is_dag_limit}
+use Rattle.cy_sched.specs.FaultText.{sched_text, is_sched_limit}
+use Rattle.cy_reader.specs.FaultText.{load_text, is_load_limit}
+use Rattle.cy_replay.specs.declared.error.Fault.{Fault}
+use Rattle.cy_replay.specs.declared.error.Fault.TheVariants as fault
+use Rattle.cy_replay.specs.declared.error.Refusal.{Refusal}
+
+abbrev pub fault_text : Fault → List ℕ
+fault_text (fault.ConfigTooLarge count) = limit_text (codes "ConfigTooLarge") count
+fault_text (fault.Text e) = text_text e
+fault_text (fault.Dag e) = dag_text e
+fault_text (fault.Sched e) = sched_text e
+fault_text (fault.Record e) = load_text e
+fault_text (fault.TooMany count) = limit_text (codes "TooMany") count
+
+abbrev pub is_limit : Fault → Bool
+is_limit (fault.ConfigTooLarge count) = true
+is_limit (fault.Text e) = is_text_limit e
+is_limit (fault.Dag e) = is_dag_limit e
+is_limit (fault.Sched e) = is_sched_limit e
+is_limit (fault.Record e) = is_load_limit e
+is_limit (fault.TooMany count) = true
+
+-- The line that tells it of its file.
+abbrev pub refusal_line : Refusal → List ℕ
+refusal_line r = file_line r.file (fault_text r.fault)
