@@ -1,11 +1,14 @@
 -- The code finds the command that words ask for, and none where they ask for none.
-use Rattle.std.proofs.Common.{◌≡◌, ◌⊎◌, ℕ, List, [], ◌∷◌, Bool, true, false, Option, Some, None, is_some, if◌then◌else◌, refl, sym, ap, ◌∙◌, subst, inl, inr}
+use Rattle.std.proofs.Common.{◌≡◌, ◌⊎◌, ℕ, List, [], ◌∷◌, Bool, true, false, Option, Some, None, is_some, if◌then◌else◌, refl, sym, ap, ◌∙◌, subst, inl, inr, true≢false}
 use Rattle.std.proofs.Common.{codes, option_map, option_and_then, bytes_eq}
 use Rattle.std.proofs.lemmas.Slice.Eq.{bytes_eq-Decides}
+use Rattle.cy_words.specs.declared.words.Command as code
+use Rattle.cy_words.specs.Asking.{IsSomeAsked}
 use Rattle.cy_words.specs.Command.{Command, Check, Info, Play, Make, AskForOne, Asks, AsksStill, IsAsked, IsOnlyAsked, IsStill}
 use Rattle.cy_words.specs.MakeWords.{make_of}
 use Rattle.cy_words.specs.PassWords.{pass_of}
-use Rattle.cy_words.specs.Scan.{FindsAsked, check_of, command_of, play_of, still_command_of, still_one}
+use Rattle.cy_words.specs.Scan.{check_of, command_of, play_of, still_command_of, still_one}
+use Rattle.cy_words.specs.Views.{command_asked}
 use Rattle.cy_words.specs.Words.{info_of}
 use Rattle.cy_words.proofs.OptionsRead.{check_found, check_asked, play_found, play_asked}
 
@@ -59,9 +62,6 @@ by_what asks None None one back h = refl
 by_what asks (Some c) None one back h = absurd (h c (back c refl))
 by_what asks x (Some c) one back h = one c h
 
-pub asked_is : (words : List (List ℕ)) (asked : Option Command) → IsAsked (Asks words) asked → command_of words ≡ asked
-asked_is words asked = by_what (Asks words) (command_of words) asked (found words) (asks words)
-
 still_found : (c : Command) → IsStill c → still_one c ≡ Some c
 still_found (Check w) h = refl
 still_found (Info w) h = refl
@@ -104,8 +104,34 @@ ask_for_one words = (
   (still_command_of words, once (AsksStill words) (still_command_of words) (still_one_found words) (still_asks words)),
 )
 
-pub still_asked_is : (words : List (List ℕ)) (asked : Option Command) → IsAsked (AsksStill words) asked → still_command_of words ≡ asked
-still_asked_is words asked = by_what (AsksStill words) (still_command_of words) asked (still_one_found words) (still_asks words)
+-- no words ask for two commands
+pub one_asked : (words : List (List ℕ)) (a b : Command) → Asks words a → Asks words b → a ≡ b
+one_asked words a b h k = some_same a b (sym (found words a h) ∙ found words b k)
+
+-- what the scan says of the words, where it finds no command and where it finds one
+none_there : (asks : Command → Type 0) (x : Option Command) (f : Option code.Command) → ((c : Command) → asks c → x ≡ Some c) → option_map command_asked f ≡ x
+    → is_some f ≡ false → IsAsked asks None
+none_there asks x None one is none = λ c h. nothing c (is ∙ one c h)
+none_there asks x (Some f) one is none = absurd (true≢false none)
+
+one_there : (asks : Command → Type 0) (x : Option Command) (f : Option code.Command) → ((c : Command) → x ≡ Some c → asks c) → option_map command_asked f ≡ x
+    → is_some f ≡ true → IsSomeAsked asks
+one_there asks x None back is some = absurd (true≢false (sym some))
+one_there asks x (Some f) back is some = (command_asked f, back (command_asked f) (sym is))
+
+pub none_asked : (words : List (List ℕ)) (f : Option code.Command) → option_map command_asked f ≡ command_of words → is_some f ≡ false → IsAsked (Asks words) None
+none_asked words f = none_there (Asks words) (command_of words) f (found words)
+
+pub some_asked : (words : List (List ℕ)) (f : Option code.Command) → option_map command_asked f ≡ command_of words → is_some f ≡ true → IsSomeAsked (Asks words)
+some_asked words f = one_there (Asks words) (command_of words) f (asks words)
+
+pub none_asked_still : (words : List (List ℕ)) (f : Option code.Command) → option_map command_asked f ≡ still_command_of words → is_some f ≡ false
+    → IsAsked (AsksStill words) None
+none_asked_still words f = none_there (AsksStill words) (still_command_of words) f (still_one_found words)
+
+pub some_asked_still : (words : List (List ℕ)) (f : Option code.Command) → option_map command_asked f ≡ still_command_of words → is_some f ≡ true
+    → IsSomeAsked (AsksStill words)
+some_asked_still words f = one_there (AsksStill words) (still_command_of words) f (still_asks words)
 
 -- what asks for a command where there are no threads asks for one where there are
 pub still_some : (words : List (List ℕ)) → is_some (still_command_of words) ≡ true → is_some (command_of words) ≡ true
@@ -114,7 +140,3 @@ still_some words e = by (command_of words) e
     by : (x : Option Command) → is_some (option_and_then still_one x) ≡ true → is_some x ≡ true
     by None e = e
     by (Some c) e = refl
-
-pub finds_asked : FindsAsked
-finds_asked words =
-    ((once (Asks words) (command_of words) (found words) (asks words)).0, (once (AsksStill words) (still_command_of words) (still_one_found words) (still_asks words)).0)

@@ -5,7 +5,7 @@ use Rattle.std.specs.List.{position}
 use Rattle.std.specs.Option.{option_map}
 use Rattle.std.specs.Str.{bytes_eq}
 use Rattle.cy_words.specs.CheckWords.{CheckWords}
-use Rattle.cy_words.specs.Command.{Command, Check, Info, Play, Make, Asks, AsksStill, IsAsked}
+use Rattle.cy_words.specs.Command.{Command, Check, Info, Play, Make}
 use Rattle.cy_words.specs.MakeWords.{make_of}
 use Rattle.cy_words.specs.Options.{Options, no_options}
 use Rattle.cy_words.specs.PassWords.{pass_of}
@@ -113,9 +113,3 @@ still_one c = Some c
 
 abbrev pub still_command_of : List (List ℕ) → Option Command
 still_command_of words = option_and_then still_one (command_of words)
-
--- What the scan finds is what the words ask for, with threads and without: a command that they ask
--- for, and none where they ask for none.
-abbrev pub FindsAsked : Type 0
-FindsAsked = (words : List (List ℕ)) → IsAsked (Asks words) (command_of words)
-    × IsAsked (AsksStill words) (still_command_of words)

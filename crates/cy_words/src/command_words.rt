@@ -1,8 +1,9 @@
 // Words that ask for a command.
-ghost use Rattle.std.specs.Prelude.{◌≡◌, Some, true, is_some, IfOk};
+ghost use Rattle.std.specs.Prelude.{◌≡◌, true, is_some, IfOk};
 ghost use Rattle.clap.specs.Walk.{texts};
 ghost use Rattle.cy_words.specs.Asking.{IsReadAs};
-ghost use Rattle.cy_words.specs.Scan.{command_of, still_command_of};
+ghost use Rattle.cy_words.specs.Command.{Asks, AsksStill};
+ghost use Rattle.cy_words.specs.Scan.{command_of};
 ghost use Rattle.cy_words.specs.Views.{command_asked, IsInForm};
 
 use crate::WordsError;
@@ -52,7 +53,7 @@ impl<'a> CommandWords<'a> {
     /// The words, where they ask for a command. Its only error is `Memory`, which comes of no other
     /// words.
     pub fn asking(alloc: Global, words: &'a [Text]) -> Result<Option<Self>, WordsError>
-        ensures { IsReadAs (command_of words.now) words.now result }
+        ensures { IsReadAs (Asks words.now) words.now result }
     {
         if command_of(words).is_none() {
             return Ok(None);
@@ -62,7 +63,7 @@ impl<'a> CommandWords<'a> {
 
     /// The same where there are no threads, so that a play has to be serial.
     pub fn asking_still(alloc: Global, words: &'a [Text]) -> Result<Option<Self>, WordsError>
-        ensures { IsReadAs (still_command_of words.now) words.now result }
+        ensures { IsReadAs (AsksStill words.now) words.now result }
     {
         if still_command_of(words).is_none() {
             return Ok(None);
@@ -73,7 +74,7 @@ impl<'a> CommandWords<'a> {
     /// The command that they ask for, with the values that `clap` finds in them. Its only error is
     /// `Memory`.
     pub fn command(&self, alloc: Global) -> Result<Command<'_>, WordsError>
-        ensures asked { IfOk result (λ c. command_of self.now ≡ Some (command_asked c)) }
+        ensures asked { IfOk result (λ c. Asks self.now (command_asked c)) }
         ensures form { IfOk result IsInForm }
     {
         let found = matches_of(alloc, self.words.as_slice())?;

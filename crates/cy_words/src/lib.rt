@@ -19,7 +19,7 @@ mod words;
 pub use check_words::Check;
 pub use command_words::CommandWords;
 pub use error::WordsError;
-pub use laws::{scan_finds_what_is_asked, words_ask_for_one};
+pub use laws::words_ask_for_one;
 pub use make_words::Make;
 pub use play_words::Play;
 pub use words::{Command, Info};

@@ -2,10 +2,12 @@ use Rattle.std.proofs.Common.{◌≡◌, ◌∙◌, List, Some, true, is_some, o
 use Rattle.std.specs.Borrow.{Bor}
 use Rattle.clap.specs.Walk.{Row, texts}
 use Rattle.clap.specs.Words.{Text, found_of, rows_of, subcommand_of, takes}
+use Rattle.cy_words.specs.Command.{Asks}
 use Rattle.cy_words.specs.Kept.{IsFlag, flag_kept}
 use Rattle.cy_words.specs.Program.{program}
 use Rattle.cy_words.specs.Scan.{command_of}
 use Rattle.cy_words.specs.Views.{command_asked}
+use Rattle.cy_words.proofs.Asked.{asks}
 use Rattle.cy_words.proofs.InForm.{in_form, was_found}
 use Rattle.cy_words.proofs.Read.{all_read, same_kept, then_asked}
 use Rattle.cy_words.proofs.command_words.CommandWords.command.Goals as goal
@@ -38,7 +40,8 @@ returns-clause-asked c =
     let r = all_read c.self.inside.words.items c.self.inside.asks in
     let kept = same_kept c.self.inside.words.items c.as_slice.result.now r (rows_of (found_of c.in_ok-found.found)) c.as_slice.ensures.value c.in_ok-found.ensures in
     let is = then_asked c.self.inside.words.items r c.index.result.now (rows_of (found_of c.in_ok-found.found)) (option_map command_asked c.of.result) c.index.ensures c.of.ensures kept in
-    ap command_of (sym c.self.view_is) ∙ (sym is ∙ ap (option_map command_asked) c.unwrap.ensures)
+    subst (λ (words : List Text). Asks words (command_asked c.unwrap.result)) c.self.view_is
+    (asks (texts c.self.inside.words.items) (command_asked c.unwrap.result) (sym is ∙ ap (option_map command_asked) c.unwrap.ensures))
 
 pub returns-clause-form : goal.returns-clause-form
 returns-clause-form c =
