@@ -22,12 +22,8 @@ pub(crate) fn passing(alloc: Global, queue: u32, count: u32) -> Result<World, Co
         (count ∷ 0 ∷ []))) }
     ensures memory { IfErr result (λ e. e ≡ CoreError.Memory) }
 {
-    let mut names = Names::new(alloc);
-    add(&mut names, alloc, "/a")?;
-    add(&mut names, alloc, "/o")?;
-    let readers = Items::new(vec![in alloc; 0]?);
-    let plan = plan(alloc, Kind::Pass, readers, queue, 1)?;
-    let wiring = wired(alloc, names, plan)?;
+    let plan = plan(alloc, Kind::Pass, &[0], queue, 1)?;
+    let wiring = wired(alloc, two_names(alloc)?, plan)?;
     World::new(alloc, &wiring, &[count, 0])
 }
 
@@ -38,14 +34,32 @@ pub(crate) fn summing(alloc: Global) -> Result<World, CoreError>
         (2 ∷ 0 ∷ 0 ∷ []))) }
     ensures memory { IfErr result (λ e. e ≡ CoreError.Memory) }
 {
+    let plan = plan(alloc, Kind::Sum, &[0, 1], 1, 2)?;
+    let wiring = wired(alloc, three_names(alloc)?, plan)?;
+    World::new(alloc, &wiring, &[2, 0, 0])
+}
+
+// The names of a channel that is read and of one that is written.
+fn two_names(alloc: Global) -> Result<Names, CoreError>
+    ensures names { IfOk result (λ n. length n ≡ 2) }
+    ensures memory { IfErr result (λ e. e ≡ CoreError.Memory) }
+{
+    let mut names = Names::new(alloc);
+    add(&mut names, alloc, "/a")?;
+    add(&mut names, alloc, "/o")?;
+    Ok(names)
+}
+
+// The same with two that are read.
+fn three_names(alloc: Global) -> Result<Names, CoreError>
+    ensures names { IfOk result (λ n. length n ≡ 3) }
+    ensures memory { IfErr result (λ e. e ≡ CoreError.Memory) }
+{
     let mut names = Names::new(alloc);
     add(&mut names, alloc, "/a")?;
     add(&mut names, alloc, "/b")?;
     add(&mut names, alloc, "/o")?;
-    let readers = Items::new(Vec::from_slice(alloc, &[0, 1])?);
-    let plan = plan(alloc, Kind::Sum, readers, 1, 2)?;
-    let wiring = wired(alloc, names, plan)?;
-    World::new(alloc, &wiring, &[2, 0, 0])
+    Ok(names)
 }
 
 // One more name.
@@ -61,22 +75,16 @@ fn add(names: &mut Names, alloc: Global, name: &str) -> Result<(), CoreError>
 }
 
 // A component of a class that reads these channels, keeps so many tuples and writes a channel.
-fn plan(
-    alloc: Global,
-    kind: Kind,
-    readers: Items<u32>,
-    queue: u32,
-    out: u32,
-) -> Result<Plan, CoreError>
+fn plan(alloc: Global, kind: Kind, readers: &[u32], queue: u32, out: u32) -> Result<Plan, CoreError>
     ensures kind { IfOk result (λ p. p.kind ≡ kind) }
-    ensures wired { IfOk result (λ p. (p.readers ≡ readers) × (p.queue ≡ queue)
+    ensures wired { IfOk result (λ p. (p.readers ≡ readers.now) × (p.queue ≡ queue)
         × (p.out ≡ out)) }
     ensures memory { IfErr result (λ e. e ≡ CoreError.Memory) }
 {
     Ok(Plan {
         name: text(alloc, "worked")?,
         kind,
-        readers,
+        readers: Items::new(Vec::from_slice(alloc, readers)?),
         queue,
         out,
         out_type: text(alloc, "")?,
