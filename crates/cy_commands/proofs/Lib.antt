@@ -3,6 +3,7 @@ pub mod Commas
 pub mod DoneLine
 pub mod InfoExits
 pub mod MakeExits
+pub mod OneDue
 pub mod PlayExits
 pub mod PlayRuns
 pub mod PlayWriting

@@ -1,10 +1,11 @@
 // What is due for what the words ask for, on one thread.
-ghost use Rattle.std.specs.Prelude.{ℕ, ◌≡◌, List};
+ghost use Rattle.std.specs.Prelude.{ℕ, ◌≡◌, List, Option};
 ghost use Rattle.cy_commands.specs.Due.{IsDue, IsDueFor};
 ghost use Rattle.cy_commands.specs.Line.{bytes_of_line};
 ghost use Rattle.cy_commands.specs.Lines.{usage_line};
 ghost use Rattle.cy_words.specs.Asking.{IsReadAs};
-ghost use Rattle.cy_words.specs.Scan.{still_command_of};
+ghost use Rattle.cy_words.specs.Command as asked;
+ghost use Rattle.cy_words.specs.Command.{AsksStill, IsAsked};
 ghost use Rattle.cy_words.specs.Views.{command_asked, IsInForm};
 
 use crate::check::run_check;
@@ -51,8 +52,9 @@ pub fn due_of<'s, S: Store>(
     read: &'s Result<Option<CommandWords<'_>>, WordsError>,
     store: &mut S,
 ) -> Due<'s>
-    ensures { (words : List (List ℕ)) → IsReadAs (still_command_of words) words read.now
-        → IsDue (still_command_of words) (S.shows store.old) (S.shows store.new) result.status
+    ensures { (words : List (List ℕ)) (command : Option asked.Command)
+        → IsReadAs (AsksStill words) words read.now → IsAsked (AsksStill words) command
+        → IsDue command (S.shows store.old) (S.shows store.new) result.status
         (bytes_of_line result.line) }
 {
     match read {

@@ -1,3 +1,3 @@
 pub mod Complete
+pub mod FrontWritten
 pub mod Fronts
-pub mod Telling

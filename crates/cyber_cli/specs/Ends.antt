@@ -5,6 +5,7 @@ use Rattle.cy_store.specs.Store.{StoreView, Rose}
 use Rattle.cy_words.specs.Command.{Command}
 use Rattle.cy_commands.specs.declared.status.Status.{Status}
 use Rattle.cy_commands.specs.declared.status.Status.TheVariants.{Done, Refused, StoreFault, Limit}
+use Rattle.cy_commands.specs.declared.status.Status.TheVariants.{Memory}
 use Rattle.cy_commands.specs.Outcome.{IsTaken, IsRefused, IsAbsent}
 use Rattle.cy_commands.specs.Due.{IsDue}
 use Rattle.cyber_cli.specs.Told.{Sinks, IsTold}

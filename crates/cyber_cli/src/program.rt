@@ -5,7 +5,6 @@ ghost use Rattle.cy_commands.specs.Line.{bytes_of_line};
 ghost use Rattle.cy_words.specs.Asking.{IsReadAs};
 ghost use Rattle.cy_words.specs.Command as asked;
 ghost use Rattle.cy_words.specs.Command.{Asks, AsksStill, IsAsked};
-ghost use Rattle.cy_words.specs.Scan.{command_of};
 ghost use Rattle.cy_words.specs.Views.{command_asked, IsInForm};
 ghost use Rattle.cyber_cli.specs.Ends.{Answers, IsComplete};
 
@@ -46,8 +45,9 @@ fn due_with_threads<'s, S: Store, G: Gate, R: Threads + Wait + Sync>(
     store: &mut S,
     gate: &G,
 ) -> Due<'s>
-    ensures { (words : List (List ℕ)) → IsReadAs (command_of words) words read.now
-        → IsDue (command_of words) (S.shows store.old) (S.shows store.new) result.status
+    ensures { (words : List (List ℕ)) (command : Option asked.Command)
+        → IsReadAs (Asks words) words read.now → IsAsked (Asks words) command
+        → IsDue command (S.shows store.old) (S.shows store.new) result.status
         (bytes_of_line result.line) }
 {
     match read {

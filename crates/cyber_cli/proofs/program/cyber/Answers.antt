@@ -1,9 +1,5 @@
-use Rattle.std.proofs.Common.{Option, subst}
-use Rattle.cy_words.specs.Command.{Command}
-use Rattle.cy_commands.specs.Due.{IsDue}
 use Rattle.cy_commands.specs.Line.{bytes_of_line}
-use Rattle.cy_words.specs.Scan.{command_of}
-use Rattle.cy_words.proofs.Asked.{asked_is}
+use Rattle.cy_words.proofs.Asked.{ask_for_one}
 use Rattle.cyber_cli.proofs.Complete.{complete, not_sink}
 use Rattle.cyber_cli.proofs.program.cyber.Goals as goal
 
@@ -11,8 +7,7 @@ pub returns-clause-answers : goal.returns-clause-answers
 returns-clause-answers g c command asked = record {
   due = c.due_with_threads-due.result.status;
   line = bytes_of_line c.due_with_threads-due.result.line;
-  is_due = subst (λ (o : Option Command). IsDue o (g.S.Store.shows c.args.store.now) (g.S.Store.shows c.due_with_threads-due.new.store) c.due_with_threads-due.result.status (bytes_of_line c.due_with_threads-due.result.line))
-      (asked_is c.args.words.now command asked) (c.due_with_threads-due.ensures c.args.words.now c.asking-read.ensures);
+  is_due = c.due_with_threads-due.ensures c.args.words.now command c.asking-read.ensures asked;
   is_told = c.tell.ensures;
 }
 
@@ -23,4 +18,7 @@ returns-clause-complete g c command asked =
     (returns-clause-answers g c command asked)
 
 pub tell-requires : goal.tell-requires
-tell-requires g c = not_sink (command_of c.args.words.now) (g.S.Store.shows c.args.store.now) (g.S.Store.shows c.due_with_threads-due.new.store) c.due_with_threads-due.result.status (bytes_of_line c.due_with_threads-due.result.line) (c.due_with_threads-due.ensures c.args.words.now c.asking-read.ensures)
+tell-requires g c =
+    let one = (ask_for_one c.args.words.now).0 in
+    not_sink one.0 (g.S.Store.shows c.args.store.now) (g.S.Store.shows c.due_with_threads-due.new.store) c.due_with_threads-due.result.status (bytes_of_line c.due_with_threads-due.result.line)
+    (c.due_with_threads-due.ensures c.args.words.now one.0 c.asking-read.ensures one.1.0)

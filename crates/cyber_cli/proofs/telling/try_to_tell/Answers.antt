@@ -1,7 +1,7 @@
 use Rattle.std.proofs.Common.{ℕ, List, subst}
 use Rattle.cy_store.specs.Store.{SinkView}
 use Rattle.cyber_cli.specs.Told.{GetsFront}
-use Rattle.cyber_cli.proofs.Telling.{front_written}
+use Rattle.cyber_cli.proofs.FrontWritten.{front_written}
 use Rattle.cyber_cli.proofs.telling.try_to_tell.Goals as goal
 
 pub returns : goal.returns

@@ -1,4 +1,4 @@
--- How a due status is told.
+-- Whatever a write of a line answers, a front of it was written.
 use Rattle.std.proofs.Common.{◌≡◌, ℕ, List, ◌++◌, take, length, Option, Some, None, Result, Ok, Err, OnOk, IsErrOf, refl, ap, arith}
 use Rattle.std.specs.Option.{option_map}
 use Rattle.std.proofs.lemmas.Grind.{common_steps}
