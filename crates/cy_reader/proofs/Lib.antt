@@ -7,13 +7,6 @@ pub mod Refusals
 pub mod Playing
 pub mod Keeping
 pub mod Telling
-pub mod TextNames
-pub mod TextSections
-pub mod TextMet
-pub mod TextFits
-pub mod TextParts
-pub mod TextRead
-pub mod TextTold
 pub mod SectionRows
 pub mod Tiled
 pub mod NamedChannels

@@ -8,7 +8,6 @@ pub mod Load
 pub mod Loading
 pub mod Named
 pub mod Play
-pub mod ReadBack
 pub mod Record
 pub mod Sections
 pub mod Stands

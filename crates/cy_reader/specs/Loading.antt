@@ -3,6 +3,7 @@ use Rattle.std.specs.Prelude.{◌≡◌, ◌⊎◌, ℕ, ◌≤◌, ◌<◌, ◌
 use Rattle.std.specs.Prelude.{sum_by, Option, Some, None, Result, Ok, Err}
 use Rattle.std.specs.HashMap.{get_by_text}
 use Rattle.cy_section.specs.declared.error.SectionError.{SectionError}
+use Rattle.cy_section.specs.declared.body.MessageView.{MessageView}
 use Rattle.cy_reader.specs.declared.error.LoadError.{LoadError}
 use Rattle.cy_reader.specs.declared.error.LoadError.TheVariants as load_error
 use Rattle.cy_reader.specs.declared.known.Known.{Known}
@@ -43,6 +44,15 @@ pub record IsSound (l : Loading) : Type 0 where
   pub tied : IsTied l.channels
   pub few : length l.messages.items < 2 ^ 32
   pub numbered : All (λ m. m.channel < length l.channels.list.items) l.messages.items
+
+-- What is kept of a message on a channel of this number.
+abbrev pub noted : ℕ → MessageView → Message
+noted channel m = record {
+  channel = channel;
+  time = m.time;
+  start = m.content_at;
+  length = length m.content.now;
+}
 
 -- A message, with the content that stands in the file.
 abbrev pub message_of : List ℕ → Message → meaning.Message

@@ -19,14 +19,18 @@ pub record WholeSection : Type 0 where
   pub body_at : ℕ
   pub body : List ℕ
 
--- The section of a head that stands at a place: none where it is an index, which ends the reading.
--- A section that is too long comes before one that goes past the file's end.
-abbrev pub under_head : List ℕ → ℕ → SectionKind → ℕ → Result (Option WholeSection) SectionError
-under_head file at kind.Index size = Ok None
-under_head file at k size =
+-- The section of this kind and size whose head stands at a place. One that is too long comes before
+-- one that goes past the file's end.
+abbrev pub sized_section : List ℕ → ℕ → SectionKind → ℕ → Result (Option WholeSection) SectionError
+sized_section file at k size =
     if nat_lt longest_section size then Err (TooLong at size)
     else (if nat_lt (length file) (at + 16 + size) then Err (Cut at)
     else Ok (Some (record { kind = k; body_at = at + 16; body = take size (drop (at + 16) file) })))
+
+-- The section of a head that stands at a place: none where it is an index, which ends the reading.
+abbrev pub under_head : List ℕ → ℕ → SectionKind → ℕ → Result (Option WholeSection) SectionError
+under_head file at kind.Index size = Ok None
+under_head file at k size = sized_section file at k size
 
 abbrev pub with_head : List ℕ → ℕ → Result Head SectionError
     → Result (Option WholeSection) SectionError

@@ -18,7 +18,7 @@ use std::collections::HashSet;
 
 /// What is counted of a record, beside the numbers that its header has: places and lengths in
 /// bytes, times in nanoseconds.
-#[derive(Clone, Copy, Debug, PartialEq, Eq)]
+#[derive(Clone, Copy)]
 pub struct Counted {
     /// The place of the index's head, 0 where there is none.
     pub index_position: u64,

@@ -16,7 +16,7 @@ use cy_section::{HEAD_SIZE, HEADER_SIZE, SectionKind};
 use std::alloc::Global;
 
 /// The head of a section: its place in the file, its kind, and the size of its body in bytes.
-#[derive(Clone, Copy, Debug, PartialEq, Eq)]
+#[derive(Clone, Copy)]
 pub struct PlacedHead {
     pub at: u64,
     pub kind: SectionKind,

@@ -4,7 +4,7 @@
 //! `specs/Tiling` says into which sections a file falls, `specs/Sections` computes them, and
 //! `specs/Record` says what they hold together. `specs/Play` says which messages are played, and in
 //! which order, and `specs/Info` has the text that tells what a record is, `specs/FaultText` the one
-//! that tells why a file is none. `specs/ReadBack` says that what a record's text says is read back.
+//! that tells why a file is none.
 #![tactic(auto)]
 
 mod channel_set;
@@ -27,5 +27,5 @@ pub use error::LoadError;
 pub use facts::{Counted, IndexFound};
 pub use heads::PlacedHead;
 pub use known::Known;
-pub use laws::{records_read_back, sections_tile};
+pub use laws::sections_tile;
 pub use record::{Record, load};

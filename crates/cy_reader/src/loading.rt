@@ -1,11 +1,12 @@
 // Reads the channels and messages of a file's sections.
-ghost use Rattle.std.specs.Prelude.{◌≡◌, ◌≢◌, ◌≤◌, ◌<◌, ◌^◌, length, IfOk, IfErr, OnOk};
+ghost use Rattle.std.specs.Prelude.{◌≡◌, ◌≢◌, ◌≤◌, ◌<◌, ◌^◌, ◌+◌, ◌++◌, ◌∷◌, [], length};
+ghost use Rattle.std.specs.Prelude.{IfOk, IfErr, OnOk, IsOkUnless};
 ghost use Rattle.cy_msg.specs.Answer.{AnswersOr};
 ghost use Rattle.cy_section.specs.Messages.{seen};
 ghost use Rattle.cy_reader.specs.Record.{message_met, body_met};
 ghost use Rattle.cy_reader.specs.Record.{section_met, sections_met, parts_of, header_end, nothing};
 ghost use Rattle.cy_reader.specs.Kept.{IsLoaded};
-ghost use Rattle.cy_reader.specs.Loading.{IsSound, Leads, unless_ended, met_of};
+ghost use Rattle.cy_reader.specs.Loading.{IsSound, Leads, unless_ended, noted, met_of};
 ghost use Rattle.cy_reader.specs.Stands.{Stands};
 ghost use Rattle.cy_reader.specs.Sections.{sections_from};
 ghost use Rattle.cy_reader.specs.Found.{seen_section};
@@ -32,7 +33,7 @@ pub(crate) struct Loading {
 }
 
 // A message: the number of its channel, its time, and where its content stands in the file.
-#[derive(Clone, Copy, Debug, Drop)]
+#[derive(Clone, Copy, Drop)]
 pub(crate) struct Message {
     pub channel: u32,
     pub time: u64,
@@ -40,7 +41,34 @@ pub(crate) struct Message {
     pub length: u32,
 }
 
-// Keeps a message.
+// Keeps a message on a channel of this number.
+#[inline(always)]
+fn note_message(
+    messages: &mut Vec<Message>,
+    channel: u32,
+    message: &MessageView<'_>,
+) -> Result<(), LoadError>
+    requires few { length messages.old.items < 2 ^ 32 }
+    requires inside { message.now.content_at + length message.now.content.now < 2 ^ 32 }
+    ensures ok { OnOk result (messages.new.items
+        ≡ messages.old.items ++ noted channel message.now ∷ []) }
+    ensures few { OnOk result (length messages.old.items + 1 < 2 ^ 32) }
+    ensures only_memory { IsOkUnless result LoadError.Memory }
+{
+    // A file that is read has fewer messages than that, but no clause says so.
+    if messages.len() == u32::MAX as usize {
+        return Err(LoadError::Memory);
+    }
+    messages.push(Message {
+        channel,
+        time: message.time,
+        start: message.content_at as u32,
+        length: message.content.len() as u32,
+    })?;
+    Ok(())
+}
+
+// Keeps a message, and the channel that it names.
 #[tactic(auto, unfolding(crate::specs::Record::message_met), using(crate::proofs::Sound::sounds))]
 #[inline(always)]
 fn message_met(
@@ -62,17 +90,7 @@ fn message_met(
     if count > LONGEST_CONTENT {
         return Err(LoadError::ContentTooLarge { count });
     }
-    // A file that is read has fewer messages than that, but no clause says so.
-    if loading.messages.len() == u32::MAX as usize {
-        return Err(LoadError::Memory);
-    }
-    loading.messages.push(Message {
-        channel,
-        time: message.time,
-        start: message.content_at as u32,
-        length: count as u32,
-    })?;
-    Ok(())
+    note_message(&mut loading.messages, channel, message)
 }
 
 // Reads the messages that are left, for the fault that may end them.

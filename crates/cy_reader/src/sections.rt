@@ -1,11 +1,11 @@
 // Finds the sections of a record's file.
 ghost use Rattle.std.specs.Prelude.{◌≡◌, ◌≤◌, ◌<◌, ◌^◌, ◌+◌, length, IfOk, IfSome};
-ghost use Rattle.cy_reader.specs.Sections.{section_at, longest_section};
+ghost use Rattle.cy_reader.specs.Sections.{sized_section, section_at, longest_section};
 ghost use Rattle.cy_reader.specs.Found.{GivesSection};
 ghost use Rattle.cy_reader.specs.Stands.{Stands};
 
 use byteorder::{ByteOrder, LittleEndian};
-use cy_section::{HEAD_SIZE, SectionError, SectionKind, read_head};
+use cy_section::{HEAD_SIZE, Head, SectionError, SectionKind, read_head};
 
 /// The longest section that is read, but for the index, in bytes.
 const LONGEST_SECTION: u64 = 536_870_912;
@@ -16,6 +16,36 @@ pub(crate) struct SectionView<'a> {
     pub kind: SectionKind,
     pub body_at: usize,
     pub body: &'a [u8],
+}
+
+// The section of this head, which stands at a place of the file and is no index's.
+fn sized_section(
+    file: &[u8],
+    at: usize,
+    head: Head,
+) -> Result<Option<SectionView<'_>>, SectionError>
+    requires { at + 16 ≤ length file.now }
+    ensures section { GivesSection result (sized_section file.now at head.kind head.size) }
+    ensures stands { IfOk result (λ found. IfSome found (λ s. (s.body_at ≡ at + 16)
+        × Stands file.now s.body_at s.body.now)) }
+{
+    let place = at as u64;
+    if head.size > LONGEST_SECTION {
+        return Err(SectionError::TooLong {
+            at: place,
+            value: head.size,
+        });
+    }
+    let body_at = at + HEAD_SIZE;
+    let size = head.size as usize;
+    if file.len() - body_at < size {
+        return Err(SectionError::Cut { at: place });
+    }
+    Ok(Some(SectionView {
+        kind: head.kind,
+        body_at,
+        body: &file[body_at..body_at + size],
+    }))
 }
 
 // What stands at a place of the file: a section, or none at the file's end and at an index.
@@ -41,22 +71,8 @@ pub(crate) fn section_at(file: &[u8], at: usize) -> Result<Option<SectionView<'_
         });
     }
     let head = read_head(rest, place)?;
-    if head.kind == SectionKind::Index {
-        return Ok(None);
+    match head.kind {
+        SectionKind::Index => Ok(None),
+        _ => sized_section(file, at, head),
     }
-    if head.size > LONGEST_SECTION {
-        return Err(SectionError::TooLong {
-            at: place,
-            value: head.size,
-        });
-    }
-    let size = head.size as usize;
-    if rest.len() - HEAD_SIZE < size {
-        return Err(SectionError::Cut { at: place });
-    }
-    Ok(Some(SectionView {
-        kind: head.kind,
-        body_at: at + HEAD_SIZE,
-        body: &file[at + HEAD_SIZE..at + HEAD_SIZE + size],
-    }))
 }

@@ -5,5 +5,4 @@ pub mod Head
 pub mod Reading
 pub mod Messages
 pub mod Channels
-pub mod ReadBack
 pub mod FaultText

@@ -85,12 +85,17 @@ chunk_header_in fields = Ok (record {
 unfoldable pub chunk_header_at : ℕ → List ℕ → Result ChunkHeader SectionError
 chunk_header_at at body = made_of chunk_header_in (fields_of at body)
 
--- A channel whose fields begin with this number: its name is looked at before its type.
+-- A channel of these parts: its name is looked at before its type.
+abbrev pub channel_of : WireSpan → WireSpan → WireSpan → Result Channel SectionError
+channel_of name message_type proto_desc = do
+  name ← text_of name
+  message_type ← text_of message_type
+  Ok (record { name = name; message_type = message_type; proto_desc = proto_desc.bytes })
+
+-- A channel whose fields begin with this number.
 unfoldable pub channel_in : ℕ → List WireField → Result Channel SectionError
-channel_in first fields = do
-  name ← text_of (span_of first fields)
-  message_type ← text_of (span_of (first + 1) fields)
-  Ok (record { name = name; message_type = message_type; proto_desc = bytes_of (first + 2) fields })
+channel_in first fields =
+    channel_of (span_of first fields) (span_of (first + 1) fields) (span_of (first + 2) fields)
 
 unfoldable pub channel_at : ℕ → List ℕ → Result Channel SectionError
 channel_at at body = made_of (channel_in 1) (fields_of at body)

@@ -1,12 +1,10 @@
 -- The bytes of each section of a record: a head of 16 bytes and a body in the wire form, every
 -- field written in number order.
-use Rattle.std.specs.Prelude.{ℕ, ◌≡◌, ◌+◌, ◌-◌, Bool, if◌then◌else◌, List, [], ◌++◌, length}
-use Rattle.std.specs.Prelude.{replicate, Option, Some, None, Result, OnOk, OnErr, IsOkUnless}
+use Rattle.std.specs.Prelude.{ℕ, ◌-◌, Bool, if◌then◌else◌, List, [], ◌++◌, length}
+use Rattle.std.specs.Prelude.{replicate, Option, Some, None}
 use Rattle.std.specs.List.{flat_map}
 use Rattle.byteorder.specs.Endian.{little_bytes}
 use Rattle.cy_wire.specs.Wire.{field_u64, field_bytes}
-use Rattle.cy_section.specs.declared.error.SectionError.{SectionError}
-use Rattle.cy_section.specs.declared.error.SectionError.TheVariants as section_error
 use Rattle.cy_section.specs.declared.types.SectionKind.{SectionKind}
 use Rattle.cy_section.specs.declared.types.SectionKind.TheVariants as kind
 use Rattle.cy_section.specs.declared.types.Header.{Header}
@@ -54,14 +52,6 @@ header_body h =
 unfoldable pub header_section : Header → List ℕ
 header_section h = section kind.Header (header_body h)
     ++ replicate (2048 - length (header_body h)) 0
-
--- The header's section is appended, and is 2064 bytes. Want of memory appends nothing.
-pub record PutsHeader {T : Type 0} (section old new : List ℕ) (result : Result T SectionError) :
-    Type 0 where
-  pub ok : OnOk result (new ≡ old ++ section)
-  pub grown : OnOk result (length new ≡ length old + 2064)
-  pub err : OnErr result (new ≡ old)
-  pub only_memory : IsOkUnless result section_error.Memory
 
 unfoldable pub chunk_header_body : ChunkHeader → List ℕ
 chunk_header_body c = field_u64 1 c.begin_time ++ field_u64 2 c.end_time

@@ -5,7 +5,8 @@ ghost use Rattle.cy_msg.specs.Answer.{Answers, AnswersOr};
 ghost use Rattle.cy_wire.specs.Field.{fields_of, seen};
 ghost use Rattle.cy_wire.specs.Message.{u64_of, seen_span};
 ghost use Rattle.cy_section.specs.Reading.{ReadsNumbers, KeepsNumber, text_of};
-ghost use Rattle.cy_section.specs.Reading.{header_at, chunk_header_at, channel_in, channel_at};
+ghost use Rattle.cy_section.specs.Reading.{header_at, chunk_header_at, channel_at};
+ghost use Rattle.cy_section.specs.Reading.{channel_of, channel_in};
 ghost use Rattle.cy_section.specs.Reading.{made_of};
 ghost use Rattle.cy_section.specs.Channels.{seen_channel};
 
@@ -120,6 +121,24 @@ pub(crate) fn no_bytes<'a>() -> Span<'a>
     }
 }
 
+// The channel of these texts and bytes.
+fn view_of<'a>(
+    name: Span<'a>,
+    message_type: Span<'a>,
+    proto_desc: Span<'a>,
+) -> Result<ChannelView<'a>, SectionError>
+    ensures { Answers seen_channel result (channel_of (seen_span name.entry)
+        (seen_span message_type.entry) (seen_span proto_desc.entry)) }
+{
+    let name = text_of(name)?;
+    let message_type = text_of(message_type)?;
+    Ok(ChannelView {
+        name,
+        message_type,
+        proto_desc: proto_desc.bytes,
+    })
+}
+
 // The channel in some bytes, whose fields begin with a number.
 #[tactic(auto, unfolding(crate::specs::Reading::channel_in))]
 pub(crate) fn channel_of<'a>(message: Span<'a>, first: u32) -> Result<ChannelView<'a>, SectionError>
@@ -136,14 +155,11 @@ pub(crate) fn channel_of<'a>(message: Span<'a>, first: u32) -> Result<ChannelVie
         message_type = field.span(first + 1).or(message_type);
         proto_desc = field.span(first + 2).or(proto_desc);
     }
-    let name = text_of(name.unwrap_or(no_bytes()))?;
-    let message_type = text_of(message_type.unwrap_or(no_bytes()))?;
-    let proto_desc = proto_desc.unwrap_or(no_bytes()).bytes;
-    Ok(ChannelView {
-        name,
-        message_type,
-        proto_desc,
-    })
+    view_of(
+        name.unwrap_or(no_bytes()),
+        message_type.unwrap_or(no_bytes()),
+        proto_desc.unwrap_or(no_bytes()),
+    )
 }
 
 // A copy of a text, and of bytes.

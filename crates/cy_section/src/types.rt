@@ -63,7 +63,7 @@ pub struct ChunkHeader {
 }
 
 /// A message as a chunk's body has it.
-#[derive(Debug, Drop)]
+#[derive(Drop)]
 pub struct BodyMessage {
     pub channel_name: Text,
     /// In nanoseconds.
@@ -78,7 +78,7 @@ pub struct ChunkBody {
 }
 
 /// A channel: its name, the type of its messages and their description.
-#[derive(Debug, Drop)]
+#[derive(Drop)]
 pub struct Channel {
     pub name: Text,
     pub message_type: Text,
@@ -86,7 +86,7 @@ pub struct Channel {
 }
 
 /// What the index keeps of a channel.
-#[derive(Debug, Drop)]
+#[derive(Drop)]
 pub struct ChannelCache {
     /// The number of its messages in the whole file.
     pub message_number: u64,
@@ -96,7 +96,7 @@ pub struct ChannelCache {
 }
 
 /// What the index keeps of a chunk's header.
-#[derive(Clone, Copy, Debug, PartialEq, Eq)]
+#[derive(Clone, Copy)]
 pub struct ChunkHeaderCache {
     pub message_number: u64,
     pub begin_time: u64,
@@ -105,13 +105,13 @@ pub struct ChunkHeaderCache {
 }
 
 /// What the index keeps of a chunk's body.
-#[derive(Clone, Copy, Debug, PartialEq, Eq)]
+#[derive(Clone, Copy)]
 pub struct ChunkBodyCache {
     pub message_number: u64,
 }
 
 /// An entry of the index: a section's type and the place of its head, and what is kept of it.
-#[derive(Debug, Drop)]
+#[derive(Drop)]
 pub struct IndexEntry {
     pub kind: u32,
     pub position: u64,

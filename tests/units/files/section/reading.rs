@@ -1,9 +1,9 @@
 // Sections that are read: odd forms that are accepted, and each fault with its place.
 use cy_msg::{Bytes, Items, Text};
+use cy_piece::{Piece, put_chunk_body, put_header};
 use cy_section::{
-    BodyMessage, ChunkBody, ChunkHeader, Head, Header, MessageReader, Piece, SectionError,
-    SectionKind, put_chunk_body, put_header, read_channel, read_chunk_body, read_chunk_header,
-    read_head, read_header, read_index,
+    BodyMessage, ChunkBody, ChunkHeader, Head, Header, MessageReader, SectionError, SectionKind,
+    read_channel, read_chunk_body, read_chunk_header, read_head, read_header, read_index,
 };
 use std::test::Fail;
 
@@ -154,7 +154,7 @@ fn reads_the_messages_of_a_chunk_up_to_the_first_fault(rt: HostRuntime) -> Resul
     assert_eq!(rt; message.time, 100);
     assert_eq!(rt; message.content, b"\x08\x0e".as_slice());
     assert_eq!(rt; message.content_at, 2169);
-    assert_eq!(rt; reader.next_message(), Ok(None));
+    assert!(rt; reader.next_message()?.is_none());
     // A fault inside the second message comes before one behind it, and a field of another number
     // is skipped.
     for (body, fault) in [

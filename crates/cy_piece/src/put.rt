@@ -1,0 +1,119 @@
+// Writes the sections of a few numbers and texts: the header, a chunk's header, a channel.
+ghost use Rattle.std.specs.Prelude.{◌≡◌, ◌-◌, ◌≤◌, ◌++◌, length, replicate, IfOk, OnOk, OnErr};
+ghost use Rattle.std.specs.Prelude.{IsOkUnless};
+ghost use Rattle.cy_section.specs.Section.{section, header_body, header_section};
+ghost use Rattle.cy_section.specs.Section.{chunk_header_body, channel_body};
+ghost use Rattle.cy_piece.specs.Puts.{PutsHeader};
+ghost use Rattle.cy_section.specs.declared.types.SectionKind.TheVariants as kind;
+
+use crate::Piece;
+use crate::head::{head_of, no_memory, put_section};
+use cy_section::{Channel, ChunkHeader, HEADER_SIZE, Header, SectionError, SectionKind};
+use cy_wire::{WireError, Writer};
+use std::alloc::Global;
+
+/// The room that a writer wants for a field that holds a number, in bytes.
+pub(crate) const FIELD_ROOM: usize = 20;
+
+#[tactic(auto, unfolding(cy_section::specs::Section::header_body))]
+fn header_fields(alloc: Global, value: &Header) -> Result<Writer, WireError>
+    ensures ok { IfOk result (λ w. w ≡ header_body value.now) }
+    ensures only_memory { IsOkUnless result WireError.Memory }
+{
+    let mut body = Writer::with_capacity(alloc, 15 * FIELD_ROOM)?;
+    body.field_u64(1, u64::from(value.major_version))?;
+    body.field_u64(2, u64::from(value.minor_version))?;
+    body.field_u64(3, u64::from(value.compress))?;
+    body.field_u64(4, value.chunk_interval)?;
+    body.field_u64(5, value.segment_interval)?;
+    body.field_u64(6, value.index_position)?;
+    body.field_u64(7, value.chunk_number)?;
+    body.field_u64(8, value.channel_number)?;
+    body.field_u64(9, value.begin_time)?;
+    body.field_u64(10, value.end_time)?;
+    body.field_u64(11, value.message_number)?;
+    body.field_u64(12, value.size)?;
+    body.field_u64(13, u64::from(value.is_complete))?;
+    body.field_u64(14, value.chunk_raw_size)?;
+    body.field_u64(15, value.segment_raw_size)?;
+    Ok(body)
+}
+
+#[tactic(auto, unfolding(cy_section::specs::Section::chunk_header_body))]
+fn chunk_header_fields(alloc: Global, value: &ChunkHeader) -> Result<Writer, WireError>
+    ensures ok { IfOk result (λ w. w ≡ chunk_header_body value.now) }
+    ensures only_memory { IsOkUnless result WireError.Memory }
+{
+    let mut body = Writer::with_capacity(alloc, 4 * FIELD_ROOM)?;
+    body.field_u64(1, value.begin_time)?;
+    body.field_u64(2, value.end_time)?;
+    body.field_u64(3, value.message_number)?;
+    body.field_u64(4, value.raw_size)?;
+    Ok(body)
+}
+
+#[tactic(auto, unfolding(cy_section::specs::Section::channel_body))]
+fn channel_fields(alloc: Global, value: &Channel) -> Result<Writer, WireError>
+    ensures ok { IfOk result (λ w. w ≡ channel_body value.now) }
+    ensures only_memory { IsOkUnless result WireError.Memory }
+{
+    let mut body = Writer::new(alloc);
+    body.field_bytes(1, value.name.as_str().as_bytes())?;
+    body.field_bytes(2, value.message_type.as_str().as_bytes())?;
+    body.field_bytes(3, value.proto_desc.as_slice())?;
+    Ok(body)
+}
+
+/// The header's head and fields, without the zeros that follow.
+#[tactic(auto, using(crate::proofs::Lengths::header_fits), unfolding(cy_section::specs::Section::section))]
+fn header_front(alloc: Global, value: &Header) -> Result<Writer, WireError>
+    ensures ok { IfOk result (λ w. w ≡ section kind.Header (header_body value.now)) }
+    ensures only_memory { IsOkUnless result WireError.Memory }
+{
+    let fields = header_fields(alloc, value)?;
+    let mut front = Writer::new(alloc);
+    front.bytes(&head_of(SectionKind::Header, fields.done().len() as u64))?;
+    front.bytes(fields.done())?;
+    Ok(front)
+}
+
+/// Appends the front of a header's section, and zeros as far as the section goes.
+#[tactic(auto, using(crate::proofs::Lengths::zeros))]
+fn put_filled(to: &mut Piece, front: &[u8]) -> Result<(), SectionError>
+    requires { length front.now ≤ 2064 }
+    ensures { PutsHeader (front.now ++ replicate (2064 - length front.now) 0) to.old to.new result }
+{
+    let zeros = [0; HEADER_SIZE];
+    to.append(front, &zeros[front.len()..])
+}
+
+/// Appends a record's header and the zeros that fill its section up to 2064 bytes. Want of memory
+/// changes nothing.
+#[tactic(auto, using(crate::proofs::Lengths::header_fits))]
+pub fn put_header(to: &mut Piece, value: &Header) -> Result<(), SectionError>
+    ensures { PutsHeader (header_section value.now) to.old to.new result }
+{
+    let front = header_front(to.alloc(), value).map_err(no_memory)?;
+    put_filled(to, front.done())
+}
+
+/// Appends a chunk's header. Want of memory changes nothing.
+pub fn put_chunk_header(to: &mut Piece, value: &ChunkHeader) -> Result<(), SectionError>
+    ensures ok { OnOk result (to.new ≡ to.old ++ section kind.ChunkHeader
+        (chunk_header_body value.now)) }
+    ensures err { OnErr result (to.new ≡ to.old) }
+    ensures only_memory { IsOkUnless result SectionError.Memory }
+{
+    let body = chunk_header_fields(to.alloc(), value).map_err(no_memory)?;
+    put_section(to, SectionKind::ChunkHeader, body.done())
+}
+
+/// Appends a channel. Want of memory changes nothing.
+pub fn put_channel(to: &mut Piece, value: &Channel) -> Result<(), SectionError>
+    ensures ok { OnOk result (to.new ≡ to.old ++ section kind.Channel (channel_body value.now)) }
+    ensures err { OnErr result (to.new ≡ to.old) }
+    ensures only_memory { IsOkUnless result SectionError.Memory }
+{
+    let body = channel_fields(to.alloc(), value).map_err(no_memory)?;
+    put_section(to, SectionKind::Channel, body.done())
+}

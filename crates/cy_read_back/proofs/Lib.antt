@@ -1,0 +1,10 @@
+pub mod WrittenRead
+pub mod HeadsRead
+pub mod IndexRead
+pub mod TextNames
+pub mod TextSections
+pub mod TextMet
+pub mod TextFits
+pub mod TextParts
+pub mod TextRead
+pub mod TextTold

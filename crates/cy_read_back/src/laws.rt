@@ -1,0 +1,16 @@
+// What holds of what is written and read: proved here, and nothing to run.
+ghost use Rattle.cy_read_back.specs.Records.{RecordsReadBack};
+ghost use Rattle.cy_read_back.specs.Sections.{SectionsReadBack};
+
+/// A head that was written, and the body of a section, is read as what was written, where numbers
+/// and lengths have 64 bits.
+pub fn sections_read_back()
+    ensures { SectionsReadBack }
+{}
+
+/// The text of a record whose channels, messages and file are within the limits is read back: by
+/// `load` as these channels and messages, with its header and the place of each section, and by
+/// `info` with its index and no difference.
+pub fn records_read_back()
+    ensures { RecordsReadBack }
+{}
