@@ -3,3 +3,4 @@ pub mod Hands
 pub mod Together
 pub mod Worked
 pub mod Opening
+pub mod Named
