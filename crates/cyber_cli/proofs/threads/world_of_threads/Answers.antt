@@ -5,5 +5,7 @@ use Rattle.cyber_cli.proofs.threads.world_of_threads.Goals as goal
 pub returns : goal.returns
 returns g c =
     let w = play_words_of c.args.play.now in
-    record { run = has_run w.serial w.request.filter c.args.replay.now _ _ c.played_places_are_there.ensures c.places.ensures c.requires.set_up c.in_ok-world.ensures.opens (any_run w.serial c.args.replay.now _ c.requires.threads)
-    c.in-Ok.ensures.lawful c.in-Ok.ensures.counts c.trace_is_read_back.ensures }
+    record {
+      run = has_run w.serial w.request.filter c.args.replay.now _ _ c.played_places_are_there.ensures c.places.ensures c.requires.set_up c.in_ok-world.ensures.opens (any_run w.serial c.args.replay.now _ c.requires.threads)
+          c.in-Ok.ensures.lawful c.in-Ok.ensures.counts c.trace_is_read_back.ensures;
+    }
