@@ -1,9 +1,10 @@
-//! The commands of the program `cyber` on one thread: what each makes of the files that it reads, and
-//! which status is due then.
+//! The commands of the program `cyber` on one thread: what each makes of the files that it reads,
+//! and which status is due then.
 //!
 //! `specs/Due` says which status is due, `specs/Outcome` what the files are to each command: by
 //! `specs/PlayWork`, `specs/MakeWork`, `specs/Check` and `specs/Info`. Which words ask for which
-//! command says `cy_words`; a play on threads stands in `cyber_cli`, and so does how a status is told.
+//! command says `cy_words`; a play on threads stands in `cyber_cli`, and so does how a status is
+//! told.
 #![tactic(auto)]
 
 mod asked;

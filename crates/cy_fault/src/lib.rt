@@ -1,8 +1,8 @@
 //! What the texts of faults have in common: numbers, limits and names in them, and the line that
 //! tells them of a file.
 //!
-//! `specs/FaultText` says how each part is spelled. A crate spells the texts of its own faults, beside
-//! the enum that has them.
+//! `specs/FaultText` says how each part is spelled. A crate spells the texts of its own faults,
+//! beside the enum that has them.
 #![tactic(auto)]
 
 mod text;

@@ -1,7 +1,7 @@
 //! The record that is written of a tape, over the record that was read.
 //!
-//! `specs/Recording` says what its channels and messages are, `specs/RecordLaws` what holds of every
-//! record of a tape.
+//! `specs/Recording` says what its channels and messages are, `specs/RecordLaws` what holds of
+//! every record of a tape.
 #![tactic(auto)]
 
 mod played;

@@ -1,4 +1,4 @@
-// All processors, each in a thread of its own where one can be made.
+// All processors, on threads as long as the system gives some.
 ghost use Rattle.std.specs.Prelude.{length};
 ghost use Rattle.cy_run.specs.Passes.{IsMadeOf};
 ghost use Rattle.cy_run.specs.Driving.{AreManned, HaveWorked, IsManned, HasWorked};
@@ -24,7 +24,7 @@ pub struct Worker {
     pub me: u32,
 }
 
-// Each worker works in a thread of its own, where one can be made.
+// Each worker works in a thread, as long as the system gives some.
 pub(crate) fn work_all<G: Gate, R: Threads + Wait + Sync>(
     rt: &R,
     table: &FlagTable,

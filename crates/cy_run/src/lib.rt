@@ -1,5 +1,5 @@
-//! Runs: a player that plays messages at a table, and processors that run components there, each in
-//! a thread of its own; and the serial run.
+//! Runs: a player that plays messages at a table, and processors that run components there, on
+//! threads; and the serial run.
 //!
 //! `specs/Passes` says what a thread has between its steps, `specs/Sending` what the messages that
 //! it sends leave, `specs/Serving` what it does with a croutine in hand, `specs/Playing` what the

@@ -39,9 +39,9 @@ pub fn run_serial(mut world: World, list: &PlayList, placement: &Placement) -> W
 }
 
 /// Plays a list in a world that was made for it and in which nothing has happened, while processors
-/// run the components of their contexts, each in a thread of its own where one can be made. The
-/// world that it gives is that of a lawful run. Its only error is `Memory`, and then the world is
-/// given up. It may wait.
+/// run the components of their contexts. Each processor gets a thread, as long as the system gives
+/// one. The world that comes out is that of a lawful run. Its only error is `Memory`, and then the
+/// world is given up. It may wait.
 pub fn run_threads<G: Gate, R: Threads + Wait + Sync>(
     rt: &R,
     alloc: Global,

@@ -1,8 +1,8 @@
 //! Scheduler files, and where they place the components of a run.
 //!
 //! `specs/Format` has the fields of a scheduler file, `specs/SchedFile` what a file says and the
-//! first cause for which it is refused, `specs/FaultText` how that is told, and `specs/Placing` where
-//! components are placed.
+//! first cause for which it is refused, `specs/FaultText` how that is told, and `specs/Placing`
+//! where components are placed.
 #![tactic(auto)]
 
 mod error;

@@ -90,8 +90,8 @@ pub record SizeAnswer (old new : StoreView) (name : List ℕ) (result : Result �
     pub same : new.files ≡ old.files
     pub cause : HasCause old new name result
 
--- What `read_at` answers: how many bytes from a place on it copied into the front of a buffer, none
--- only where the buffer is empty or the file has no byte there.
+-- What `read_at` answers: how many bytes of a file, from a place on, the buffer begins with now;
+-- none only where the buffer is empty or the file has no byte there.
 pub record ReadAnswer (old new : StoreView) (name : List ℕ) (at : ℕ) (before after : List ℕ)
     (result : Result ℕ StoreError) : Type 0 where
   pub within : IfOk result (λ n. n ≤ length before)

@@ -27,8 +27,8 @@ abbrev pub after_writes : List Write → Files → Files
 after_writes [] m = m
 after_writes (w ∷ writes) m = after_writes writes (after_write w m)
 
--- A put of n bytes that failed: the range may hold anything, the file may end anywhere from its old
--- end to the range's, and all else stays.
+-- A put of n bytes that failed: nothing is known of these n bytes, nor which of those that were to
+-- come behind the file's end it has now; all other bytes stay.
 pub record IsTorn (at n : ℕ) (before after : List ℕ) : Type 0 where
   pub front : take at after ≡ take at before
   pub back : drop (at + n) after ≡ drop (at + n) before

@@ -196,8 +196,8 @@ fn put(
     }
 }
 
-// Copies bytes of a file, from a place on, into the front of a buffer, and answers how many: as
-// many as both have.
+// Fills a buffer from its start with the bytes of a file from a place on, and answers how many
+// these are: as many as both have.
 fn copy_from(file: &[u8], at: u64, buf: &mut [u8]) -> usize
     ensures count { result ≡ min (length buf.old) (length file.now - at) }
     ensures copied { buf.new ≡ take result (drop at file.now) ++ drop result buf.old }

@@ -17,9 +17,9 @@ pub trait Store {
     fn size(&mut self, name: &str) -> Result<u64, StoreError>
         ensures { SizeAnswer (shows self.old) (shows self.new) name.now result };
 
-    /// Copies bytes of a file, from the place `at` on, into the front of `buf`, and answers how
-    /// many. It answers 0 only where `buf` is empty or the file ends at `at` or before. After an
-    /// error `buf` may hold anything.
+    /// Fills `buf` from its start with the bytes that a file has from the place `at` on, as far as
+    /// it gets, and answers how many these are. It is 0 only where `buf` has no room or the file no
+    /// byte there. Nothing is known of `buf` after an error.
     fn read_at(&mut self, name: &str, at: u64, buf: &mut [u8]) -> Result<usize, StoreError>
         ensures { ReadAnswer (shows self.old) (shows self.new) name.now at buf.old buf.new result };
 
@@ -28,8 +28,9 @@ pub trait Store {
         ensures { CreateAnswer (shows self.old) (shows self.new) name.now result };
 
     /// Writes all of `bytes` over what a file has at the place `at`, which is at most its length. A
-    /// name that is not there is `Failed`. After `Failed` the range may hold anything, and the file
-    /// may end anywhere from its old end to the range's; want of memory changes nothing.
+    /// name that is not there is `Failed`. After `Failed` nothing is known of the bytes that were
+    /// to be written, nor how many of them stand behind the file's old end; want of memory changes
+    /// nothing.
     fn put_at(&mut self, name: &str, at: u64, bytes: &[u8]) -> Result<(), StoreError>
         requires { IfSome (shows self.old).files (λ m. IfSome (get m name.now) (λ before. at
             ≤ length before)) }

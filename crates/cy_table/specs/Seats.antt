@@ -32,7 +32,8 @@ pub record Seen : Type 0 where
   pub calls : List Call
 
 -- What a thread found, in order: a croutine held, or in a state after its update; the visitor of a
--- component at a fetch; the clock; and whether the run is closing. The player notes so what it sets.
+-- component at a fetch; the clock; and whether the run is closing. The player notes what it sets in
+-- the same way.
 pub data Entry : Type 0 where
   Busy : ℕ → Entry
   Found : ℕ → State → Entry

@@ -1,8 +1,8 @@
 //! The wire form of Protocol Buffers: numbers and fields as bytes, exact to the standard's
 //! spelling.
 //!
-//! `specs/Wire` has the spelling, in which a number takes the least number of bytes. `specs/Form` is
-//! the grammar of what is read: the fields of a message with their places, up to its end or the
+//! `specs/Wire` has the spelling, in which a number takes the least number of bytes. `specs/Form`
+//! is the grammar of what is read: the fields of a message with their places, up to its end or the
 //! first fault; `specs/Varint` and `specs/Field` compute them. `specs/Message` says once, for every
 //! message, how its values are found among its fields. `specs/Laws` says that what is written is
 //! read, and that the fields that are read are the grammar's.

@@ -1,8 +1,8 @@
 //! The calls of the program `cyber`, for other programs too: they play recorded messages through
 //! components.
 //!
-//! `specs/Ends` says what they answer, `specs/Told` how it is told. What is due for each command says
-//! `cy_commands`, which words ask for which command `cy_words`.
+//! `specs/Ends` says what they answer, `specs/Told` how it is told. What is due for each command
+//! says `cy_commands`, which words ask for which command `cy_words`.
 #![tactic(auto)]
 
 mod program;

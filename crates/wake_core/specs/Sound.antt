@@ -55,7 +55,7 @@ pub record Held (size : ℕ) (hands : ℕ → Option Hand) (states : ℕ → Sta
   -- SLEEP until u only after a Hold until u whose output is unsent.
   pub sleeps : (c u : ℕ) → states c ≡ Sleep u → held_until (last c) ≡ Some u
   pub asleep : (c u : ℕ) → states c ≡ Sleep u → taped c < made c
-  -- FINISHED exactly where the last outcome is Last and the phase isn't Running.
+  -- FINISHED is the state after a call that said Last, once its thread is out of Running.
   pub finished : (c : ℕ) → states c ≡ Finished → is_last (last c) ≡ true
   pub ended : (c : ℕ) → is_last (last c) ≡ true → NotRunning hands c → states c ≡ Finished
   -- In Running there is a call, and where it holds its output back, that is unsent.

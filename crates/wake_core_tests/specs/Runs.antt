@@ -44,8 +44,8 @@ unfoldable pub parked_once : Plain
 parked_once = after_back DataWait (after_fetching (after_take
     (after_message (message 1) (opening_world (summing ∷ []) (2 ∷ 0 ∷ 0 ∷ [])))))
 
--- Component 0 had these calls, each told by its position, its tail and its tuple, and its next fetch
--- begins at this number.
+-- Component 0 had these calls, each told by its position, its tail and its tuple, and its next
+-- fetch begins at this number.
 pub record HadCalls (told : List (ℕ × ℕ × Tuple)) (next : ℕ) (w : Plain) : Type 0 where
   pub calls : map (λ x. (x.position, x.tail, x.tuple)) (w.calls 0) ≡ told
   pub cursor : w.cursors 0 ≡ next

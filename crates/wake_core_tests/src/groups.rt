@@ -7,8 +7,8 @@ ghost use Rattle.wake_core.specs.WorldOf.{plain_of, to_step};
 ghost use Rattle.wake_core_tests.specs.Groups.{NoneToStep, Becomes, MayCome, MayTell, MayTake};
 ghost use Rattle.wake_core_tests.specs.Groups.{MayTakeWoken, MayAskAgain, MayGiveBack, MaySendOn};
 ghost use Rattle.wake_core_tests.specs.Groups.{MayTurn, after_message, after_news, after_take};
-ghost use Rattle.wake_core_tests.specs.Groups.{after_wake, after_fetching, after_back, after_output};
-ghost use Rattle.wake_core_tests.specs.Groups.{after_turn, found_then};
+ghost use Rattle.wake_core_tests.specs.Groups.{after_wake, after_fetching, after_back};
+ghost use Rattle.wake_core_tests.specs.Groups.{after_output, after_turn, found_then};
 
 use cy_comp::State;
 use cy_msg::{Token, Tuple};
