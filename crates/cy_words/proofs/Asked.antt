@@ -1,7 +1,6 @@
 -- The code finds the command that words ask for, and none where they ask for none.
 use Rattle.std.proofs.Common.{◌≡◌, ◌⊎◌, ℕ, List, [], ◌∷◌, Bool, true, false, Option, Some, None, is_some, if◌then◌else◌, refl, sym, ap, ◌∙◌, subst, inl, inr, true≢false}
 use Rattle.std.proofs.Common.{codes, option_map, option_and_then, bytes_eq}
-use Rattle.std.proofs.lemmas.Slice.Eq.{bytes_eq-Decides}
 use Rattle.cy_words.specs.declared.words.Command as code
 use Rattle.cy_words.specs.Asking.{IsSomeAsked}
 use Rattle.cy_words.specs.Command.{Command, Check, Info, Play, Make, AskForOne, Asks, AsksStill, IsAsked, IsOnlyAsked, IsStill}
@@ -10,7 +9,7 @@ use Rattle.cy_words.specs.PassWords.{pass_of}
 use Rattle.cy_words.specs.Scan.{check_of, command_of, play_of, still_command_of, still_one}
 use Rattle.cy_words.specs.Views.{command_asked}
 use Rattle.cy_words.specs.Words.{info_of}
-use Rattle.cy_words.proofs.OptionsRead.{check_found, check_asked, play_found, play_asked}
+use Rattle.cy_words.proofs.OptionsRead.{check_are, check_found, mapped, nothing, play_asked, play_found, same_name, some_same}
 
 pub found : (words : List (List ℕ)) (c : Command) → Asks words c → command_of words ≡ Some c
 found [] c h = absurd h
@@ -20,22 +19,9 @@ found (name ∷ words) (Play w) (inl h) = ap (λ (n : List ℕ). command_of (n �
 found (name ∷ words) (Play w) (inr h) = ap (λ (n : List ℕ). command_of (n ∷ words)) h.0 ∙ ap (option_map Play) h.1
 found (name ∷ words) (Make w) h = ap (λ (n : List ℕ). command_of (n ∷ words)) h.0 ∙ ap (option_map Make) h.1
 
-nothing : {A : Type 0} (a : A) → None ≡ Some a → ⊥
-nothing a e = cc
-
-some_same : {A : Type 0} (a b : A) → Some a ≡ Some b → a ≡ b
-some_same a b e = cc
-
-mapped : {A B : Type 0} (x : Option A) (f : A → B) (b : B) → option_map f x ≡ Some b → (a : A) × (x ≡ Some a) × (f a ≡ b)
-mapped None f b e = absurd (nothing b e)
-mapped (Some a) f b e = (a, refl, some_same (f a) b e)
-
 chosen : (b : Bool) (x y : Option Command) (c : Command) → (if b then x else y) ≡ Some c → ((b ≡ true) × (x ≡ Some c)) ⊎ (y ≡ Some c)
 chosen true x y c e = inl (refl, e)
 chosen false x y c e = inr e
-
-same_name : (a b : List ℕ) → bytes_eq a b ≡ true → a ≡ b
-same_name a b e = (bytes_eq-Decides a b).0 e
 
 pub asks : (words : List (List ℕ)) (c : Command) → command_of words ≡ Some c → Asks words c
 asks [] c e = absurd (nothing c e)
@@ -43,7 +29,7 @@ asks (name ∷ words) c e =
     elim (chosen (bytes_eq name (codes "pass")) _ _ c e) [
       | inl h ↦ (let m = mapped (pass_of words) Play c h.1 in subst (Asks (name ∷ words)) m.2 (inr (same_name name (codes "pass") h.0, m.1)))
       | inr e ↦ elim (chosen (bytes_eq name (codes "check")) _ _ c e) [
-        | inl h ↦ (let m = mapped (check_of words) Check c h.1 in subst (Asks (name ∷ words)) m.2 (same_name name (codes "check") h.0, check_asked words m.0 m.1))
+        | inl h ↦ (let m = mapped (check_of words) Check c h.1 in subst (Asks (name ∷ words)) m.2 (same_name name (codes "check") h.0, check_are words m.0 m.1))
         | inr e ↦ elim (chosen (bytes_eq name (codes "info")) _ _ c e) [
           | inl h ↦ (let m = mapped (info_of words) Info c h.1 in subst (Asks (name ∷ words)) m.2 (same_name name (codes "info") h.0, m.1))
           | inr e ↦ elim (chosen (bytes_eq name (codes "play")) _ _ c e) [
@@ -78,9 +64,9 @@ still_is (Play w) other e = by w.serial e
     by false e = absurd (nothing other e)
 still_is (Make w) other e = (some_same (Make w) other e, tt)
 
-bound : (x : Option Command) (f : Command → Option Command) (c : Command) → option_and_then f x ≡ Some c → (a : Command) × (x ≡ Some a) × (f a ≡ Some c)
-bound None f c e = absurd (nothing c e)
-bound (Some a) f c e = (a, refl, e)
+found_by : (x : Option Command) (f : Command → Option Command) (c : Command) → option_and_then f x ≡ Some c → (a : Command) × (x ≡ Some a) × (f a ≡ Some c)
+found_by None f c e = absurd (nothing c e)
+found_by (Some a) f c e = (a, refl, e)
 
 once : (asks : Command → Type 0) (x : Option Command) → ((c : Command) → asks c → x ≡ Some c) → ((c : Command) → x ≡ Some c → asks c) → IsOnlyAsked asks x
 once asks x one back = (by x refl, λ other h. sym (by_what asks x other one back h))
@@ -94,7 +80,7 @@ still_one_found words c h = ap (option_and_then still_one) (found words c h.0) �
 
 still_asks : (words : List (List ℕ)) (c : Command) → still_command_of words ≡ Some c → AsksStill words c
 still_asks words c e =
-    let b = bound (command_of words) still_one c e in
+    let b = found_by (command_of words) still_one c e in
     let s = still_is b.0 c b.2 in
     (subst (Asks words) s.0 (asks words b.0 b.1), subst IsStill s.0 s.1)
 

@@ -1,18 +1,20 @@
 -- A command that takes its words, and what it keeps of them.
-use Rattle.std.proofs.Common.{◌≡◌, ◌&&◌, ◌||◌, ℕ, List, [], ◌∷◌, ◌++◌, Bool, true, false, Option, Some, None, is_some, if◌then◌else◌, cond, refl, sym, ap, ◌∙◌, subst}
+use Rattle.std.proofs.Common.{◌≡◌, ◌&&◌, ◌||◌, ℕ, List, [], ◌∷◌, ◌++◌, Bool, true, false, not, Option, Some, None, is_some, if◌then◌else◌, cond, refl, sym, ap, ◌∙◌, subst}
 use Rattle.std.proofs.Common.{map, codes, option_map, bytes_eq, append-nil}
 use Rattle.std.specs.Prelude.{option_and_then, slice_get}
 use Rattle.std.specs.List.{find, fold, list_all}
-use Rattle.std.specs.Option.{option_map_or}
+use Rattle.std.specs.Option.{option_map_or, option_or}
+use Rattle.std.proofs.lemmas.List.Folds.{find-append}
 use Rattle.clap.specs.Lexer.{long_of}
-use Rattle.clap.specs.Walk.{Held, Names, Row, Rule, Text, Walk, after_step, answers_to, arg_by_index, finished, first_of, has_row, idle, more_values, nothing_held, one_of, reading_by, row_text, rows_after, stop_after, with_values, to_positional, value, walk, walk_from, walked, with_default}
+use Rattle.clap.specs.Walk.{Held, Names, Row, Text, Walk, after_step, answers_to, arg_by_index, finished, has_row, idle, more_values, nothing_held, reading_by, rows_after, stop_after, with_values, to_positional, value, walk, walk_from, walked, with_default}
 use Rattle.clap.specs.Simple.{App, Shape, entered, label_of, names_of}
 use Rattle.clap.specs.Takes.{built_takes, default_passes, entered_passes, flag_word_passes, bundle_passes, is_valid, level_passes, settle_passes, step_passes, turn_passes, walk_passes}
 use Rattle.clap.specs.declared.parser.matches.ValueSource.TheVariants.{DefaultValue}
-use Rattle.clap.proofs.WalkLemmas.{walk_stopped}
-use Rattle.cy_words.specs.Options.{Key, Options, value_at}
-use Rattle.cy_words.specs.Program.{named, serial_name}
-use Rattle.cy_words.proofs.ClapOptions.{Holds, added_found, built_option, built_serial, differs_serial, has_id, missing_row, no_row, or_else, or_same, row_with, serial_found_as, serial_row}
+use Rattle.clap.proofs.WalkLemmas.{both, walk_stopped}
+use Rattle.cy_words.specs.Kept.{kept_as}
+use Rattle.cy_words.specs.Options.{Known, Options, has_value, is_flag}
+use Rattle.cy_words.proofs.OptionsRead.{none_of, same_name}
+use Rattle.cy_words.proofs.ClapOptions.{Shows, built_as, built_option, has_id, missing_row, row_there}
 use Rattle.cy_words.proofs.ClapWalk.{GoesTo, IsPlain, Settles, one_goes, plain_met}
 
 -- ---- one level
@@ -87,72 +89,63 @@ taken_at a name words sub e level =
     ∙ (ap (λ (w : Walk). rest true w.held) (top_walk a name words sub e)
     ∙ (ap (λ (t : Bool). t && is_valid a.top (finished a.top.rules nothing_held) true) e.defaults ∙ e.valid (finished a.top.rules nothing_held)))))
 
--- ---- the rows of options
+-- ---- what is kept of options, and the defaults
 
 same_either : (b : Bool) (rows : List Row) → (if b then rows else rows) ≡ rows
 same_either true rows = refl
 same_either false rows = refl
 
-pub defaults_skipped : (keys : List Key) (behind : List Rule) (rows : List Row) → fold with_default rows (map built_option keys ++ behind) ≡ fold with_default rows behind
-defaults_skipped [] behind rows = refl
-defaults_skipped (key ∷ keys) behind rows =
-    ap (λ (r : List Row). fold with_default r (map built_option keys ++ behind)) (same_either (has_row (named key) rows) rows) ∙ defaults_skipped keys behind rows
+or_none : (x : Option Row) → option_or x None ≡ x
+or_none None = refl
+or_none (Some r) = refl
 
-some_row : (id : Text) (rows : List Row) (r : Row) → find (has_id id) rows ≡ Some r → has_row id rows ≡ true
-some_row id [] r e = absurd (let h : None ≡ Some r = e in cc)
-some_row id (x ∷ rows) r e = by (has_id id x) (some_row id rows r) e
-  where
-    by : (b : Bool) → (find (has_id id) rows ≡ Some r → has_row id rows ≡ true) → cond b (Some x) (find (has_id id) rows) ≡ Some r → (b || has_row id rows) ≡ true
-    by true rest e = refl
-    by false rest e = rest e
-
-abbrev default_row : Row
-default_row = record {
-  id = serial_name;
+-- a flag that isn't given
+abbrev default_row : Text → Row
+default_row name = record {
+  id = name;
   values = codes "false" ∷ [];
   count = None;
   source = Some DefaultValue;
-  reading = reading_by built_serial;
+  reading = reading_by (built_as name false);
 }
 
--- the rows hold the values, and whether the flag is given
-pub record Keeps (o : Options) (rows : List Row) : Type 0 where
-  pub values : (key : Key) → first_of (named key) rows ≡ value_at key o
-  pub serial : one_of serial_name rows ≡ Some (if o.serial then codes "true" else codes "false")
+abbrev shown_of : List Known → Text → Option Row → Option Text
+shown_of known name found = kept_as (not (is_flag (has_value known name))) (option_and_then (λ (r : Row). slice_get r.values 0) found)
 
-first_is : (key : Key) (x : Option Text) → option_and_then (λ (r : Row). slice_get r.values 0) (option_map (row_with key) x) ≡ x
-first_is key None = refl
-first_is key (Some v) = refl
-
-pub values_kept : (o : Options) (rows : List Row) → Holds o rows → (key : Key) → first_of (named key) rows ≡ value_at key o
-values_kept o rows h key = ap (option_and_then (λ (r : Row). slice_get r.values 0)) (h.values key) ∙ first_is key (value_at key o)
-
-pub serial_kept : (o : Options) (rows : List Row) → Holds o rows → Keeps o (with_default rows built_serial)
-serial_kept o rows h = by o.serial refl
+flag_default : (known : List Known) (flag : Text) (o : Options) (rows : List Row) → is_flag (has_value known flag) ≡ true → find (has_id flag) rows ≡ None → Shows known o rows
+    → Shows known o (rows ++ default_row flag ∷ [])
+flag_default known flag o rows is_one none shows name =
+    ap (shown_of known name) (find-append (has_id name) rows (default_row flag ∷ [])) ∙ (by (bytes_eq flag name) refl ∙ shows name)
   where
-    by : (b : Bool) → o.serial ≡ b → Keeps o (with_default rows built_serial)
+    by : (t : Bool) → bytes_eq flag name ≡ t → shown_of known name (option_or (find (has_id name) rows) (cond t (Some (default_row flag)) None)) ≡ shown_of known name (find (has_id name) rows)
     by true is =
-        let found : find (has_id serial_name) rows ≡ Some serial_row = h.serial ∙ ap serial_found_as is in
-        let same : with_default rows built_serial ≡ rows =
-        ap (λ (t : Bool). if t then rows else with_values serial_name (reading_by built_serial) DefaultValue (codes "false" ∷ []) rows) (some_row serial_name rows serial_row found) in
-        subst (Keeps o) (sym same) (record {
-          values = values_kept o rows h;
-          serial = ap (option_and_then row_text) found ∙ ap (λ (t : Bool). Some (if t then codes "true" else codes "false")) (sym is);
-        })
-    by false is =
-        let found : find (has_id serial_name) rows ≡ None = h.serial ∙ ap serial_found_as is in
-        let same : with_default rows built_serial ≡ rows ++ default_row ∷ [] =
-        ap (λ (t : Bool). if t then rows else with_values serial_name (reading_by built_serial) DefaultValue (codes "false" ∷ []) rows) (no_row serial_name rows found)
-        ∙ missing_row serial_name (more_values DefaultValue (codes "false" ∷ [])) (default_row ∷ []) rows found in
-        subst (Keeps o) (sym same) (record {
-          values = λ key. ap (option_and_then (λ (r : Row). slice_get r.values 0))
-              (added_found (has_id (named key)) rows default_row
-              ∙ (ap (λ (t : Bool). or_else (find (has_id (named key)) rows) (if t then Some default_row else None)) (differs_serial key)
-              ∙ (or_same (find (has_id (named key)) rows) ∙ h.values key)))
-              ∙ first_is key (value_at key o);
-          serial = ap (option_and_then row_text) (added_found (has_id serial_name) rows default_row ∙ ap (λ (x : Option Row). or_else x (Some default_row)) found)
-              ∙ ap (λ (t : Bool). Some (if t then codes "true" else codes "false")) (sym is);
-        })
+        let same = same_name flag name is in
+        let absent = subst (λ (n : Text). find (has_id n) rows ≡ None) same none in
+        ap (λ (x : Option Row). shown_of known name (option_or x (Some (default_row flag)))) absent
+        ∙ (ap (λ (t : Bool). kept_as (not t) (Some (codes "false"))) (subst (λ (n : Text). is_flag (has_value known n) ≡ true) same is_one) ∙ sym (ap (shown_of known name) absent))
+    by false other = ap (shown_of known name) (or_none (find (has_id name) rows))
+
+-- the command knows no flag as an option with a value
+abbrev pub knows_flag : List Known → Text → Bool → Bool
+knows_flag known name has_text = has_text || is_flag (has_value known name)
+
+one_default : (known : List Known) (name : Text) (b : Bool) (o : Options) (rows : List Row) → knows_flag known name b ≡ true → Shows known o rows → Shows known o (with_default rows (built_as name b))
+one_default known name true o rows first shows = subst (Shows known o) (sym (same_either (has_row name rows) rows)) shows
+one_default known name false o rows first shows = by (has_row name rows) refl
+  where
+    by : (t : Bool) → has_row name rows ≡ t → Shows known o (if t then rows else with_values name (reading_by (built_as name false)) DefaultValue (codes "false" ∷ []) rows)
+    by true given = shows
+    by false unused =
+        let none = none_of (find (has_id name) rows) (sym (row_there name rows) ∙ unused) in
+        subst (Shows known o) (sym (missing_row name (more_values DefaultValue (codes "false" ∷ [])) (default_row name ∷ []) rows none)) (flag_default known name o rows first none shows)
+
+abbrev pub knows_flags : List Known → List Known → Bool
+knows_flags known ks = list_all (λ k. knows_flag known k.name k.has_value) ks
+
+pub all_default : (known ks : List Known) (o : Options) (rows : List Row) → knows_flags known ks ≡ true → Shows known o rows → Shows known o (fold with_default rows (map built_option ks))
+all_default known [] o rows first shows = shows
+all_default known (k ∷ ks) o rows first shows =
+    all_default known ks o (with_default rows (built_option k)) (both _ _ first).1 (one_default known k.name k.has_value o rows (both _ _ first).0 shows)
 
 -- ---- words that are known by their places
 

@@ -1,59 +1,83 @@
 -- `clap` walks over options, and keeps the value of each.
-use Rattle.std.proofs.Common.{◌≡◌, ◌||◌, List, [], ◌∷◌, ◌++◌, Bool, true, false, Option, Some, None, if◌then◌else◌, cond, refl, sym, ap, ◌∙◌, subst}
-use Rattle.std.proofs.Common.{codes, option_map, bytes_eq, append-nil}
-use Rattle.std.specs.List.{find}
-use Rattle.clap.specs.Walk.{Row, Rule, Text, at_row, has_row, more_values, reading_by, used, with_values}
+use Rattle.std.proofs.Common.{◌≡◌, ◌||◌, List, [], ◌∷◌, ◌++◌, Bool, true, false, not, Option, Some, None, is_some, if◌then◌else◌, cond, refl, sym, ap, ◌∙◌}
+use Rattle.std.proofs.Common.{codes, flat_map, map, option_map, option_to_list, bytes_eq, append-nil}
+use Rattle.std.specs.List.{find, list_all}
+use Rattle.std.specs.Prelude.{slice_get}
+use Rattle.clap.specs.Walk.{Row, Rule, Text, arg_by_id, arg_by_long, at_row, first_of, has_row, more_values, reading_by, used, with_values}
 use Rattle.clap.specs.Simple.{filled}
 use Rattle.clap.specs.declared.parser.matches.ValueSource.TheVariants.{CommandLine}
-use Rattle.cy_words.specs.Options.{Key, Options, called, no_options, value_at, Dag, Sched, Input, Output, Trace, Only, Drop, Begin, End}
-use Rattle.cy_words.specs.Program.{flag_rule, named, option_rule, serial_name}
-use Rattle.cy_words.proofs.OptionsRead.{beside_serial, got, none_at, put, put_serial}
+use Rattle.clap.proofs.WalkLemmas.{both}
+use Rattle.cy_words.specs.Kept.{kept_as, options_in}
+use Rattle.cy_words.specs.Options.{Alone, Apart, AreOptions, Given, Joined, Known, Options, has_value, is_flag, is_known, name_in, value_in, values_under}
+use Rattle.cy_words.specs.Program.{option_rule}
+use Rattle.cy_words.proofs.OptionsRead.{flag_known, nothing, same_name, some_same, valued_known}
 
--- ---- what building makes of an option and of `--serial`
+-- ---- what building makes of an option
 
-abbrev pub built_option : Key → Rule
-built_option key = filled (option_rule (named key))
+abbrev pub built_option : Known → Rule
+built_option k = filled (option_rule k)
 
-abbrev pub built_serial : Rule
-built_serial = filled (flag_rule serial_name)
+abbrev pub built_as : Text → Bool → Rule
+built_as name has_text = built_option (record { name = name; has_value = has_text })
 
--- what is kept of a value, and of `--serial`
-abbrev pub row_with : Key → Text → Row
-row_with key value = record {
-  id = named key;
-  values = value ∷ [];
-  count = None;
-  source = Some CommandLine;
-  reading = reading_by (built_option key);
+-- a command that is told of options finds each by its name
+long_found : (known : List Known) (name : Text) (b : Bool) → has_value known name ≡ Some b → arg_by_long (map built_option known) name ≡ Some (built_as name b)
+long_found [] name b e = absurd (nothing b e)
+long_found (k ∷ known) name b e = by (bytes_eq k.name name) refl (long_found known name b) e
+  where
+    by : (t : Bool) → bytes_eq k.name name ≡ t → (has_value known name ≡ Some b → arg_by_long (map built_option known) name ≡ Some (built_as name b))
+        → option_map (λ (k : Known). k.has_value) (cond t (Some k) (find (λ (k : Known). bytes_eq k.name name) known)) ≡ Some b
+        → cond (t || false) (Some (built_option k)) (arg_by_long (map built_option known) name) ≡ Some (built_as name b)
+    by true same rest e = λ i. Some (built_as (same_name k.name name same i) (some_same k.has_value b e i))
+    by false other rest e = rest e
+
+id_found : (known : List Known) (name : Text) (b : Bool) → has_value known name ≡ Some b → arg_by_id (map built_option known) name ≡ Some (built_as name b)
+id_found [] name b e = absurd (nothing b e)
+id_found (k ∷ known) name b e = by (bytes_eq k.name name) refl (id_found known name b) e
+  where
+    by : (t : Bool) → bytes_eq k.name name ≡ t → (has_value known name ≡ Some b → arg_by_id (map built_option known) name ≡ Some (built_as name b))
+        → option_map (λ (k : Known). k.has_value) (cond t (Some k) (find (λ (k : Known). bytes_eq k.name name) known)) ≡ Some b
+        → cond t (Some (built_option k)) (arg_by_id (map built_option known) name) ≡ Some (built_as name b)
+    by true same rest e = λ i. Some (built_as (same_name k.name name same i) (some_same k.has_value b e i))
+    by false other rest e = rest e
+
+pub record Has (c : List Rule) (name : Text) (b : Bool) : Type 0 where
+  pub by_long : arg_by_long c name ≡ Some (built_as name b)
+  pub by_id : arg_by_id c name ≡ Some (built_as name b)
+
+pub has_rule : (c : List Rule) (known : List Known) (name : Text) (b : Bool) → c ≡ map built_option known → has_value known name ≡ Some b → Has c name b
+has_rule c known name b rules e = record {
+  by_long = ap (λ (l : List Rule). arg_by_long l name) rules ∙ long_found known name b e;
+  by_id = ap (λ (l : List Rule). arg_by_id l name) rules ∙ id_found known name b e;
 }
-
-abbrev pub serial_row : Row
-serial_row = record {
-  id = serial_name;
-  values = codes "true" ∷ [];
-  count = None;
-  source = Some CommandLine;
-  reading = reading_by built_serial;
-}
-
-abbrev pub has_id : Text → Row → Bool
-has_id id r = bytes_eq r.id id
 
 -- ---- the rows
 
--- the first, or else the second
-abbrev pub or_else : Option Row → Option Row → Option Row
-or_else None x = x
-or_else (Some r) x = Some r
+-- what is kept of an option
+abbrev pub row_as : Text → Bool → Text → Row
+row_as name has_text text = record {
+  id = name;
+  values = text ∷ [];
+  count = None;
+  source = Some CommandLine;
+  reading = reading_by (built_as name has_text);
+}
 
-pub added_found : (p : Row → Bool) (rows : List Row) (x : Row) → find p (rows ++ x ∷ []) ≡ or_else (find p rows) (if p x then Some x else None)
-added_found p [] x = refl
-added_found p (r ∷ rows) x = by (p r) (added_found p rows x)
-  where
-    by : (b : Bool) → find p (rows ++ x ∷ []) ≡ or_else (find p rows) (if p x then Some x else None)
-        → cond b (Some r) (find p (rows ++ x ∷ [])) ≡ or_else (cond b (Some r) (find p rows)) (if p x then Some x else None)
-    by true e = refl
-    by false e = e
+abbrev has_text : Given → Bool
+has_text (Alone name) = false
+has_text (Apart name value) = true
+has_text (Joined name value) = true
+
+abbrev text_in : Given → Text
+text_in (Alone name) = codes "true"
+text_in (Apart name value) = value
+text_in (Joined name value) = value
+
+abbrev pub kept_row : Given → Row
+kept_row g = row_as (name_in g) (has_text g) (text_in g)
+
+abbrev pub has_id : Text → Row → Bool
+has_id id r = bytes_eq r.id id
 
 pub missing_row : (id : Text) (change : Row → List Row) (missing rows : List Row) → find (has_id id) rows ≡ None → at_row id change missing rows ≡ rows ++ missing
 missing_row id change missing [] e = refl
@@ -61,121 +85,70 @@ missing_row id change missing (r ∷ rows) e = by (has_id id r) (missing_row id 
   where
     by : (b : Bool) → (find (has_id id) rows ≡ None → at_row id change missing rows ≡ rows ++ missing)
         → cond b (Some r) (find (has_id id) rows) ≡ None → (if b then change r ++ rows else r ∷ at_row id change missing rows) ≡ r ∷ rows ++ missing
-    by true rest e = absurd (let h : Some r ≡ None = e in cc)
+    by true rest e = absurd (nothing r (sym e))
     by false rest e = ap (λ (l : List Row). r ∷ l) (rest e)
 
-pub no_row : (id : Text) (rows : List Row) → find (has_id id) rows ≡ None → has_row id rows ≡ false
-no_row id [] e = refl
-no_row id (r ∷ rows) e = by (has_id id r) (no_row id rows) e
+pub row_there : (id : Text) (rows : List Row) → has_row id rows ≡ is_some (find (has_id id) rows)
+row_there id [] = refl
+row_there id (r ∷ rows) = by (has_id id r) (row_there id rows)
   where
-    by : (b : Bool) → (find (has_id id) rows ≡ None → has_row id rows ≡ false) → cond b (Some r) (find (has_id id) rows) ≡ None → (b || has_row id rows) ≡ false
-    by true rest e = absurd (let h : Some r ≡ None = e in cc)
-    by false rest e = rest e
+    by : (b : Bool) → has_row id rows ≡ is_some (find (has_id id) rows) → (b || has_row id rows) ≡ is_some (cond b (Some r) (find (has_id id) rows))
+    by true rest = refl
+    by false rest = rest
+
+pub no_row : (id : Text) (rows : List Row) → find (has_id id) rows ≡ None → has_row id rows ≡ false
+no_row id rows none = row_there id rows ∙ ap is_some none
 
 -- a use of an option that has no row yet
-pub option_used : (key : Key) (v : Text) (rows : List Row) → find (has_id (named key)) rows ≡ None → used (built_option key) (v ∷ []) rows ≡ rows ++ row_with key v ∷ []
-option_used key v rows none =
-    let gone = missing_row (named key) (λ _. []) [] rows none ∙ append-nil rows in
-    ap (λ (l : List Row). with_values (named key) (reading_by (built_option key)) CommandLine (v ∷ []) l) gone ∙ missing_row (named key) (more_values CommandLine (v ∷ [])) (row_with key v ∷ []) rows none
+pub option_used : (name v : Text) (rows : List Row) → find (has_id name) rows ≡ None → used (built_as name true) (v ∷ []) rows ≡ rows ++ row_as name true v ∷ []
+option_used name v rows none =
+    let gone = missing_row name (λ _. []) [] rows none ∙ append-nil rows in
+    ap (λ (l : List Row). with_values name (reading_by (built_as name true)) CommandLine (v ∷ []) l) gone ∙ missing_row name (more_values CommandLine (v ∷ [])) (row_as name true v ∷ []) rows none
 
-pub serial_used : (rows : List Row) → find (has_id serial_name) rows ≡ None → used built_serial [] rows ≡ rows ++ serial_row ∷ []
-serial_used rows none =
-    let gone = missing_row serial_name (λ _. []) [] rows none ∙ append-nil rows in
-    ap (λ (l : List Row). with_values serial_name (reading_by built_serial) CommandLine (codes "true" ∷ []) l) gone ∙ missing_row serial_name (more_values CommandLine (codes "true" ∷ [])) (serial_row ∷ []) rows none
+pub flag_used : (name : Text) (rows : List Row) → find (has_id name) rows ≡ None → used (built_as name false) [] rows ≡ rows ++ row_as name false (codes "true") ∷ []
+flag_used name rows none =
+    let gone = missing_row name (λ _. []) [] rows none ∙ append-nil rows in
+    ap (λ (l : List Row). with_values name (reading_by (built_as name false)) CommandLine (codes "true" ∷ []) l) gone
+    ∙ missing_row name (more_values CommandLine (codes "true" ∷ [])) (row_as name false (codes "true") ∷ []) rows none
 
--- the rows hold these options and no other
-abbrev pub serial_found_as : Bool → Option Row
-serial_found_as b = if b then Some serial_row else None
-
-pub record Holds (o : Options) (rows : List Row) : Type 0 where
-  pub values : (key : Key) → find (has_id (named key)) rows ≡ option_map (row_with key) (value_at key o)
-  pub serial : find (has_id serial_name) rows ≡ serial_found_as o.serial
-
-hyphens : (key : Key) → called key ≡ 45 ∷ 45 ∷ named key
-hyphens Dag = refl
-hyphens Sched = refl
-hyphens Input = refl
-hyphens Output = refl
-hyphens Trace = refl
-hyphens Only = refl
-hyphens Drop = refl
-hyphens Begin = refl
-hyphens End = refl
-
-same_id : (key other : Key) → bytes_eq (named key) (named other) ≡ bytes_eq (called key) (called other)
-same_id key other = sym (ap (λ (x : Text). bytes_eq x (called other)) (hyphens key) ∙ ap (bytes_eq (45 ∷ 45 ∷ named key)) (hyphens other))
-
-serial_differs : (key : Key) → bytes_eq (named key) serial_name ≡ false
-serial_differs Dag = refl
-serial_differs Sched = refl
-serial_differs Input = refl
-serial_differs Output = refl
-serial_differs Trace = refl
-serial_differs Only = refl
-serial_differs Drop = refl
-serial_differs Begin = refl
-serial_differs End = refl
-
-pub differs_serial : (key : Key) → bytes_eq serial_name (named key) ≡ false
-differs_serial Dag = refl
-differs_serial Sched = refl
-differs_serial Input = refl
-differs_serial Output = refl
-differs_serial Trace = refl
-differs_serial Only = refl
-differs_serial Drop = refl
-differs_serial Begin = refl
-differs_serial End = refl
-
-pub or_same : (x : Option Row) → or_else x None ≡ x
-or_same None = refl
-or_same (Some r) = refl
-
-one_key : (key other : Key) → bytes_eq (called key) (called other) ≡ true → key ≡ other
-one_key Dag Dag e = refl
-one_key Sched Sched e = refl
-one_key Input Input e = refl
-one_key Output Output e = refl
-one_key Trace Trace e = refl
-one_key Only Only e = refl
-one_key Drop Drop e = refl
-one_key Begin Begin e = refl
-one_key End End e = refl
-one_key key other e = absurd (let no : false ≡ true = e in cc)
-
--- the option that was put has its value, and each other one has what it had
-put_found_at : (key other : Key) (v : Text) (before : Option Text) (rows : List Row) → find (has_id (named key)) rows ≡ None
-    → find (has_id (named other)) rows ≡ option_map (row_with other) before
-    → find (has_id (named other)) (rows ++ row_with key v ∷ []) ≡ option_map (row_with other) (if bytes_eq (called key) (called other) then Some v else before)
-put_found_at key other v before rows none old =
-    added_found (has_id (named other)) rows (row_with key v)
-    ∙ (ap (λ (b : Bool). or_else (find (has_id (named other)) rows) (if b then Some (row_with key v) else None)) (same_id key other) ∙ by (bytes_eq (called key) (called other)) refl)
+-- what isn't given has no row
+pub unkept : (gs : List Given) (name : Text) → flat_map (values_under name) gs ≡ [] → find (has_id name) (map kept_row gs) ≡ None
+unkept [] name e = refl
+unkept (g ∷ gs) name e = by (bytes_eq (name_in g) name) (unkept gs name) e
   where
-    by : (b : Bool) → bytes_eq (called key) (called other) ≡ b
-        → or_else (find (has_id (named other)) rows) (if b then Some (row_with key v) else None) ≡ option_map (row_with other) (if b then Some v else before)
-    by true same =
-        let is : key ≡ other = one_key key other same in
-        let gone : find (has_id (named other)) rows ≡ None = subst (λ (k : Key). find (has_id (named k)) rows ≡ None) is none in
-        ap (λ (x : Option Row). or_else x (Some (row_with key v))) gone ∙ ap (λ (k : Key). Some (row_with k v)) is
-    by false same = or_same (find (has_id (named other)) rows) ∙ old
+    by : (t : Bool) → (flat_map (values_under name) gs ≡ [] → find (has_id name) (map kept_row gs) ≡ None) → (if t then value_in g ∷ [] else []) ++ flat_map (values_under name) gs ≡ []
+        → cond t (Some (kept_row g)) (find (has_id name) (map kept_row gs)) ≡ None
+    by true rest e = absurd (let h : value_in g ∷ flat_map (values_under name) gs ≡ [] = e in cc)
+    by false rest e = rest e
 
-pub put_holds : (key : Key) (v : Text) (o : Options) (rows : List Row) → value_at key o ≡ None → Holds o rows → Holds (put key (Some v) o) (rows ++ row_with key v ∷ [])
-put_holds key v o rows none h = record {
-  values = λ other. put_found_at key other v (value_at other o) rows (h.values key ∙ ap (option_map (row_with key)) none) (h.values other)
-      ∙ ap (option_map (row_with other)) (sym (got other key (Some v) o));
-  serial = added_found (has_id serial_name) rows (row_with key v)
-      ∙ (ap (λ (b : Bool). or_else (find (has_id serial_name) rows) (if b then Some (row_with key v) else None)) (serial_differs key)
-      ∙ (or_same (find (has_id serial_name) rows) ∙ (h.serial ∙ ap serial_found_as (sym (put_serial key (Some v) o)))));
-}
+-- ---- what the rows say of options
 
-pub serial_holds : (o : Options) (rows : List Row) → o.serial ≡ false → Holds o rows → Holds (record o { serial = true }) (rows ++ serial_row ∷ [])
-serial_holds o rows none h = record {
-  values = λ other. added_found (has_id (named other)) rows serial_row
-      ∙ (ap (λ (b : Bool). or_else (find (has_id (named other)) rows) (if b then Some serial_row else None)) (differs_serial other)
-      ∙ (or_same (find (has_id (named other)) rows) ∙ (h.values other ∙ ap (option_map (row_with other)) (sym (beside_serial other true o)))));
-  serial = added_found (has_id serial_name) rows serial_row
-      ∙ ap (λ (x : Option Row). or_else x (Some serial_row)) (h.serial ∙ ap serial_found_as none);
-}
+one_shown : (known : List Known) (g : Given) → is_known known g ≡ true → kept_as (not (is_flag (has_value known (name_in g)))) (Some (text_in g)) ≡ Some (value_in g)
+one_shown known (Alone name) e = ap (λ (x : Option Bool). kept_as (not (is_flag x)) (Some (codes "true"))) (flag_known (has_value known name) e)
+one_shown known (Apart name v) e = ap (λ (x : Option Bool). kept_as (not (is_flag x)) (Some v)) (valued_known (has_value known name) (both _ _ e).0)
+one_shown known (Joined name v) e = ap (λ (x : Option Bool). kept_as (not (is_flag x)) (Some v)) (valued_known (has_value known name) (both _ _ e).0)
 
-pub none_hold : Holds no_options []
-none_hold = record { values = λ other. ap (option_map (row_with other)) (sym (none_at other)); serial = refl }
+first_shown : (known : List Known) (gs : List Given) (name : Text) → list_all (is_known known) gs ≡ true
+    → kept_as (not (is_flag (has_value known name))) (first_of name (map kept_row gs)) ≡ slice_get (flat_map (values_under name) gs) 0
+first_shown known [] name all = refl
+first_shown known (g ∷ gs) name all = by (bytes_eq (name_in g) name) refl (first_shown known gs name (both _ _ all).1)
+  where
+    by : (t : Bool) → bytes_eq (name_in g) name ≡ t → kept_as (not (is_flag (has_value known name))) (first_of name (map kept_row gs)) ≡ slice_get (flat_map (values_under name) gs) 0
+        → kept_as (not (is_flag (has_value known name))) (Rattle.std.specs.Prelude.option_and_then (λ (r : Row). slice_get r.values 0) (cond t (Some (kept_row g)) (find (has_id name) (map kept_row gs))))
+        ≡ slice_get ((if t then value_in g ∷ [] else []) ++ flat_map (values_under name) gs) 0
+    by true same rest = ap (λ (n : Text). kept_as (not (is_flag (has_value known n))) (Some (text_in g))) (sym (same_name (name_in g) name same)) ∙ one_shown known g (both _ _ all).0
+    by false other rest = rest
+
+first_value : (x : Option Text) → slice_get (option_to_list x) 0 ≡ x
+first_value None = refl
+first_value (Some v) = refl
+
+abbrev pub Shows : List Known → Options → List Row → Type 0
+Shows known o rows = (name : Text) → kept_as (not (is_flag (has_value known name))) (first_of name rows) ≡ o name
+
+pub rows_show : (known : List Known) (words : List Text) (o : Options) (p : AreOptions known words o) → Shows known o (map kept_row p.given)
+rows_show known words o p name = first_shown known p.given name p.are_known ∙ (ap (λ (l : List Text). slice_get l 0) (p.values name) ∙ first_value (o name))
+
+pub shown_options : (known : List Known) (o : Options) (rows : List Row) → Shows known o rows → options_in known rows ≡ o
+unfolding options_in
+shown_options known o rows shows = λ i name. shows name i

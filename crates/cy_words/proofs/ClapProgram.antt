@@ -1,19 +1,19 @@
 -- `clap` takes the words of each command that have its form, and keeps their values.
-use Rattle.std.proofs.Common.{◌≡◌, ◌&&◌, List, [], ◌∷◌, Bool, true, false, Option, Some, None, is_some, refl, sym, ap, ◌∙◌, subst, true≢false}
-use Rattle.std.proofs.Common.{codes}
-use Rattle.std.specs.Prelude.{option_and_then}
-use Rattle.clap.specs.Walk.{Row, Text, finished, first_of, nothing_held, one_of, row_text, rows_after, settled, walk_from, with_default}
+use Rattle.std.proofs.Common.{◌≡◌, ◌&&◌, List, [], ◌∷◌, Bool, true, false, Some, refl, sym, ap, ◌∙◌, subst}
+use Rattle.std.proofs.Common.{codes, fold, map}
+use Rattle.clap.specs.Walk.{Row, Text, finished, first_of, nothing_held, rows_after, walk_from, with_default}
 use Rattle.clap.specs.Simple.{App, Shape, built, built_leaf, inherited, is_simple, marked_built, on_top, subcommand_of, with_leaf_noted}
 use Rattle.clap.specs.Takes.{level_passes, takes}
 use Rattle.clap.proofs.OnLiterals.{clap_on_literals}
-use Rattle.cy_words.specs.Options.{Key, Options, no_options, value_at, Dag, Sched, Input, Output, Trace, Only, Drop, Begin, End}
-use Rattle.cy_words.specs.Program.{check_app, info_app, make_app, pass_app, play_app, program, serial_name}
-use Rattle.cy_words.specs.Scan.{options_met}
+use Rattle.cy_words.specs.CheckWords.{check_options}
+use Rattle.cy_words.specs.Kept.{options_in}
+use Rattle.cy_words.specs.Options.{AreOptions, Known, Options}
+use Rattle.cy_words.specs.PlayWords.{play_options}
+use Rattle.cy_words.specs.Program.{check_app, info_app, make_app, pass_app, play_app, program}
 use Rattle.cy_words.specs.Words.{is_word}
-use Rattle.cy_words.proofs.OptionsRead.{options_spelled}
-use Rattle.cy_words.proofs.ClapOptions.{built_serial, none_hold}
-use Rattle.cy_words.proofs.ClapWalk.{GoesTo, Has, HasAll, Ready, given_steps, then_goes, word_is_plain}
-use Rattle.cy_words.proofs.ClapLevel.{Enters, IsOpen, Keeps, defaults_skipped, entered_at, level_rows, level_taken, place_goes, placed, serial_kept, taken_at, values_kept}
+use Rattle.cy_words.proofs.ClapOptions.{built_option, kept_row, rows_show, shown_options}
+use Rattle.cy_words.proofs.ClapWalk.{GoesTo, Knows, given_steps, then_goes, word_is_plain}
+use Rattle.cy_words.proofs.ClapLevel.{Enters, IsOpen, all_default, knows_flags, entered_at, level_rows, level_taken, place_goes, placed, taken_at}
 
 -- ---- the program as it is built
 
@@ -62,79 +62,42 @@ reads name sub words rows enters called passes kept = record {
 
 -- ---- options
 
-ready_first : (s : Shape) → Ready s no_options nothing_held
-ready_first s = record { holds = none_hold; settles = refl }
+-- a command that is told of options, and that asks for none
+pub record Takes (s : Shape) (known : List Known) : Type 0 where
+  pub knows : Knows s known
+  pub flags : knows_flags known known ≡ true
+  pub is_open : IsOpen s
 
-play_has : (o : Options) → HasAll (leaf_of play_app).rules o
-play_has o = record { options = λ key e. has key; serial = λ e. refl }
-  where
-    has : (key : Key) → Has (leaf_of play_app).rules key
-    has Dag = record { by_long = refl; by_id = refl }
-    has Sched = record { by_long = refl; by_id = refl }
-    has Input = record { by_long = refl; by_id = refl }
-    has Output = record { by_long = refl; by_id = refl }
-    has Trace = record { by_long = refl; by_id = refl }
-    has Only = record { by_long = refl; by_id = refl }
-    has Drop = record { by_long = refl; by_id = refl }
-    has Begin = record { by_long = refl; by_id = refl }
-    has End = record { by_long = refl; by_id = refl }
-
-play_open : IsOpen (leaf_of play_app)
-play_open = record { defaults = refl; valid = λ rows. refl }
-
-pub play_read : (words : List Text) (o : Options) → options_met words ≡ Some o → (rows : List Row) × Reads (codes "play") words rows × Keeps o rows
-play_read words o e =
-    let s = leaf_of play_app in
-    let spelt = options_spelled words o e in
-    let steps = given_steps s spelt.0 no_options o nothing_held (play_has o) spelt.2 (ready_first s) in
-    let goes = subst (λ (w : List Text). GoesTo s (walk_from nothing_held) w (walk_from steps.0)) (sym spelt.1) steps.1 in
-    let kept = (settled s.rules steps.0).rows in
-    let rows = level_rows s words (walk_from steps.0) goes ∙ defaults_skipped (Dag ∷ Sched ∷ Input ∷ Output ∷ Trace ∷ Only ∷ Drop ∷ Begin ∷ End ∷ []) (built_serial ∷ []) kept in (
-      with_default kept built_serial,
-      reads (codes "play") s words (with_default kept built_serial) enters_play refl (level_taken s nothing_held words (walk_from steps.0) play_open goes steps.2.settles) rows,
-      serial_kept o kept steps.2.holds,
-    )
-
-check_has : (dag sched : Option Text) → HasAll (leaf_of check_app).rules (record no_options { dag = dag; sched = sched })
-check_has dag sched = record { options = has; serial = λ e. absurd (true≢false (sym e)) }
-  where
-    has : (key : Key) → is_some (value_at key (record no_options { dag = dag; sched = sched })) ≡ true → Has (leaf_of check_app).rules key
-    has Dag e = record { by_long = refl; by_id = refl }
-    has Sched e = record { by_long = refl; by_id = refl }
-    has Input e = absurd (true≢false (sym e))
-    has Output e = absurd (true≢false (sym e))
-    has Trace e = absurd (true≢false (sym e))
-    has Only e = absurd (true≢false (sym e))
-    has Drop e = absurd (true≢false (sym e))
-    has Begin e = absurd (true≢false (sym e))
-    has End e = absurd (true≢false (sym e))
-
-check_open : IsOpen (leaf_of check_app)
-check_open = record { defaults = refl; valid = λ rows. refl }
-
-pub check_read : (words : List Text) (dag sched : Option Text) → options_met words ≡ Some (record no_options { dag = dag; sched = sched })
-    → (rows : List Row) × Reads (codes "check") words rows × (first_of (codes "dag") rows ≡ dag) × (first_of (codes "sched") rows ≡ sched) × (one_of serial_name rows ≡ None)
-check_read words dag sched e =
-    let o : Options = record no_options { dag = dag; sched = sched } in
-    let s = leaf_of check_app in
-    let spelt = options_spelled words o e in
-    let steps = given_steps s spelt.0 no_options o nothing_held (check_has dag sched) spelt.2 (ready_first s) in
-    let goes = subst (λ (w : List Text). GoesTo s (walk_from nothing_held) w (walk_from steps.0)) (sym spelt.1) steps.1 in
-    let kept = (settled s.rules steps.0).rows in
-    let rows = level_rows s words (walk_from steps.0) goes ∙ defaults_skipped (Dag ∷ Sched ∷ []) [] kept in (
+options_read : (name : Text) (s : Shape) (known : List Known) → Enters (built program) name s → s.name ≡ name → Takes s known → (words : List Text) (o : Options) → AreOptions known words o
+    → (rows : List Row) × Reads name words rows × (options_in known rows ≡ o)
+options_read name s known enters called takes words o p =
+    let steps = given_steps s known [] p.given o nothing_held takes.knows p.are_known p.values (record { rows = refl; settles = refl }) in
+    let goes = subst (λ (w : List Text). GoesTo s (walk_from nothing_held) w (walk_from steps.0)) (sym p.are_spelled) steps.1 in
+    let kept = finished s.rules steps.0 in
+    let is : kept ≡ fold with_default (map kept_row p.given) (map built_option known) = λ i. fold with_default (steps.2.rows i) (takes.knows.rules i) in (
       kept,
-      reads (codes "check") s words kept enters_check refl (level_taken s nothing_held words (walk_from steps.0) check_open goes steps.2.settles) rows,
-      values_kept o kept steps.2.holds Dag,
-      values_kept o kept steps.2.holds Sched,
-      ap (option_and_then row_text) steps.2.holds.serial,
+      reads name s words kept enters called (level_taken s nothing_held words (walk_from steps.0) takes.is_open goes steps.2.settles) (level_rows s words (walk_from steps.0) goes),
+      ap (options_in known) is ∙ shown_options known o _ (all_default known known o (map kept_row p.given) takes.flags (rows_show known words o p)),
     )
+
+play_takes : Takes (leaf_of play_app) play_options
+play_takes = record { knows = record { rules = refl; names = refl }; flags = refl; is_open = record { defaults = refl; valid = λ rows. refl } }
+
+check_takes : Takes (leaf_of check_app) check_options
+check_takes = record { knows = record { rules = refl; names = refl }; flags = refl; is_open = record { defaults = refl; valid = λ rows. refl } }
+
+pub play_read : (words : List Text) (o : Options) → AreOptions play_options words o → (rows : List Row) × Reads (codes "play") words rows × (options_in play_options rows ≡ o)
+play_read = options_read (codes "play") (leaf_of play_app) play_options enters_play refl play_takes
+
+pub check_read : (words : List Text) (o : Options) → AreOptions check_options words o → (rows : List Row) × Reads (codes "check") words rows × (options_in check_options rows ≡ o)
+check_read = options_read (codes "check") (leaf_of check_app) check_options enters_check refl check_takes
 
 -- ---- words that are known by their places
 
 info_open : IsOpen (leaf_of info_app)
 info_open = record { defaults = refl; valid = λ rows. refl }
 
-pub info_read : (file : Text) → is_word file ≡ true → (rows : List Row) × Reads (codes "info") (file ∷ []) rows × (first_of (codes "file") rows ≡ Some file) × (one_of serial_name rows ≡ None)
+pub info_read : (file : Text) → is_word file ≡ true → (rows : List Row) × Reads (codes "info") (file ∷ []) rows × (first_of (codes "file") rows ≡ Some file)
 info_read file word =
     let s = leaf_of info_app in
     let to = placed s 1 nothing_held file in
@@ -142,14 +105,13 @@ info_read file word =
       finished s.rules to.held,
       reads (codes "info") s (file ∷ []) (finished s.rules to.held) enters_info refl (level_taken s nothing_held (file ∷ []) to info_open goes refl) (level_rows s (file ∷ []) to goes),
       refl,
-      refl,
     )
 
 make_open : IsOpen (leaf_of make_app)
 make_open = record { defaults = refl; valid = λ rows. refl }
 
 pub make_read : (count prefix : Text) → is_word count ≡ true → is_word prefix ≡ true
-    → (rows : List Row) × Reads (codes "make") (count ∷ prefix ∷ []) rows × (first_of (codes "count") rows ≡ Some count) × (first_of (codes "prefix") rows ≡ Some prefix) × (one_of serial_name rows ≡ None)
+    → (rows : List Row) × Reads (codes "make") (count ∷ prefix ∷ []) rows × (first_of (codes "count") rows ≡ Some count) × (first_of (codes "prefix") rows ≡ Some prefix)
 make_read count prefix p q =
     let s = leaf_of make_app in
     let first = placed s 1 nothing_held count in
@@ -159,7 +121,6 @@ make_read count prefix p q =
       finished s.rules to.held,
       reads (codes "make") s (count ∷ prefix ∷ []) (finished s.rules to.held) enters_make refl (level_taken s nothing_held (count ∷ prefix ∷ []) to make_open goes refl)
           (level_rows s (count ∷ prefix ∷ []) to goes),
-      refl,
       refl,
       refl,
     )
@@ -174,7 +135,6 @@ pub record KeepsPass (input output trace from to : Text) (rows : List Row) : Typ
   pub trace_kept : first_of (codes "trace") rows ≡ Some trace
   pub from_kept : first_of (codes "from") rows ≡ Some from
   pub to_kept : first_of (codes "to") rows ≡ Some to
-  pub no_flag : one_of serial_name rows ≡ None
 
 pub pass_read : (input output trace from to : Text) → is_word input ≡ true → is_word output ≡ true → is_word trace ≡ true → is_word from ≡ true → is_word to ≡ true
     → (rows : List Row) × Reads (codes "pass") (input ∷ output ∷ trace ∷ from ∷ to ∷ []) rows × KeepsPass input output trace from to rows
@@ -193,5 +153,5 @@ pass_read input output trace from to p q r t u =
     let words = input ∷ output ∷ trace ∷ from ∷ to ∷ [] in (
       finished s.rules w5.held,
       reads (codes "pass") s words (finished s.rules w5.held) enters_pass refl (level_taken s nothing_held words w5 pass_open go5 refl) (level_rows s words w5 go5),
-      record { input_kept = refl; output_kept = refl; trace_kept = refl; from_kept = refl; to_kept = refl; no_flag = refl },
+      record { input_kept = refl; output_kept = refl; trace_kept = refl; from_kept = refl; to_kept = refl },
     )

@@ -1,19 +1,67 @@
 -- `clap` walks over the options that words spell, and takes them.
-use Rattle.std.proofs.Common.{◌≡◌, ◌==◌, ◌&&◌, ◌||◌, ℕ, List, [], ◌∷◌, ◌++◌, Bool, true, false, not, Option, Some, None, is_some, if◌then◌else◌, refl, sym, ap, ◌∙◌, subst, true≢false}
-use Rattle.std.proofs.Common.{length, flat_map, codes, option_map, option_to_list, bytes_eq, append_assoc}
-use Rattle.std.specs.Prelude.{option_and_then}
-use Rattle.std.specs.List.{fold}
+use Rattle.std.proofs.Common.{◌≡◌, ◌+◌, ◌==◌, ◌&&◌, ◌||◌, ℕ, List, [], ◌∷◌, ◌++◌, Bool, true, false, not, Option, Some, None, is_some, if◌then◌else◌, refl, sym, ap, ◌∙◌, subst, true≢false, arith}
+use Rattle.std.proofs.Common.{length, drop, take, flat_map, map, codes, option_map, option_to_list, bytes_eq, append_assoc}
+use Rattle.std.specs.Prelude.{nat_lt, option_and_then}
+use Rattle.std.specs.List.{find, fold, list_all, list_any, position_or_len}
 use Rattle.std.specs.Option.{option_map_or}
-use Rattle.clap.specs.Lexer.{long_of, short_of, long_of_rest, short_of_rest, strip_byte}
-use Rattle.clap.specs.Walk.{Held, Row, Rule, Text, Walk, after_flag, after_step, arg_by_id, arg_by_long, has_row, idle, long_met, long_or_other, option, option_word, plain_word, reacted, settled, short_or_plain, subcommand_met, subcommand_or_other, next, trailing, used_by_id, walk_from, walked, word_met, Waiting}
+use Rattle.std.proofs.lemmas.Grind.{common_steps, flat_map-append}
+use Rattle.clap.specs.Lexer.{has_byte, long_of, short_of, long_of_rest, short_of_rest, strip_byte}
+use Rattle.clap.specs.Walk.{Held, Row, Rule, Text, Walk, after_flag, after_step, arg_by_id, arg_by_long, has_row, idle, long_met, long_or_other, option, option_word, plain_word, reacted, settled, short_or_plain, subcommand_met, subcommand_or_other, next, trailing, used, used_by_id, walk_from, walked, word_met, Waiting}
 use Rattle.clap.specs.Simple.{Shape}
 use Rattle.clap.specs.Takes.{bundle_passes, settle_passes, turn_passes, use_passes, walk_passes, long_passes, flag_word_passes, step_passes}
-use Rattle.cy_words.specs.Options.{Key, Given, Options, Serial, Apart, Joined, called, spelled, value_at, values_of, Dag, Sched, Input, Output, Trace, Only, Drop, Begin, End}
-use Rattle.cy_words.specs.Scan.{with_serial}
-use Rattle.cy_words.specs.Program.{named, serial_name}
+use Rattle.clap.proofs.WalkLemmas.{both}
+use Rattle.cy_words.specs.Options.{Alone, Apart, Given, Joined, Known, Options, has_value, hyphened, is_known, name_in, spelled, value_in, values_under}
 use Rattle.cy_words.specs.Words.{is_word}
-use Rattle.cy_words.proofs.OptionsRead.{Continues, after, bound, itself, one_value, put, put_once, put_found, run, serial_found, serials, some_same}
-use Rattle.cy_words.proofs.ClapOptions.{Holds, serial_found_as, built_option, built_serial, no_row, option_used, put_holds, row_with, serial_holds, serial_used}
+use Rattle.cy_words.proofs.OptionsRead.{AreNames, before_equals, behind_equals, equals_ends, first_equals, flag_known, is_name, itself, name_known, no_equals, valued_known}
+use Rattle.cy_words.proofs.ClapOptions.{Has, built_as, built_option, flag_used, has_id, has_rule, kept_row, no_row, option_used, row_as, unkept}
+
+-- ---- what a word is
+
+no_byte : (xs : Text) → no_equals xs ≡ true → has_byte 61 xs ≡ false
+no_byte [] e = refl
+no_byte (x ∷ xs) e = by (x == 61) (no_byte xs) e
+  where
+    by : (t : Bool) → (no_equals xs ≡ true → has_byte 61 xs ≡ false) → (not t && no_equals xs) ≡ true → (t || has_byte 61 xs) ≡ false
+    by true rest e = absurd (true≢false (sym e))
+    by false rest e = rest e
+
+some_byte : (xs v : Text) → has_byte 61 (xs ++ 61 ∷ v) ≡ true
+some_byte [] v = refl
+some_byte (x ∷ xs) v = by (x == 61) (some_byte xs v)
+  where
+    by : (t : Bool) → has_byte 61 (xs ++ 61 ∷ v) ≡ true → (t || has_byte 61 (xs ++ 61 ∷ v)) ≡ true
+    by true rest = refl
+    by false rest = rest
+
+whole : (xs : Text) → take (length xs) xs ≡ xs
+whole xs = grind (arith, common_steps)
+
+-- an option, with the value in its word where there is one
+pub record IsLong (word name : Text) (value : Option Text) : Type 0 where
+  pub not_dashes : bytes_eq word (45 ∷ 45 ∷ []) ≡ false
+  pub is_long : long_of word ≡ Some (name, value)
+
+alone_long : (name : Text) → is_name name ≡ true → IsLong (hyphened name) name None
+alone_long [] e = absurd (true≢false (sym e))
+alone_long (x ∷ xs) e = record {
+  not_dashes = refl;
+  is_long = λ i. Some (
+    (ap (λ (n : ℕ). take n (x ∷ xs)) (equals_ends (x ∷ xs) e) ∙ whole (x ∷ xs)) i,
+    if no_byte (x ∷ xs) e i then Some (drop (position_or_len (λ b. b == 61) (x ∷ xs) + 1) (x ∷ xs)) else None,
+  );
+}
+
+joined_long : (name v : Text) → is_name name ≡ true → IsLong (hyphened name ++ 61 ∷ v) name (Some v)
+joined_long [] v e = absurd (true≢false (sym e))
+joined_long (x ∷ xs) v e =
+    let at = first_equals (x ∷ xs) v e in
+    record {
+      not_dashes = refl;
+      is_long = (λ i. Some (
+        take (at i) (x ∷ xs ++ 61 ∷ v),
+        if some_byte (x ∷ xs) v i then Some (drop (at i + 1) (x ∷ xs ++ 61 ∷ v)) else None,
+      )) ∙ (λ i. Some (before_equals (x ∷ xs) v i, Some (behind_equals (x ∷ xs) v i)));
+    }
 
 -- ---- one word
 
@@ -22,48 +70,21 @@ abbrev met_by : List Rule → Text → Option Text → Held → Option Rule → 
 met_by c word v h a =
     after_step c word (walk_from h) (after_flag c idle word (long_met c a v h).0 (long_met c a v h).1).0 (after_flag c idle word (long_met c a v h).0 (long_met c a v h).1).1
 
-abbrev waits_for : Key → List Rule → Held → Walk
-waits_for key c h = record (walk_from (record (settled c h) { pending = Some (named key, []) })) { waiting = option (named key) }
+abbrev waits_for : Text → List Rule → Held → Walk
+waits_for name c h = record (walk_from (record (settled c h) { pending = Some (name, []) })) { waiting = option name }
 
-abbrev has_value : Key → Text → List Rule → Held → Held
-has_value key v c h = record (settled c h) { pending = Some (named key, v ∷ []) }
+abbrev has_value_of : Text → Text → List Rule → Held → Held
+has_value_of name v c h = record (settled c h) { pending = Some (name, v ∷ []) }
 
--- the command has the option, or `--serial`
-pub record Has (c : List Rule) (key : Key) : Type 0 where
-  pub by_long : arg_by_long c (named key) ≡ Some (built_option key)
-  pub by_id : arg_by_id c (named key) ≡ Some (built_option key)
-
-abbrev pub HasSerial : List Rule → Type 0
-HasSerial c = arg_by_long c serial_name ≡ Some built_serial
-
-serial_met : (c : List Rule) (h : Held) → HasSerial c → walked c [] (walk_from h) (codes "--serial") ≡ walk_from (reacted c built_serial [] h)
+long_walked : (c : List Rule) (h : Held) (word name : Text) (v : Option Text) → IsLong word name v → walked c [] (walk_from h) word ≡ met_by c word v h (arg_by_long c name)
 unfolding walked
-serial_met c h has = ap (met_by c (codes "--serial") None h) has
+long_walked c h word name v long =
+    ap (λ (t : Bool). after_step c word (walk_from h) (if t then (h, trailing 1) else long_or_other c idle word (long_of word) h).0
+    (if t then (h, trailing 1) else long_or_other c idle word (long_of word) h).1) long.not_dashes
+    ∙ ap (λ (x : Option (Text × Option Text)). after_step c word (walk_from h) (long_or_other c idle word x h).0 (long_or_other c idle word x h).1) long.is_long
 
-name_met : (key : Key) (c : List Rule) (h : Held) → arg_by_long c (named key) ≡ Some (built_option key) → walked c [] (walk_from h) (called key) ≡ waits_for key c h
-unfolding walked
-name_met Dag c h has = ap (met_by c (codes "--dag") None h) has
-name_met Sched c h has = ap (met_by c (codes "--sched") None h) has
-name_met Input c h has = ap (met_by c (codes "--record") None h) has
-name_met Output c h has = ap (met_by c (codes "--out") None h) has
-name_met Trace c h has = ap (met_by c (codes "--trace") None h) has
-name_met Only c h has = ap (met_by c (codes "--channels") None h) has
-name_met Drop c h has = ap (met_by c (codes "--drop") None h) has
-name_met Begin c h has = ap (met_by c (codes "--begin") None h) has
-name_met End c h has = ap (met_by c (codes "--end") None h) has
-
-joined_met : (key : Key) (v : Text) (c : List Rule) (h : Held) → arg_by_long c (named key) ≡ Some (built_option key)
-    → walked c [] (walk_from h) (called key ++ 61 ∷ v) ≡ walk_from (reacted c (built_option key) (v ∷ []) h)
-unfolding walked
-joined_met Dag v c h has = ap (met_by c (codes "--dag" ++ 61 ∷ v) (Some v) h) has
-joined_met Sched v c h has = ap (met_by c (codes "--sched" ++ 61 ∷ v) (Some v) h) has
-joined_met Input v c h has = ap (met_by c (codes "--record" ++ 61 ∷ v) (Some v) h) has
-joined_met Output v c h has = ap (met_by c (codes "--out" ++ 61 ∷ v) (Some v) h) has
-joined_met Trace v c h has = ap (met_by c (codes "--trace" ++ 61 ∷ v) (Some v) h) has
-joined_met Only v c h has = ap (met_by c (codes "--channels" ++ 61 ∷ v) (Some v) h) has
-joined_met Drop v c h has = ap (met_by c (codes "--drop" ++ 61 ∷ v) (Some v) h) has
-joined_met Begin v c h has = ap (met_by c (codes "--begin" ++ 61 ∷ v) (Some v) h) has
-joined_met End v c h has = ap (met_by c (codes "--end" ++ 61 ∷ v) (Some v) h) has
+name_met : (name : Text) (c : List Rule) (h : Held) → is_name name ≡ true → Has c name true → walked c [] (walk_from h) (hyphened name) ≡ waits_for name c h
+name_met name c h plain has = long_walked c h (hyphened name) name None (alone_long name plain) ∙ ap (met_by c (hyphened name) None h) has.by_long
 
 -- a word that doesn't begin with a hyphen
 pub record IsPlain (word : Text) : Type 0 where
@@ -91,28 +112,16 @@ plain_met c waiting position word h plain none =
     ∙ (ap (λ (x : Option (Text × Option Text)). long_or_other c waiting word x h) plain.not_long ∙ ap (λ (x : Option Text). short_or_plain c waiting word x h) plain.not_short))
 
 -- the word behind a name
-abbrev value_by : List Rule → Key → Text → Held → Option Rule → Walk
-value_by c key v h a =
-    after_step c v (waits_for key c h) (option_word a (named key) v (waits_for key c h).held).0 (next (option_word a (named key) v (waits_for key c h).held).1)
+abbrev value_by : List Rule → Text → Text → Held → Option Rule → Walk
+value_by c name v h a =
+    after_step c v (waits_for name c h) (option_word a name v (waits_for name c h).held).0 (next (option_word a name v (waits_for name c h).held).1)
 
-value_met : (key : Key) (v : Text) (c : List Rule) (h : Held) → IsPlain v → arg_by_id c (named key) ≡ Some (built_option key)
-    → walked c [] (waits_for key c h) v ≡ walk_from (has_value key v c h)
+value_met : (name v : Text) (c : List Rule) (h : Held) → IsPlain v → Has c name true → walked c [] (waits_for name c h) v ≡ walk_from (has_value_of name v c h)
 unfolding walked
-value_met key v c h plain has =
-    ap (λ p. after_step c v (waits_for key c h) p.0 p.1) (plain_met c (option (named key)) 1 v (waits_for key c h).held plain refl) ∙ by key has
-  where
-    by : (key : Key) → arg_by_id c (named key) ≡ Some (built_option key)
-        → after_step c v (waits_for key c h) (plain_word c (option (named key)) v (waits_for key c h).held).0 (plain_word c (option (named key)) v (waits_for key c h).held).1
-        ≡ walk_from (has_value key v c h)
-    by Dag has = ap (value_by c Dag v h) has
-    by Sched has = ap (value_by c Sched v h) has
-    by Input has = ap (value_by c Input v h) has
-    by Output has = ap (value_by c Output v h) has
-    by Trace has = ap (value_by c Trace v h) has
-    by Only has = ap (value_by c Only v h) has
-    by Drop has = ap (value_by c Drop v h) has
-    by Begin has = ap (value_by c Begin v h) has
-    by End has = ap (value_by c End v h) has
+value_met name v c h plain has =
+    ap (λ p. after_step c v (waits_for name c h) p.0 p.1) (plain_met c (option name) 1 v (waits_for name c h).held plain refl)
+    ∙ (ap (value_by c name v h) has.by_id
+    ∙ ap (λ (t : Bool). record (walk_from (has_value_of name v c h)) { waiting = if nat_lt (if t then 1 else 0) 1 then option name else idle }) (itself name))
 
 -- ---- what the walk asks of one word
 
@@ -124,45 +133,26 @@ asks_by s word v h a = long_passes s.rules s.args_override_self a v h && step_pa
 abbrev pub Settles : Shape → Held → Type 0
 Settles s h = settle_passes s.rules s.args_override_self h ≡ true
 
-option_passes_use : (key : Key) (v : Text) (again : Bool) (rows : List Row) → has_row (named key) rows ≡ false → use_passes again (built_option key) (v ∷ []) rows ≡ true
-option_passes_use key v again rows e = ap (λ (t : Bool). (not t || again) && true) e
+long_asked : (s : Shape) (h : Held) (word name : Text) (v : Option Text) → IsLong word name v → turn_passes s [] (walk_from h) word ≡ asks_by s word v h (arg_by_long s.rules name)
+long_asked s h word name v long =
+    let met : Bool → Option (Text × Option Text) → Held × Rattle.clap.specs.Walk.Step = λ t x. if t then (h, trailing 1) else long_or_other s.rules idle word x h in
+    ap (λ (t : Bool). (t || flag_word_passes s.rules s.args_override_self (long_of word) word h) && step_passes s 1 (met t (long_of word)).0 (met t (long_of word)).1) long.not_dashes
+    ∙ ap (λ (x : Option (Text × Option Text)). flag_word_passes s.rules s.args_override_self x word h && step_passes s 1 (long_or_other s.rules idle word x h).0 (long_or_other s.rules idle word x h).1) long.is_long
 
-serial_passes_use : (again : Bool) (rows : List Row) → has_row serial_name rows ≡ false → use_passes again built_serial [] rows ≡ true
-serial_passes_use again rows e = ap (λ (t : Bool). (not t || again) && true) e
+option_passes_use : (name v : Text) (again : Bool) (rows : List Row) → has_row name rows ≡ false → use_passes again (built_as name true) (v ∷ []) rows ≡ true
+option_passes_use name v again rows e = ap (λ (t : Bool). (not t || again) && true) e
 
-serial_asked : (s : Shape) (h : Held) → HasSerial s.rules → Settles s h → use_passes s.args_override_self built_serial [] (settled s.rules h).rows ≡ true
-    → turn_passes s [] (walk_from h) (codes "--serial") ≡ true
-serial_asked s h has settles passes =
-    ap (asks_by s (codes "--serial") None h) has
-    ∙ (ap (λ (t : Bool). (t && use_passes s.args_override_self built_serial [] (settled s.rules h).rows) && true) settles ∙ ap (λ (t : Bool). t && true) passes)
+flag_passes_use : (name : Text) (again : Bool) (rows : List Row) → has_row name rows ≡ false → use_passes again (built_as name false) [] rows ≡ true
+flag_passes_use name again rows e = ap (λ (t : Bool). (not t || again) && true) e
 
-name_asked : (key : Key) (s : Shape) (h : Held) → arg_by_long s.rules (named key) ≡ Some (built_option key) → Settles s h → turn_passes s [] (walk_from h) (called key) ≡ true
-name_asked Dag s h has settles = ap (asks_by s (codes "--dag") None h) has ∙ ap (λ (t : Bool). t && true) settles
-name_asked Sched s h has settles = ap (asks_by s (codes "--sched") None h) has ∙ ap (λ (t : Bool). t && true) settles
-name_asked Input s h has settles = ap (asks_by s (codes "--record") None h) has ∙ ap (λ (t : Bool). t && true) settles
-name_asked Output s h has settles = ap (asks_by s (codes "--out") None h) has ∙ ap (λ (t : Bool). t && true) settles
-name_asked Trace s h has settles = ap (asks_by s (codes "--trace") None h) has ∙ ap (λ (t : Bool). t && true) settles
-name_asked Only s h has settles = ap (asks_by s (codes "--channels") None h) has ∙ ap (λ (t : Bool). t && true) settles
-name_asked Drop s h has settles = ap (asks_by s (codes "--drop") None h) has ∙ ap (λ (t : Bool). t && true) settles
-name_asked Begin s h has settles = ap (asks_by s (codes "--begin") None h) has ∙ ap (λ (t : Bool). t && true) settles
-name_asked End s h has settles = ap (asks_by s (codes "--end") None h) has ∙ ap (λ (t : Bool). t && true) settles
+name_asked : (name : Text) (s : Shape) (h : Held) → is_name name ≡ true → Has s.rules name true → Settles s h → turn_passes s [] (walk_from h) (hyphened name) ≡ true
+name_asked name s h plain has settles =
+    long_asked s h (hyphened name) name None (alone_long name plain) ∙ (ap (asks_by s (hyphened name) None h) has.by_long ∙ ap (λ (t : Bool). t && true) settles)
 
-joined_asked : (key : Key) (v : Text) (s : Shape) (h : Held) → arg_by_long s.rules (named key) ≡ Some (built_option key) → Settles s h
-    → use_passes s.args_override_self (built_option key) (v ∷ []) (settled s.rules h).rows ≡ true → turn_passes s [] (walk_from h) (called key ++ 61 ∷ v) ≡ true
-joined_asked Dag v s h has settles passes = ap (asks_by s (codes "--dag" ++ 61 ∷ v) (Some v) h) has ∙ (ap (λ (t : Bool). (t && use_passes s.args_override_self (built_option Dag) (v ∷ []) (settled s.rules h).rows) && true) settles ∙ ap (λ (t : Bool). t && true) passes)
-joined_asked Sched v s h has settles passes = ap (asks_by s (codes "--sched" ++ 61 ∷ v) (Some v) h) has ∙ (ap (λ (t : Bool). (t && use_passes s.args_override_self (built_option Sched) (v ∷ []) (settled s.rules h).rows) && true) settles ∙ ap (λ (t : Bool). t && true) passes)
-joined_asked Input v s h has settles passes = ap (asks_by s (codes "--record" ++ 61 ∷ v) (Some v) h) has ∙ (ap (λ (t : Bool). (t && use_passes s.args_override_self (built_option Input) (v ∷ []) (settled s.rules h).rows) && true) settles ∙ ap (λ (t : Bool). t && true) passes)
-joined_asked Output v s h has settles passes = ap (asks_by s (codes "--out" ++ 61 ∷ v) (Some v) h) has ∙ (ap (λ (t : Bool). (t && use_passes s.args_override_self (built_option Output) (v ∷ []) (settled s.rules h).rows) && true) settles ∙ ap (λ (t : Bool). t && true) passes)
-joined_asked Trace v s h has settles passes = ap (asks_by s (codes "--trace" ++ 61 ∷ v) (Some v) h) has ∙ (ap (λ (t : Bool). (t && use_passes s.args_override_self (built_option Trace) (v ∷ []) (settled s.rules h).rows) && true) settles ∙ ap (λ (t : Bool). t && true) passes)
-joined_asked Only v s h has settles passes = ap (asks_by s (codes "--channels" ++ 61 ∷ v) (Some v) h) has ∙ (ap (λ (t : Bool). (t && use_passes s.args_override_self (built_option Only) (v ∷ []) (settled s.rules h).rows) && true) settles ∙ ap (λ (t : Bool). t && true) passes)
-joined_asked Drop v s h has settles passes = ap (asks_by s (codes "--drop" ++ 61 ∷ v) (Some v) h) has ∙ (ap (λ (t : Bool). (t && use_passes s.args_override_self (built_option Drop) (v ∷ []) (settled s.rules h).rows) && true) settles ∙ ap (λ (t : Bool). t && true) passes)
-joined_asked Begin v s h has settles passes = ap (asks_by s (codes "--begin" ++ 61 ∷ v) (Some v) h) has ∙ (ap (λ (t : Bool). (t && use_passes s.args_override_self (built_option Begin) (v ∷ []) (settled s.rules h).rows) && true) settles ∙ ap (λ (t : Bool). t && true) passes)
-joined_asked End v s h has settles passes = ap (asks_by s (codes "--end" ++ 61 ∷ v) (Some v) h) has ∙ (ap (λ (t : Bool). (t && use_passes s.args_override_self (built_option End) (v ∷ []) (settled s.rules h).rows) && true) settles ∙ ap (λ (t : Bool). t && true) passes)
-
-value_asked : (key : Key) (v : Text) (s : Shape) (h : Held) → IsPlain v → turn_passes s [] (waits_for key s.rules h) v ≡ true
-value_asked key v s h plain =
-    let held = (waits_for key s.rules h).held in
-    let met = plain_met s.rules (option (named key)) 1 v held plain refl in
+value_asked : (name v : Text) (s : Shape) (h : Held) → IsPlain v → turn_passes s [] (waits_for name s.rules h) v ≡ true
+value_asked name v s h plain =
+    let held = (waits_for name s.rules h).held in
+    let met = plain_met s.rules (option name) 1 v held plain refl in
     ap (λ p. (bytes_eq v (45 ∷ 45 ∷ []) || flag_word_passes s.rules s.args_override_self (long_of v) v held) && step_passes s 1 p.0 p.1) met
     ∙ (ap (λ (t : Bool). (t || flag_word_passes s.rules s.args_override_self (long_of v) v held) && true) plain.not_dashes
     ∙ (ap (λ (x : Option (Text × Option Text)). flag_word_passes s.rules s.args_override_self x v held && true) plain.not_long
@@ -171,8 +161,8 @@ value_asked key v s h plain =
 -- ---- the words of one option
 
 -- the rows so far are those of the options so far, and what is pending passes
-pub record Ready (s : Shape) (o : Options) (h : Held) : Type 0 where
-  pub holds : Holds o (settled s.rules h).rows
+pub record Ready (s : Shape) (done : List Given) (h : Held) : Type 0 where
+  pub rows : (settled s.rules h).rows ≡ map kept_row done
   pub settles : Settles s h
 
 -- the walk goes on from here to there over these words, whatever words follow
@@ -196,91 +186,115 @@ then_goes s w mid to words more a b = record {
   passes = λ rest e. ap (walk_passes s [] w) (append_assoc words more rest) ∙ a.passes (more ++ rest) (b.passes rest e);
 }
 
-abbrev pub Steps : Shape → Held → List Text → Options → Type 0
-Steps s h words after_it = (to : Held) × Goes s h words to × Ready s after_it to
+abbrev pub Steps : Shape → Held → List Text → List Given → Type 0
+Steps s h words done = (to : Held) × Goes s h words to × Ready s done to
 
-serial_steps : (s : Shape) (o : Options) (h : Held) → HasSerial s.rules → o.serial ≡ false → Ready s o h → Steps s h (codes "--serial" ∷ []) (record o { serial = true })
-serial_steps s o h has none ready =
-    let rows = (settled s.rules h).rows in
-    let fresh = ready.holds.serial ∙ ap serial_found_as none in
-    let passes = serial_passes_use s.args_override_self rows (no_row serial_name rows fresh) in (
-      reacted s.rules built_serial [] h,
-      one_goes s (walk_from h) _ (codes "--serial") (serial_met s.rules h has) (serial_asked s h has ready.settles passes),
-      record { holds = subst (Holds (record o { serial = true })) (sym (serial_used rows fresh)) (serial_holds o rows none ready.holds); settles = refl },
-    )
+map_more : (done : List Given) (g : Given) → map kept_row (done ++ g ∷ []) ≡ map kept_row done ++ kept_row g ∷ []
+map_more [] g = refl
+map_more (d ∷ done) g = ap (λ (l : List Row). kept_row d ∷ l) (map_more done g)
 
-joined_steps : (s : Shape) (o : Options) (h : Held) (key : Key) (v : Text) → Has s.rules key → value_at key o ≡ None → Ready s o h
-    → Steps s h ((called key ++ 61 ∷ v) ∷ []) (put key (Some v) o)
-joined_steps s o h key v has none ready =
-    let rows = (settled s.rules h).rows in
-    let fresh = ready.holds.values key ∙ ap (option_map (row_with key)) none in
-    let passes = option_passes_use key v s.args_override_self rows (no_row (named key) rows fresh) in (
-      reacted s.rules (built_option key) (v ∷ []) h,
-      one_goes s (walk_from h) _ (called key ++ 61 ∷ v) (joined_met key v s.rules h has.by_long) (joined_asked key v s h has.by_long ready.settles passes),
-      record { holds = subst (Holds (put key (Some v) o)) (sym (option_used key v rows fresh)) (put_holds key v o rows none ready.holds); settles = refl },
-    )
+-- no option of the name is among these
+abbrev Fresh : Text → List Given → Type 0
+Fresh name done = find (has_id name) (map kept_row done) ≡ None
 
-apart_steps : (s : Shape) (o : Options) (h : Held) (key : Key) (v : Text) → Has s.rules key → is_word v ≡ true → value_at key o ≡ None → Ready s o h
-    → Steps s h (called key ∷ v ∷ []) (put key (Some v) o)
-apart_steps s o h key v has word none ready =
+one_more : (done : List Given) (g : Given) (rows after_it : List Row) → rows ≡ map kept_row done → after_it ≡ rows ++ kept_row g ∷ [] → after_it ≡ map kept_row (done ++ g ∷ [])
+one_more done g rows after_it is more = more ∙ (ap (λ (l : List Row). l ++ kept_row g ∷ []) is ∙ sym (map_more done g))
+
+-- an option that is one word is used at once
+pub record IsUsed (s : Shape) (h : Held) (word : Text) (v : Option Text) (a : Rule) (values : List Text) : Type 0 where
+  pub met : met_by s.rules word v h (Some a) ≡ walk_from (reacted s.rules a values h)
+  pub asked : asks_by s word v h (Some a) ≡ ((settle_passes s.rules s.args_override_self h && use_passes s.args_override_self a values (settled s.rules h).rows) && true)
+  pub passes : use_passes s.args_override_self a values (settled s.rules h).rows ≡ true
+
+word_steps : (s : Shape) (done : List Given) (h : Held) (g : Given) (word : Text) (v : Option Text) (a : Rule) (values : List Text) → IsLong word (name_in g) v
+    → arg_by_long s.rules (name_in g) ≡ Some a → IsUsed s h word v a values → used a values (settled s.rules h).rows ≡ (settled s.rules h).rows ++ kept_row g ∷ [] → Ready s done h
+    → Steps s h (word ∷ []) (done ++ g ∷ [])
+word_steps s done h g word v a values long has is_used more ready = (
+  reacted s.rules a values h,
+  one_goes s (walk_from h) _ word (long_walked s.rules h word (name_in g) v long ∙ (ap (met_by s.rules word v h) has ∙ is_used.met))
+      (long_asked s h word (name_in g) v long ∙ (ap (asks_by s word v h) has ∙ (is_used.asked
+      ∙ (ap (λ (t : Bool). (t && use_passes s.args_override_self a values (settled s.rules h).rows) && true) ready.settles ∙ ap (λ (t : Bool). t && true) is_used.passes)))),
+  record { rows = one_more done g (settled s.rules h).rows _ ready.rows more; settles = refl },
+)
+
+apart_steps : (s : Shape) (done : List Given) (h : Held) (name v : Text) → is_name name ≡ true → Has s.rules name true → is_word v ≡ true
+    → find (has_id name) (settled s.rules h).rows ≡ None → Ready s done h
+    → Steps s h (hyphened name ∷ v ∷ []) (done ++ Apart name v ∷ [])
+apart_steps s done h name v is has word fresh ready =
     let rows = (settled s.rules h).rows in
-    let fresh = ready.holds.values key ∙ ap (option_map (row_with key)) none in
-    let passes = option_passes_use key v s.args_override_self rows (no_row (named key) rows fresh) in
+    let passes = option_passes_use name v s.args_override_self rows (no_row name rows fresh) in
     let plain = word_is_plain v word in
-    let kept : used_by_id (arg_by_id s.rules (named key)) (v ∷ []) rows ≡ rows ++ row_with key v ∷ [] =
-    ap (λ (a : Option Rule). used_by_id a (v ∷ []) rows) has.by_id ∙ option_used key v rows fresh in (
-      has_value key v s.rules h,
-      then_goes s (walk_from h) (waits_for key s.rules h) _ (called key ∷ []) (v ∷ [])
-          (one_goes s (walk_from h) _ (called key) (name_met key s.rules h has.by_long) (name_asked key s h has.by_long ready.settles))
-          (one_goes s (waits_for key s.rules h) _ v (value_met key v s.rules h plain has.by_id) (value_asked key v s h plain)),
+    let kept : used_by_id (arg_by_id s.rules name) (v ∷ []) rows ≡ rows ++ row_as name true v ∷ [] =
+    ap (λ (a : Option Rule). used_by_id a (v ∷ []) rows) has.by_id ∙ option_used name v rows fresh in (
+      has_value_of name v s.rules h,
+      then_goes s (walk_from h) (waits_for name s.rules h) _ (hyphened name ∷ []) (v ∷ [])
+          (one_goes s (walk_from h) _ (hyphened name) (name_met name s.rules h is has) (name_asked name s h is has ready.settles))
+          (one_goes s (waits_for name s.rules h) _ v (value_met name v s.rules h plain has) (value_asked name v s h plain)),
       record {
-        holds = subst (Holds (put key (Some v) o)) (sym kept) (put_holds key v o rows none ready.holds);
+        rows = one_more done (Apart name v) rows _ ready.rows kept;
         settles = ap (λ (a : Option Rule). option_map_or (λ x. use_passes s.args_override_self x (v ∷ []) rows) a true) has.by_id ∙ passes;
       },
     )
 
 -- ---- all of them
 
--- the command has each option that is given
-pub record HasAll (c : List Rule) (found : Options) : Type 0 where
-  pub options : (key : Key) → is_some (value_at key found) ≡ true → Has c key
-  pub serial : found.serial ≡ true → HasSerial c
+-- the command is told of these options
+pub record Knows (s : Shape) (known : List Known) : Type 0 where
+  pub rules : s.rules ≡ map built_option known
+  pub names : AreNames known
 
-given_at : (key : Key) (v : Text) (gs : List Given) (o found : Options) → Continues (Apart key v ∷ gs) o found → is_some (value_at key found) ≡ true
-given_at key v gs o found c =
-    let here : option_to_list (value_at key o) ++ (v ∷ values_of key gs) ≡ option_to_list (value_at key found) =
-    ap (λ (b : Bool). option_to_list (value_at key o) ++ ((if b then v ∷ [] else []) ++ values_of key gs)) (sym (itself key)) ∙ c.values key in
-    ap is_some (one_value (value_at key o) (value_at key found) v (values_of key gs) here).1
+given_goes : (s : Shape) (known : List Known) (done : List Given) (h : Held) (g : Given) → Knows s known → is_known known g ≡ true → Fresh (name_in g) done → Ready s done h
+    → Steps s h (spelled g) (done ++ g ∷ [])
+given_goes s known done h (Alone name) knows e none ready =
+    let has = flag_known (has_value known name) e in
+    let rows = (settled s.rules h).rows in
+    let fresh = ap (find (has_id name)) ready.rows ∙ none in
+    word_steps s done h (Alone name) (hyphened name) None (built_as name false) [] (alone_long name (name_known known name false knows.names has))
+    (has_rule s.rules known name false knows.rules has).by_long
+    (record { met = refl; asked = refl; passes = flag_passes_use name s.args_override_self rows (no_row name rows fresh) }) (flag_used name rows fresh) ready
+given_goes s known done h (Apart name v) knows e none ready =
+    let has = valued_known (has_value known name) (both _ _ e).0 in
+    apart_steps s done h name v (name_known known name true knows.names has) (has_rule s.rules known name true knows.rules has) (both _ _ e).1
+    (ap (find (has_id name)) ready.rows ∙ none) ready
+given_goes s known done h (Joined name v) knows e none ready =
+    let has = valued_known (has_value known name) (both _ _ e).0 in
+    let rows = (settled s.rules h).rows in
+    let fresh = ap (find (has_id name)) ready.rows ∙ none in
+    word_steps s done h (Joined name v) (hyphened name ++ 61 ∷ v) (Some v) (built_as name true) (v ∷ []) (joined_long name v (name_known known name true knows.names has))
+    (has_rule s.rules known name true knows.rules has).by_long
+    (record { met = refl; asked = refl; passes = option_passes_use name v s.args_override_self rows (no_row name rows fresh) }) (option_used name v rows fresh) ready
 
-serial_given : (a b : Bool) (rest : List Given) → serials a ++ Serial ∷ rest ≡ serials b → b ≡ true
-serial_given a true rest e = refl
-serial_given false false rest e = absurd (let h : Serial ∷ rest ≡ [] = e in cc)
-serial_given true false rest e = absurd (let h : Serial ∷ Serial ∷ rest ≡ [] = e in cc)
+-- each name has one value at most
+abbrev Once : List Given → Options → Type 0
+Once gs o = (name : Text) → flat_map (values_under name) gs ≡ option_to_list (o name)
 
-pub given_steps : (s : Shape) (gs : List Given) (o found : Options) (h : Held) → HasAll s.rules found → after gs o ≡ Some found → Ready s o h → Steps s h (flat_map spelled gs) found
-given_steps s [] o found h has e ready = (
+none_before : (xs : List Text) (y : Option Text) (v : Text) (rest : List Text) → xs ++ v ∷ rest ≡ option_to_list y → xs ≡ []
+none_before [] y v rest e = refl
+none_before (x ∷ []) (Some w) v rest e = absurd (let h : x ∷ v ∷ rest ≡ w ∷ [] = e in cc)
+none_before (x ∷ []) None v rest e = absurd (let h : x ∷ v ∷ rest ≡ [] = e in cc)
+none_before (x ∷ z ∷ xs) (Some w) v rest e = absurd (let h : x ∷ z ∷ xs ++ v ∷ rest ≡ w ∷ [] = e in cc)
+none_before (x ∷ z ∷ xs) None v rest e = absurd (let h : x ∷ z ∷ xs ++ v ∷ rest ≡ [] = e in cc)
+
+first_given : (done gs : List Given) (g : Given) (o : Options) → Once (done ++ g ∷ gs) o → Fresh (name_in g) done
+first_given done gs g o once =
+    let n = name_in g in
+    let here : flat_map (values_under n) done ++ (value_in g ∷ flat_map (values_under n) gs) ≡ option_to_list (o n) =
+    ap (λ (b : Bool). flat_map (values_under n) done ++ ((if b then value_in g ∷ [] else []) ++ flat_map (values_under n) gs)) (sym (itself n))
+    ∙ (sym (flat_map-append (values_under n) done (g ∷ gs)) ∙ once n) in
+    unkept done n (none_before (flat_map (values_under n) done) (o n) (value_in g) (flat_map (values_under n) gs) here)
+
+pub given_steps : (s : Shape) (known : List Known) (done gs : List Given) (o : Options) (h : Held) → Knows s known → list_all (is_known known) gs ≡ true → Once (done ++ gs) o → Ready s done h
+    → Steps s h (flat_map spelled gs) (done ++ gs)
+given_steps s known done [] o h knows all once ready = (
   h,
   record { walks = λ rest. refl; passes = λ rest p. p },
-  subst (λ (x : Options). Ready s x h) (some_same o found e) ready,
+  subst (λ (l : List Given). Ready s l h) (sym (Rattle.std.proofs.Common.append-nil done)) ready,
 )
-given_steps s (Serial ∷ gs) o found h has e ready =
-    let r = run (Serial ∷ gs) o found e in
-    let b = bound (with_serial o) (after gs) found e in
-    let f = serial_found o b.0 b.1 in
-    let first = serial_steps s o h (has.serial (serial_given o.serial found.serial _ r.0.serial)) f.0 ready in
-    let rest = given_steps s gs (record o { serial = true }) found first.0 has (ap (after gs) (sym f.1) ∙ b.2) first.2 in
-    (rest.0, then_goes s (walk_from h) (walk_from first.0) (walk_from rest.0) (codes "--serial" ∷ []) (flat_map spelled gs) first.1 rest.1, rest.2)
-given_steps s (Apart key v ∷ gs) o found h has e ready =
-    let r = run (Apart key v ∷ gs) o found e in
-    let b = bound (put_once key v o) (after gs) found e in
-    let f = put_found key v o b.0 b.1 in
-    let first = apart_steps s o h key v (has.options key (given_at key v gs o found r.0)) f.1 f.0 ready in
-    let rest = given_steps s gs (put key (Some v) o) found first.0 has (ap (after gs) (sym f.2) ∙ b.2) first.2 in
-    (rest.0, then_goes s (walk_from h) (walk_from first.0) (walk_from rest.0) (called key ∷ v ∷ []) (flat_map spelled gs) first.1 rest.1, rest.2)
-given_steps s (Joined key v ∷ gs) o found h has e ready =
-    let r = run (Joined key v ∷ gs) o found e in
-    let b = bound (put_once key v o) (after gs) found e in
-    let f = put_found key v o b.0 b.1 in
-    let first = joined_steps s o h key v (has.options key (given_at key v gs o found record { values = r.0.values; serial = r.0.serial })) f.0 ready in
-    let rest = given_steps s gs (put key (Some v) o) found first.0 has (ap (after gs) (sym f.2) ∙ b.2) first.2 in
-    (rest.0, then_goes s (walk_from h) (walk_from first.0) (walk_from rest.0) ((called key ++ 61 ∷ v) ∷ []) (flat_map spelled gs) first.1 rest.1, rest.2)
+given_steps s known done (g ∷ gs) o h knows all once ready =
+    let first = given_goes s known done h g knows (both _ _ all).0 (first_given done gs g o once) ready in
+    let same = append_assoc done (g ∷ []) gs in
+    let rest = given_steps s known (done ++ g ∷ []) gs o first.0 knows (both _ _ all).1 (subst (λ (l : List Given). Once l o) (sym same) once) first.2 in (
+      rest.0,
+      then_goes s (walk_from h) (walk_from first.0) (walk_from rest.0) (spelled g) (flat_map spelled gs) first.1 rest.1,
+      subst (λ (l : List Given). Ready s l rest.0) same rest.2,
+    )

@@ -11,22 +11,14 @@ use Rattle.cy_words.specs.Command.{Asks}
 use Rattle.cy_words.specs.MakeWords.{MakeWords, count_of, longest_prefix, made_by, make_of, most_made, where_made}
 use Rattle.cy_words.specs.Options.{Options}
 use Rattle.cy_words.specs.PassWords.{pass_of, pass_words}
-use Rattle.cy_words.specs.PlayWords.{PlayWords, asked_by, is_list_or_none, is_play, number_of, number_or, play_words, where_play, ◌>>=◌}
+use Rattle.cy_words.specs.PlayWords.{PlayWords, are_lists, asked_by, is_play, number_of, play_words, where_play, ◌>>=◌}
 use Rattle.cy_words.specs.PlayViews.{play_words_of}
 use Rattle.cy_words.specs.Scan.{command_of}
 use Rattle.cy_words.specs.Views.{IsInForm, command_asked, make_words_of}
 use Rattle.cy_words.specs.Words.{is_word}
 use Rattle.cy_words.proofs.Asked.{asks}
 use Rattle.cy_words.proofs.Named.{named}
-use Rattle.cy_words.proofs.OptionsRead.{bound, mapped, nothing, some_same}
-
-guarded : {A : Type 0} (t : Bool) (x : Option A) (a : A) → (if t then x else None) ≡ Some a → (t ≡ true) × (x ≡ Some a)
-guarded true x a e = (refl, e)
-guarded false x a e = absurd (nothing a e)
-
-unguarded : {A : Type 0} (t : Bool) (x : Option A) (a : A) → (if t then None else x) ≡ Some a → (t ≡ false) × (x ≡ Some a)
-unguarded true x a e = absurd (nothing a e)
-unguarded false x a e = (refl, e)
+use Rattle.cy_words.proofs.OptionsRead.{bound, guarded, mapped, nothing, some_same, unguarded}
 
 abbrev ReaderOf : PlayWords → Type 0
 ReaderOf w = HasReader w.request.components
@@ -34,22 +26,18 @@ ReaderOf w = HasReader w.request.components
 where_is : (w other : PlayWords) → where_play w ≡ Some other → w ≡ other
 where_is w other e = some_same w other (guarded (is_play w) (Some w) other e).1
 
-play_reader : (o : Options) (w : PlayWords) → play_words o ≡ Some w → ReaderOf w
-play_reader o w e =
-    let a = bound o.dag _ w e in
-    let b = bound o.input _ w a.2 in
-    let c = bound o.output _ w b.2 in
-    let d = bound o.trace _ w c.2 in
-    let f = bound (number_or 0 o.begin) _ w d.2 in
-    let g = bound (number_or 18446744073709551615 o.end) _ w f.2 in
-    subst ReaderOf (some_same _ w g.2) tt
+bound_holds : {A : Type 0} (x : Option A) (f : A → Option PlayWords) → ((a : A) → IfSome (f a) ReaderOf) → IfSome (x >>= f) ReaderOf
+bound_holds None f h = tt
+bound_holds (Some a) f h = h a
+
+play_reader : (o : Options) → IfSome (play_words o) ReaderOf
+play_reader o = search bound_holds depth 12
 
 asked_reader : (o : Options) (w : PlayWords) → asked_by o ≡ Some w → ReaderOf w
 unfolding asked_by
 asked_reader o w e =
-    let g = guarded (is_list_or_none o.only && is_list_or_none o.drop) (play_words o >>= where_play) w e in
-    let b = bound (play_words o) where_play w g.1 in
-    subst ReaderOf (where_is b.0 w b.2) (play_reader o b.0 b.1)
+    let b = bound (play_words o) where_play w (guarded (are_lists o) (play_words o >>= where_play) w e).1 in
+    subst ReaderOf (where_is b.0 w b.2) (subst (λ (x : Option PlayWords). IfSome x ReaderOf) b.1 (play_reader o))
 
 pass_reader : (words : List Text) (w : PlayWords) → pass_of words ≡ Some w → ReaderOf w
 pass_reader (input ∷ output ∷ trace ∷ from ∷ to ∷ []) w e =

@@ -7,4 +7,5 @@ pub mod ClapWalk
 pub mod InForm
 pub mod Named
 pub mod OptionsRead
+pub mod Places
 pub mod Read

@@ -1,15 +1,15 @@
 -- What the values ask for that are kept under the names of a command's words.
-use Rattle.std.specs.Prelude.{ℕ, ◌≡◌, ◌⊎◌, Bool, false, if◌then◌else◌, List, codes}
+use Rattle.std.specs.Prelude.{ℕ, Bool, not, if◌then◌else◌, List, [], codes}
 use Rattle.std.specs.Prelude.{Option, Some, None}
 use Rattle.std.specs.Option.{option_map}
 use Rattle.std.specs.Str.{bytes_eq}
-use Rattle.clap.specs.Words.{Row, first_of, one_of}
-use Rattle.cy_words.specs.CheckWords.{CheckWords}
+use Rattle.clap.specs.Words.{Row, first_of}
+use Rattle.cy_words.specs.CheckWords.{CheckWords, check_asked, check_options}
 use Rattle.cy_words.specs.Command.{Command, Check, Info, Play, Make}
 use Rattle.cy_words.specs.MakeWords.{MakeWords, made_by}
-use Rattle.cy_words.specs.Options.{Options}
+use Rattle.cy_words.specs.Options.{Known, Options, has_value, is_flag}
 use Rattle.cy_words.specs.PassWords.{pass_words}
-use Rattle.cy_words.specs.PlayWords.{PlayWords, asked_by, where_play, ◌>>=◌}
+use Rattle.cy_words.specs.PlayWords.{PlayWords, asked_by, play_options, where_play, ◌>>=◌}
 use Rattle.cy_words.specs.Words.{InfoWords}
 
 -- What five names ask for behind `pass`.
@@ -17,38 +17,21 @@ abbrev pub passed_by : (input output trace from to : List ℕ) → Option PlayWo
 passed_by input output trace from to =
     if bytes_eq from to then None else where_play (pass_words input output trace from to)
 
--- A flag is kept as a text.
-abbrev pub IsFlag : Option (List ℕ) → Type 0
-IsFlag kept = (kept ≡ None) ⊎ ((kept ≡ Some (codes "true")) ⊎ (kept ≡ Some (codes "false")))
+-- The options that are kept: a flag has a text that says whether it is given.
+abbrev pub kept_as : Bool → Option (List ℕ) → Option (List ℕ)
+kept_as has_text None = None
+kept_as has_text (Some text) =
+    if has_text then Some text else (if bytes_eq text (codes "true") then Some [] else None)
 
-abbrev pub is_set : Option (List ℕ) → Bool
-is_set None = false
-is_set (Some text) = bytes_eq text (codes "true")
-
-abbrev pub flag_kept : List Row → Option (List ℕ)
-flag_kept rows = one_of (codes "serial") rows
-
-abbrev pub options_in : List Row → Options
-options_in rows = record {
-  dag = first_of (codes "dag") rows;
-  sched = first_of (codes "sched") rows;
-  input = first_of (codes "record") rows;
-  output = first_of (codes "out") rows;
-  trace = first_of (codes "trace") rows;
-  only = first_of (codes "channels") rows;
-  drop = first_of (codes "drop") rows;
-  begin = first_of (codes "begin") rows;
-  end = first_of (codes "end") rows;
-  serial = is_set (flag_kept rows);
-}
+unfoldable pub options_in : List Known → List Row → Options
+options_in known rows =
+    λ name. kept_as (not (is_flag (has_value known name))) (first_of name rows)
 
 abbrev pub play_in : List Row → Option PlayWords
-play_in rows = asked_by (options_in rows)
+play_in rows = asked_by (options_in play_options rows)
 
 abbrev pub check_in : List Row → Option CheckWords
-check_in rows = do
-  dag ← first_of (codes "dag") rows
-  Some record { dag = dag; sched = first_of (codes "sched") rows }
+check_in rows = check_asked (options_in check_options rows)
 
 abbrev pub info_in : List Row → Option InfoWords
 info_in rows = do

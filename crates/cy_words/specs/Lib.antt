@@ -3,6 +3,7 @@ pub mod CheckWords
 pub mod Command
 pub mod Kept
 pub mod MakeWords
+pub mod OptionViews
 pub mod Options
 pub mod PassWords
 pub mod PlayViews

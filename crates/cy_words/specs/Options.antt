@@ -1,103 +1,75 @@
 -- Words that are options, as behind `play` and `check`.
-use Rattle.std.specs.Prelude.{ℕ, ◌≡◌, Bool, true, false, if◌then◌else◌, List, [], ◌∷◌, ◌++◌}
-use Rattle.std.specs.Prelude.{flat_map, codes, Option, None, IfSome, option_to_list}
+use Rattle.std.specs.Prelude.{ℕ, ◌≡◌, ◌&&◌, Bool, true, false, not, if◌then◌else◌, List, [], ◌∷◌}
+use Rattle.std.specs.Prelude.{◌++◌, find, flat_map, Option, option_map, option_to_list}
+use Rattle.std.specs.Prelude.{unwrap_or}
+use Rattle.std.specs.List.{list_all}
 use Rattle.std.specs.Str.{bytes_eq}
 use Rattle.cy_words.specs.Words.{is_word}
 
--- The options that are given: their values, and whether `--serial` is.
-pub record Options : Type 0 where
-  pub dag : Option (List ℕ)
-  pub sched : Option (List ℕ)
-  pub input : Option (List ℕ)
-  pub output : Option (List ℕ)
-  pub trace : Option (List ℕ)
-  pub only : Option (List ℕ)
-  pub drop : Option (List ℕ)
-  pub begin : Option (List ℕ)
-  pub end : Option (List ℕ)
-  pub serial : Bool
+-- An option that a command knows: its name, and whether it has a value. One without is a flag.
+pub record Known : Type 0 where
+  pub name : List ℕ
+  pub has_value : Bool
 
-abbrev pub no_options : Options
-no_options = record {
-  dag = None;
-  sched = None;
-  input = None;
-  output = None;
-  trace = None;
-  only = None;
-  drop = None;
-  begin = None;
-  end = None;
-  serial = false;
-}
+abbrev pub valued : List ℕ → Known
+valued name = record { name = name; has_value = true }
 
--- The options that have a value, and what each is called.
-pub data Key : Type 0 where
-  Dag : Key
-  Sched : Key
-  Input : Key
-  Output : Key
-  Trace : Key
-  Only : Key
-  Drop : Key
-  Begin : Key
-  End : Key
+abbrev pub flag : List ℕ → Known
+flag name = record { name = name; has_value = false }
 
-abbrev pub called : Key → List ℕ
-called Dag = codes "--dag"
-called Sched = codes "--sched"
-called Input = codes "--record"
-called Output = codes "--out"
-called Trace = codes "--trace"
-called Only = codes "--channels"
-called Drop = codes "--drop"
-called Begin = codes "--begin"
-called End = codes "--end"
+-- Whether the option of a name has a value, where the command knows it.
+abbrev pub has_value : List Known → List ℕ → Option Bool
+has_value known name = option_map (λ k. k.has_value) (find (λ k. bytes_eq k.name name) known)
 
-abbrev pub value_at : Key → Options → Option (List ℕ)
-value_at Dag o = o.dag
-value_at Sched o = o.sched
-value_at Input o = o.input
-value_at Output o = o.output
-value_at Trace o = o.trace
-value_at Only o = o.only
-value_at Drop o = o.drop
-value_at Begin o = o.begin
-value_at End o = o.end
+-- What options give: the value under a name. That of a flag is empty.
+abbrev pub Options : Type 0
+Options = List ℕ → Option (List ℕ)
 
--- An option as it stands among the words: `--serial`; its name, and its value as the next word; or
--- both in one word, with a `=` between.
+-- An option as it stands among the words: a flag; a name, and its value as the next word; or both
+-- in one word, with a `=` between.
 pub data Given : Type 0 where
-  Serial : Given
-  Apart : (key : Key) (value : List ℕ) → Given
-  Joined : (key : Key) (value : List ℕ) → Given
+  Alone : (name : List ℕ) → Given
+  Apart : (name value : List ℕ) → Given
+  Joined : (name value : List ℕ) → Given
+
+abbrev pub hyphened : List ℕ → List ℕ
+hyphened name = 45 ∷ 45 ∷ name
 
 abbrev pub spelled : Given → List (List ℕ)
-spelled Serial = codes "--serial" ∷ []
-spelled (Apart key value) = called key ∷ value ∷ []
-spelled (Joined key value) = (called key ++ 61 ∷ value) ∷ []
+spelled (Alone name) = hyphened name ∷ []
+spelled (Apart name value) = hyphened name ∷ value ∷ []
+spelled (Joined name value) = (hyphened name ++ 61 ∷ value) ∷ []
 
--- The values that are given under a name, in their order, and how often `--serial` is.
-abbrev pub value_under : Key → Key → List ℕ → List (List ℕ)
-value_under key other value = if bytes_eq (called other) (called key) then value ∷ [] else []
+abbrev pub name_in : Given → List ℕ
+name_in (Alone name) = name
+name_in (Apart name value) = name
+name_in (Joined name value) = name
 
-abbrev pub values_in : Key → Given → List (List ℕ)
-values_in key Serial = []
-values_in key (Apart other value) = value_under key other value
-values_in key (Joined other value) = value_under key other value
+abbrev pub value_in : Given → List ℕ
+value_in (Alone name) = []
+value_in (Apart name value) = value
+value_in (Joined name value) = value
 
-abbrev pub values_of : Key → List Given → List (List ℕ)
-values_of key given = flat_map (values_in key) given
+-- Whether the command knows the option, as a flag or with a value that may stand as a word.
+abbrev pub is_flag : Option Bool → Bool
+is_flag has = not (unwrap_or has true)
 
-abbrev pub serials_in : Given → List Given
-serials_in Serial = Serial ∷ []
-serials_in other = []
+abbrev pub is_valued : Option Bool → Bool
+is_valued has = unwrap_or has false
 
--- The words are these options, in some order: each that has a value here is given once, with this
--- value, which may stand as a word, and no other is given.
-pub record AreOptions (words : List (List ℕ)) (o : Options) : Type 0 where
+abbrev pub is_known : List Known → Given → Bool
+is_known known (Alone name) = is_flag (has_value known name)
+is_known known (Apart name value) = is_valued (has_value known name) && is_word value
+is_known known (Joined name value) = is_valued (has_value known name) && is_word value
+
+-- The values that are given under a name, in their order.
+abbrev pub values_under : List ℕ → Given → List (List ℕ)
+values_under name given = if bytes_eq (name_in given) name then value_in given ∷ [] else []
+
+-- The words are options that a command knows, in some order: each that has a value here is given
+-- once, with this value, and no other is given.
+pub record AreOptions (known : List Known) (words : List (List ℕ)) (o : Options) : Type 0 where
   pub given : List Given
+  pub are_known : list_all (is_known known) given ≡ true
   pub are_spelled : words ≡ flat_map spelled given
-  pub values : (key : Key) → values_of key given ≡ option_to_list (value_at key o)
-  pub are_words : (key : Key) → IfSome (value_at key o) (λ value. is_word value ≡ true)
-  pub serial : flat_map serials_in given ≡ (if o.serial then Serial ∷ [] else [])
+  pub values : (name : List ℕ) → flat_map (values_under name) given ≡ option_to_list (o name)

@@ -1,12 +1,12 @@
 -- The words of `play`.
 use Rattle.std.specs.Prelude.{ℕ, ◌≡◌, ◌+◌, ◌*◌, ◌-◌, ◌^◌, ◌==◌, ◌&&◌, ◌||◌, nat_le, nat_lt, not}
 use Rattle.std.specs.Prelude.{Bool, true, false, if◌then◌else◌, List, [], ◌∷◌, length, Option, Some}
-use Rattle.std.specs.Prelude.{None, unwrap_or}
+use Rattle.std.specs.Prelude.{None, is_some, unwrap_or, codes}
 use Rattle.std.specs.List.{list_all, slice_split}
 use Rattle.std.specs.Option.{option_map}
 use Rattle.std.specs.Str.{bytes_eq}
 use Rattle.cy_request.specs.Request.{Components, OfFiles, OfPass, Request}
-use Rattle.cy_words.specs.Options.{Options, AreOptions}
+use Rattle.cy_words.specs.Options.{AreOptions, Known, Options, flag, valued}
 
 -- What is asked of a play: what is replayed, the names of the record and of the trace that are
 -- written, and whether one thread plays it.
@@ -55,29 +55,36 @@ abbrev pub is_list_or_none : Option (List ℕ) → Bool
 is_list_or_none None = true
 is_list_or_none (Some text) = is_list text
 
--- The options that every `play` has, each with its value.
+-- The options that `play` knows.
+abbrev pub play_options : List Known
+play_options = valued (codes "dag") ∷ valued (codes "sched") ∷ valued (codes "record")
+    ∷ valued (codes "out") ∷ valued (codes "trace") ∷ valued (codes "channels")
+    ∷ valued (codes "drop") ∷ valued (codes "begin") ∷ valued (codes "end")
+    ∷ flag (codes "serial") ∷ []
+
+-- What they say, where those are given that every `play` has.
 abbrev pub play_words : Options → Option PlayWords
 play_words o = do
-  dag ← o.dag
-  input ← o.input
-  output ← o.output
-  trace ← o.trace
-  begin ← number_or 0 o.begin
-  end ← number_or (2 ^ 64 - 1) o.end
+  dag ← o (codes "dag")
+  input ← o (codes "record")
+  output ← o (codes "out")
+  trace ← o (codes "trace")
+  begin ← number_or 0 (o (codes "begin"))
+  end ← number_or (2 ^ 64 - 1) (o (codes "end"))
   Some record {
     request = record {
-      components = OfFiles dag o.sched;
+      components = OfFiles dag (o (codes "sched"));
       input = input;
       filter = record {
-        only = option_map names_in o.only;
-        drop = unwrap_or (option_map names_in o.drop) [];
+        only = option_map names_in (o (codes "channels"));
+        drop = unwrap_or (option_map names_in (o (codes "drop"))) [];
         begin = begin;
         end = end;
       };
     };
     output = output;
     trace = trace;
-    serial = o.serial;
+    serial = is_some (o (codes "serial"));
   }
 
 -- Whether the names of what is written differ from each other and from the names of what is read.
@@ -100,12 +107,14 @@ abbrev pub where_play : PlayWords → Option PlayWords
 where_play w = if is_play w then Some w else None
 
 -- What the options ask for: a play, with lists that are lists.
+abbrev pub are_lists : Options → Bool
+are_lists o = is_list_or_none (o (codes "channels")) && is_list_or_none (o (codes "drop"))
+
 unfoldable pub asked_by : Options → Option PlayWords
-asked_by o =
-    if is_list_or_none o.only && is_list_or_none o.drop then play_words o >>= where_play else None
+asked_by o = if are_lists o then play_words o >>= where_play else None
 
 -- The words behind `play` ask for a play: they are options, and these ask for it.
 pub record IsPlayWords (words : List (List ℕ)) (w : PlayWords) : Type 0 where
   pub options : Options
-  pub are_options : AreOptions words options
+  pub are_options : AreOptions play_options words options
   pub asked : asked_by options ≡ Some w

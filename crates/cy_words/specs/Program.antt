@@ -1,41 +1,32 @@
 -- How the program's commands are told to `clap`.
-use Rattle.std.specs.Prelude.{ℕ, ◌≡◌, true, false, List, [], ◌∷◌, ◌++◌, codes}
-use Rattle.std.specs.Prelude.{drop, fold, map, Some}
+use Rattle.std.specs.Prelude.{ℕ, ◌≡◌, if◌then◌else◌, true, false, List, [], ◌∷◌, codes}
+use Rattle.std.specs.Prelude.{fold, map, Some, None}
 use Rattle.clap.specs.Walk.{Rule}
 use Rattle.clap.specs.Words.{app_of}
 use Rattle.clap.specs.declared.builder.command.Command.TheViews.{out-Command}
 use Rattle.clap.specs.declared.builder.command.Command.{Command}
 use Rattle.clap.specs.Simple.{App, new_app, new_rule, on_top, with_rule, with_subcommand}
 use Rattle.clap.specs.declared.builder.action.ArgAction.TheVariants.{SetTrue}
-use Rattle.cy_words.specs.Options.{Key, called}
-use Rattle.cy_words.specs.Options.{Dag, Sched, Input, Output, Trace, Only, Drop, Begin, End}
+use Rattle.cy_words.specs.CheckWords.{check_options}
+use Rattle.cy_words.specs.Options.{Known}
+use Rattle.cy_words.specs.PlayWords.{play_options}
 
--- The name of an option without its hyphens.
-abbrev pub named : Key → List ℕ
-named key = drop 2 (called key)
-
--- An option with a value, a flag, and a word that is known by its place.
-abbrev pub option_rule : List ℕ → Rule
-option_rule name = record (new_rule name) { long = Some name }
-
-abbrev pub flag_rule : List ℕ → Rule
-flag_rule name = record (new_rule name) { long = Some name; action = Some SetTrue }
-
-abbrev pub serial_name : List ℕ
-serial_name = codes "serial"
+-- An option, and a word that is known by its place.
+abbrev pub option_rule : Known → Rule
+option_rule k = record (new_rule k.name) {
+  long = Some k.name;
+  action = if k.has_value then None else Some SetTrue;
+}
 
 -- A command that takes these.
 abbrev pub taking : List ℕ → List Rule → App
 taking name rules = fold with_rule (new_app name) rules
 
 abbrev pub check_app : App
-check_app = taking (codes "check") (map (λ key. option_rule (named key)) (Dag ∷ Sched ∷ []))
+check_app = taking (codes "check") (map option_rule check_options)
 
 abbrev pub play_app : App
-play_app = taking (codes "play")
-    (map (λ key. option_rule (named key))
-    (Dag ∷ Sched ∷ Input ∷ Output ∷ Trace ∷ Only ∷ Drop ∷ Begin ∷ End ∷ [])
-    ++ flag_rule serial_name ∷ [])
+play_app = taking (codes "play") (map option_rule play_options)
 
 abbrev pub info_app : App
 info_app = taking (codes "info") (new_rule (codes "file") ∷ [])

@@ -1,48 +1,37 @@
 -- How the code reads words: options one after another, and then the command that they ask for.
-use Rattle.std.specs.Prelude.{ℕ, ◌+◌, ◌==◌, ◌||◌, Bool, true, if◌then◌else◌, List, [], ◌∷◌}
+use Rattle.std.specs.Prelude.{ℕ, ◌+◌, ◌==◌, if◌then◌else◌, List, [], ◌∷◌}
 use Rattle.std.specs.Prelude.{take, drop, codes, Option, Some, None, is_some, option_and_then}
 use Rattle.std.specs.List.{position}
 use Rattle.std.specs.Option.{option_map}
 use Rattle.std.specs.Str.{bytes_eq}
-use Rattle.cy_words.specs.CheckWords.{CheckWords}
+use Rattle.clap.specs.Lexer.{strip_byte}
+use Rattle.cy_words.specs.CheckWords.{CheckWords, check_asked, check_options}
 use Rattle.cy_words.specs.Command.{Command, Check, Info, Play, Make}
 use Rattle.cy_words.specs.MakeWords.{make_of}
-use Rattle.cy_words.specs.Options.{Options, no_options}
+use Rattle.cy_words.specs.Options.{Alone, Apart, Given, Joined, Known, Options, has_value, is_known}
+use Rattle.cy_words.specs.Options.{is_valued, name_in, value_in}
 use Rattle.cy_words.specs.PassWords.{pass_of}
-use Rattle.cy_words.specs.PlayWords.{PlayWords, asked_by, ◌>>=◌}
-use Rattle.cy_words.specs.Words.{is_word, info_of}
+use Rattle.cy_words.specs.PlayWords.{PlayWords, asked_by, play_options, ◌>>=◌}
+use Rattle.cy_words.specs.Words.{info_of}
 
--- A value is given once, and may stand as a word.
-abbrev pub given_once : Option (List ℕ) → List ℕ → Option (Option (List ℕ))
-given_once (Some before) value = None
-given_once None value = if is_word value then Some (Some value) else None
+abbrev pub no_options : Options
+no_options = λ name. None
 
--- The options once one more was given by its name and its value.
-unfoldable pub with_value : List ℕ → List ℕ → Options → Option Options
-with_value name value o =
-    if bytes_eq name (codes "--dag")
-    then option_map (λ v. record o { dag = v }) (given_once o.dag value)
-    else (if bytes_eq name (codes "--sched")
-    then option_map (λ v. record o { sched = v }) (given_once o.sched value)
-    else (if bytes_eq name (codes "--record")
-    then option_map (λ v. record o { input = v }) (given_once o.input value)
-    else (if bytes_eq name (codes "--out")
-    then option_map (λ v. record o { output = v }) (given_once o.output value)
-    else (if bytes_eq name (codes "--trace")
-    then option_map (λ v. record o { trace = v }) (given_once o.trace value)
-    else (if bytes_eq name (codes "--channels")
-    then option_map (λ v. record o { only = v }) (given_once o.only value)
-    else (if bytes_eq name (codes "--drop")
-    then option_map (λ v. record o { drop = v }) (given_once o.drop value)
-    else (if bytes_eq name (codes "--begin")
-    then option_map (λ v. record o { begin = v }) (given_once o.begin value)
-    else (if bytes_eq name (codes "--end")
-    then option_map (λ v. record o { end = v }) (given_once o.end value)
-    else None))))))))
+-- One more value, and one where there was none.
+abbrev pub put : List ℕ → List ℕ → Options → Options
+put name value o = λ other. if bytes_eq name other then Some value else o other
 
--- `--serial` is given once.
-abbrev pub with_serial : Options → Option Options
-with_serial o = if o.serial then None else Some record o { serial = true }
+unfoldable pub put_once : List ℕ → List ℕ → Options → Option Options
+put_once name value o = if is_some (o name) then None else Some (put name value o)
+
+unfoldable pub put_known : List Known → List ℕ → List ℕ → Options → Option Options
+put_known known name value o =
+    if is_some (has_value known name) then put_once name value o else None
+
+-- The options once one more was given.
+unfoldable pub given_met : List Known → Given → Options → Option Options
+given_met known given o =
+    if is_known known given then put_once (name_in given) (value_in given) o else None
 
 -- Words one after another: the options that they give, and the name whose value is the next word,
 -- where there is such a name.
@@ -53,48 +42,53 @@ pub record Reading : Type 0 where
 abbrev pub settled : Option Options → Option Reading
 settled options = option_map (λ o. record { options = o; pending = None }) options
 
--- A word that is no value: `--serial`; or a name and a value with `=` between; or a name.
-abbrev pub name_met : List ℕ → Option ℕ → Options → Option Reading
-name_met word None o = Some record { options = o; pending = Some word }
-name_met word (Some i) o = settled (with_value (take i word) (drop (i + 1) word) o)
+-- A word that is no value, behind its hyphens: a name, alone or before its value; or a name and a
+-- value with `=` between.
+unfoldable pub name_met : List Known → List ℕ → Options → Option Reading
+name_met known name o =
+    if is_valued (has_value known name) then Some record { options = o; pending = Some name }
+    else settled (given_met known (Alone name) o)
 
-unfoldable pub option_met : List ℕ → Options → Option Reading
-option_met word o =
-    if bytes_eq word (codes "--serial") then settled (with_serial o)
-    else name_met word (position (λ b. b == 61) word) o
+abbrev pub parts_met : List Known → List ℕ → Option ℕ → Options → Option Reading
+parts_met known rest None o = name_met known rest o
+parts_met known rest (Some i) o =
+    settled (given_met known (Joined (take i rest) (drop (i + 1) rest)) o)
 
-abbrev pub word_met : List ℕ → Options → Option (List ℕ) → Option Reading
-word_met word o None = option_met word o
-word_met word o (Some name) = settled (with_value name word o)
+abbrev pub behind_hyphens : List ℕ → Option (List ℕ)
+behind_hyphens word = option_and_then (strip_byte 45) (strip_byte 45 word)
 
-abbrev pub words_met : List (List ℕ) → Reading → Option Reading
-words_met [] r = Some r
-words_met (word ∷ words) r = word_met word r.options r.pending >>= words_met words
+abbrev pub rest_met : List Known → Option (List ℕ) → Options → Option Reading
+rest_met known None o = None
+rest_met known (Some rest) o = parts_met known rest (position (λ b. b == 61) rest) o
+
+unfoldable pub option_met : List Known → List ℕ → Options → Option Reading
+option_met known word o = rest_met known (behind_hyphens word) o
+
+abbrev pub word_met : List Known → List ℕ → Options → Option (List ℕ) → Option Reading
+word_met known word o None = option_met known word o
+word_met known word o (Some name) = settled (given_met known (Apart name word) o)
+
+abbrev pub words_met : List Known → List (List ℕ) → Reading → Option Reading
+words_met known [] r = Some r
+words_met known (word ∷ words) r =
+    word_met known word r.options r.pending >>= words_met known words
 
 -- The options that the words are, if they are options.
 abbrev pub options_at_end : Options → Option (List ℕ) → Option Options
 options_at_end o None = Some o
 options_at_end o (Some name) = None
 
-abbrev pub options_met : List (List ℕ) → Option Options
-options_met words =
-    words_met words (record { options = no_options; pending = None }) >>= λ r.
+abbrev pub options_met : List Known → List (List ℕ) → Option Options
+options_met known words =
+    words_met known words (record { options = no_options; pending = None }) >>= λ r.
     options_at_end r.options r.pending
 
 -- What the words behind `play` and behind `check` ask for, where they are of its form.
 abbrev pub play_of : List (List ℕ) → Option PlayWords
-play_of words = options_met words >>= asked_by
-
-abbrev pub has_others : Options → Bool
-has_others o = is_some o.input || (is_some o.output || (is_some o.trace || (is_some o.only
-    || (is_some o.drop || (is_some o.begin || (is_some o.end || o.serial))))))
-
-abbrev pub check_words : Options → Option CheckWords
-check_words o = if has_others o then None
-    else option_map (λ dag. record { dag = dag; sched = o.sched }) o.dag
+play_of words = options_met play_options words >>= asked_by
 
 abbrev pub check_of : List (List ℕ) → Option CheckWords
-check_of words = options_met words >>= check_words
+check_of words = options_met check_options words >>= check_asked
 
 -- What the words ask for: the first one names the command, and those behind it are of its form.
 abbrev pub command_of : List (List ℕ) → Option Command

@@ -1,7 +1,6 @@
 // The values that `clap` keeps.
 ghost use Rattle.std.specs.Prelude.{◌≡◌, option_map};
-ghost use Rattle.clap.specs.Words.{first_of, found_of, one_of, rows_of};
-ghost use Rattle.cy_words.specs.Kept.{IsFlag, is_set};
+ghost use Rattle.clap.specs.Words.{first_of, found_of, rows_of};
 
 use clap::ArgMatches;
 
@@ -10,12 +9,4 @@ pub(crate) fn value_of<'a>(matches: &ArgMatches<'a>, name: &str) -> Option<&'a s
     ensures { option_map (λ v. v.now) result ≡ first_of name.now (rows_of (found_of matches.now)) }
 {
     matches.get_str(name)
-}
-
-/// Whether a flag is given.
-pub(crate) fn is_given(matches: &ArgMatches, name: &str) -> bool
-    requires { IsFlag (one_of name.now (rows_of (found_of matches.now))) }
-    ensures { result ≡ is_set (one_of name.now (rows_of (found_of matches.now))) }
-{
-    matches.get_flag(name)
 }

@@ -28,18 +28,8 @@ impl<'a> Play<'a> {
         if from == to {
             return None;
         }
-        let play = Play {
-            components: Components::Pass { from, to },
-            input,
-            output,
-            trace,
-            only: None,
-            drop: None,
-            begin: 0,
-            end: u64::MAX,
-            serial: true,
-        };
-        play.where_in_form()
+        let components = Components::Pass { from, to };
+        Play::of_all(components, input, output, trace).where_in_form()
     }
 
     // What the values ask for that `clap` keeps behind `pass`.

@@ -1,19 +1,36 @@
 // The words of `play`.
-ghost use Rattle.std.specs.Prelude.{◌≡◌, option_map};
+ghost use Rattle.std.specs.Prelude.{◌≡◌, is_some, option_map};
 ghost use Rattle.cy_request.specs.Request.{components_of};
 ghost use Rattle.clap.specs.Words.{found_of, rows_of};
-ghost use Rattle.cy_words.specs.Kept.{IsFlag, flag_kept, play_in};
+ghost use Rattle.cy_words.specs.Kept.{play_in};
 ghost use Rattle.cy_words.specs.PlayWords.{with_digit, number_of, number_or, is_list};
 ghost use Rattle.cy_words.specs.PlayWords.{is_list_or_none, is_no_config, is_other, is_play};
 ghost use Rattle.cy_words.specs.PlayWords.{is_some_of};
-ghost use Rattle.cy_words.specs.PlayWords.{where_play, play_words, asked_by};
-ghost use Rattle.cy_words.specs.PlayViews.{play_words_of, options_of};
+ghost use Rattle.cy_words.specs.PlayWords.{are_lists, asked_by, play_options, play_words};
+ghost use Rattle.cy_words.specs.PlayWords.{where_play};
+ghost use Rattle.cy_words.specs.PassWords.{play_of_all};
+ghost use Rattle.cy_words.specs.PlayViews.{play_words_of};
+ghost use Rattle.cy_words.specs.OptionViews.{values_of};
 ghost use Rattle.cy_words.specs.Scan.{play_of};
 
-use crate::options::{Options, options_met};
+use crate::options::{Known, Values, options_met};
 use clap::ArgMatches;
 use cy_msg::Text;
 use cy_request::Components;
+
+/// The options of `play`.
+pub(crate) const PLAY: [Known; 10] = [
+    ("dag", true),
+    ("sched", true),
+    ("record", true),
+    ("out", true),
+    ("trace", true),
+    ("channels", true),
+    ("drop", true),
+    ("begin", true),
+    ("end", true),
+    ("serial", false),
+];
 
 /// What is asked of a play: its components, names of files, and which messages are let through.
 #[derive(Clone, Copy)]
@@ -116,6 +133,31 @@ fn is_no_config(name: &str, components: &Components) -> bool
     }
 }
 
+impl<'a> Play<'a> {
+    // A serial play of all messages.
+    pub(crate) fn of_all(
+        components: Components<'a>,
+        input: &'a str,
+        output: &'a str,
+        trace: &'a str,
+    ) -> Self
+        ensures { play_words_of result
+            ≡ play_of_all (components_of components.entry) input.now output.now trace.now }
+    {
+        Play {
+            components,
+            input,
+            output,
+            trace,
+            only: None,
+            drop: None,
+            begin: 0,
+            end: u64::MAX,
+            serial: true,
+        }
+    }
+}
+
 #[tactic(auto, unfolding(crate::specs::PlayWords::is_play))]
 impl<'a> Play<'a> {
     // Whether a name is none of those that are read.
@@ -140,47 +182,85 @@ impl<'a> Play<'a> {
     }
 }
 
-impl<'a> Options<'a> {
-    // The words that every play has.
-    fn words(self) -> Option<Play<'a>>
-        ensures { option_map play_words_of result ≡ play_words (options_of self.entry) }
-    {
-        let dag = self.dag?;
-        Some(Play {
-            input: self.input?,
-            output: self.output?,
-            trace: self.trace?,
-            begin: number_or(0, self.begin)?,
-            end: number_or(u64::MAX, self.end)?,
-            components: Components::Files {
-                dag,
-                sched: self.sched,
-            },
-            only: self.only,
-            drop: self.drop,
-            serial: self.serial,
-        })
-    }
+// The value of an option.
+fn value<'a>(values: Values<'_, 'a>, name: &str) -> Option<&'a str>
+    ensures { option_map (λ v. v.now) result ≡ values_of play_options values.entry name.now }
+{
+    values.of(&PLAY, name)
+}
 
-    // What the options ask for.
-    #[tactic(auto, unfolding(crate::specs::PlayWords::asked_by))]
-    fn asked(self) -> Option<Play<'a>>
-        ensures { option_map play_words_of result ≡ asked_by (options_of self.entry) }
-    {
-        if !(is_list_or_none(self.only) && is_list_or_none(self.drop)) {
-            return None;
-        }
-        self.words()?.where_in_form()
+// Whether an option is given.
+fn is_given(values: Values, name: &str) -> bool
+    ensures { result ≡ is_some (values_of play_options values.entry name.now) }
+{
+    value(values, name).is_some()
+}
+
+// The number that an option gives, or what stands for it where it isn't given.
+fn number(values: Values, absent: u64, name: &str) -> Option<u64>
+    ensures { result ≡ number_or absent (values_of play_options values.entry name.now) }
+{
+    number_or(absent, value(values, name))
+}
+
+// Whether an option has no list with an empty name.
+fn has_list(values: Values, name: &str) -> bool
+    ensures { result ≡ is_list_or_none (values_of play_options values.entry name.now) }
+{
+    is_list_or_none(value(values, name))
+}
+
+// Whether the lists of channels have no empty names.
+fn are_lists(values: Values) -> bool
+    ensures { result ≡ are_lists (values_of play_options values.entry) }
+{
+    has_list(values, "channels") && has_list(values, "drop")
+}
+
+// What the options say, where those are given that every play has.
+fn play_with<'a>(values: Values<'_, 'a>) -> Option<Play<'a>>
+    ensures { option_map play_words_of result ≡ play_words (values_of play_options values.entry) }
+{
+    let dag = value(values, "dag")?;
+    let input = value(values, "record")?;
+    let output = value(values, "out")?;
+    let trace = value(values, "trace")?;
+    let begin = number(values, 0, "begin")?;
+    let end = number(values, u64::MAX, "end")?;
+    let sched = value(values, "sched");
+    let only = value(values, "channels");
+    let drop = value(values, "drop");
+    let serial = is_given(values, "serial");
+    Some(Play {
+        components: Components::Files { dag, sched },
+        input,
+        output,
+        trace,
+        only,
+        drop,
+        begin,
+        end,
+        serial,
+    })
+}
+
+// What the options ask for.
+#[tactic(auto, unfolding(crate::specs::PlayWords::asked_by))]
+fn asked<'a>(values: Values<'_, 'a>) -> Option<Play<'a>>
+    ensures { option_map play_words_of result ≡ asked_by (values_of play_options values.entry) }
+{
+    if !are_lists(values) {
+        return None;
     }
+    play_with(values)?.where_in_form()
 }
 
 impl<'a> Play<'a> {
     // What the values ask for that `clap` keeps behind `play`.
     pub(crate) fn of(matches: &ArgMatches<'a>) -> Option<Self>
-        requires { IsFlag (flag_kept (rows_of (found_of matches.now))) }
         ensures { option_map play_words_of result ≡ play_in (rows_of (found_of matches.now)) }
     {
-        Options::of(matches).asked()
+        asked(Values::Kept(matches))
     }
 }
 
@@ -188,5 +268,6 @@ impl<'a> Play<'a> {
 pub(crate) fn play_words<'a>(words: &'a [Text]) -> Option<Play<'a>>
     ensures { option_map play_words_of result ≡ play_of words.now }
 {
-    options_met(words)?.asked()
+    let options = options_met(&PLAY, words)?;
+    asked(Values::Met(&options))
 }

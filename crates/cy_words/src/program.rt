@@ -5,17 +5,16 @@ ghost use Rattle.clap.specs.declared.builder.command.Command.TheViews.{out-Comma
 ghost use Rattle.clap.specs.Words.{subcommand_of, takes, with_rule};
 ghost use Rattle.clap.specs.Walk.{texts};
 ghost use Rattle.cy_words.specs.Program.{IsCommand, check_app, info_app, make_app};
-ghost use Rattle.cy_words.specs.Program.{flag_rule, option_rule, pass_app, play_app, program};
-ghost use Rattle.cy_words.specs.Program.{serial_name};
+ghost use Rattle.cy_words.specs.Program.{option_rule, pass_app, play_app, program};
+ghost use Rattle.cy_words.specs.Options.{flag, valued};
+ghost use Rattle.cy_words.specs.OptionViews.{known_as, table_of};
 
 use crate::WordsError;
+use crate::check_words::CHECK;
+use crate::options::Known;
+use crate::play_words::PLAY;
 use clap::{Arg, ArgAction, ArgMatches, Command};
 use std::alloc::{AllocError, Global};
-
-// The options with a value: those of `check`, and the others that `play` has too.
-const FILES: [&str; 2] = ["dag", "sched"];
-
-const OTHERS: [&str; 7] = ["record", "out", "trace", "channels", "drop", "begin", "end"];
 
 // The words of `pass` and of `make`, in their order.
 const PASSED: [&str; 5] = ["record", "out", "trace", "from", "to"];
@@ -24,35 +23,46 @@ const MADE: [&str; 2] = ["count", "prefix"];
 
 // An option with a value.
 fn value_option<'a>(alloc: Global, name: &'a str) -> Arg<'a>
-    ensures rule { rule_of result ≡ option_rule name.entry.now }
+    ensures rule { rule_of result ≡ option_rule (valued name.entry.now) }
     ensures local { result.global ≡ false }
 {
     Arg::new(alloc, name).long(name)
 }
 
-// The flag `--serial`.
-fn serial_flag<'a>(alloc: Global) -> Arg<'a>
-    ensures rule { rule_of result ≡ flag_rule serial_name }
+// An option without one.
+fn flag<'a>(alloc: Global, name: &'a str) -> Arg<'a>
+    ensures rule { rule_of result ≡ option_rule (flag name.entry.now) }
     ensures local { result.global ≡ false }
 {
-    Arg::new(alloc, "serial")
-        .long("serial")
-        .action(ArgAction::SetTrue)
+    Arg::new(alloc, name).long(name).action(ArgAction::SetTrue)
 }
 
-// A command with further options that have a value.
+// An option that a command knows.
+fn option<'a>(alloc: Global, known: Known) -> Arg<'a>
+    ensures rule { rule_of result ≡ option_rule (known_as known.entry) }
+    ensures local { result.global ≡ false }
+{
+    let (name, has_value) = known;
+    if has_value {
+        value_option(alloc, name)
+    } else {
+        flag(alloc, name)
+    }
+}
+
+// A command with options.
 fn with_options<'a>(
     alloc: Global,
     mut command: Command<'a>,
-    names: &[&'a str],
+    known: &[Known],
 ) -> Result<Command<'a>, AllocError>
     ensures app { IfOk result (λ c. app_of c
-        ≡ fold with_rule (app_of command.entry) (map option_rule (texts names.now))) }
+        ≡ fold with_rule (app_of command.entry) (map option_rule (table_of known.now))) }
     ensures local { IfOk result (λ c. (out-Command c).has_globals
         ≡ (out-Command command.entry).has_globals) }
 {
-    for name in names {
-        command = command.arg(value_option(alloc, name))?;
+    for one in known {
+        command = command.arg(option(alloc, *one))?;
     }
     Ok(command)
 }
@@ -77,15 +87,13 @@ fn with_places<'a>(
 fn check<'a>(alloc: Global) -> Result<Command<'a>, AllocError>
     ensures { IfOk result (IsCommand check_app) }
 {
-    with_options(alloc, Command::new(alloc, "check"), &FILES)
+    with_options(alloc, Command::new(alloc, "check"), &CHECK)
 }
 
 fn play<'a>(alloc: Global) -> Result<Command<'a>, AllocError>
     ensures { IfOk result (IsCommand play_app) }
 {
-    let command = with_options(alloc, Command::new(alloc, "play"), &FILES)?;
-    let command = with_options(alloc, command, &OTHERS)?;
-    command.arg(serial_flag(alloc))
+    with_options(alloc, Command::new(alloc, "play"), &PLAY)
 }
 
 fn info<'a>(alloc: Global) -> Result<Command<'a>, AllocError>

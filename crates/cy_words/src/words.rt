@@ -1,7 +1,7 @@
 // The words that the program takes, command by command.
 ghost use Rattle.std.specs.Prelude.{◌≡◌, ◌∷◌, option_map};
 ghost use Rattle.clap.specs.Words.{found_of, rows_of};
-ghost use Rattle.cy_words.specs.Kept.{IsFlag, asked_in, flag_kept, info_in};
+ghost use Rattle.cy_words.specs.Kept.{asked_in, info_in};
 ghost use Rattle.cy_words.specs.Words.{is_word, info_of};
 ghost use Rattle.cy_words.specs.Scan.{command_of, still_command_of};
 ghost use Rattle.cy_words.specs.Views.{info_words_of, command_asked};
@@ -110,7 +110,6 @@ pub(crate) fn still_command_of<'a>(words: &'a [Text]) -> Option<Command<'a>>
 impl<'a> Command<'a> {
     // What the values ask for that `clap` keeps for the command of a name.
     pub(crate) fn of(name: &str, matches: &ArgMatches<'a>) -> Option<Self>
-        requires { IsFlag (flag_kept (rows_of (found_of matches.now))) }
         ensures { option_map command_asked result
             ≡ asked_in name.now (rows_of (found_of matches.now)) }
     {

@@ -1,9 +1,8 @@
 use Rattle.std.proofs.Common.{◌≡◌, ◌∙◌, List, Some, true, is_some, option_map, ap, subst, sym}
 use Rattle.std.specs.Borrow.{Bor}
-use Rattle.clap.specs.Walk.{Row, texts}
+use Rattle.clap.specs.Walk.{texts}
 use Rattle.clap.specs.Words.{Text, found_of, rows_of, subcommand_of, takes}
 use Rattle.cy_words.specs.Command.{Asks}
-use Rattle.cy_words.specs.Kept.{IsFlag, flag_kept}
 use Rattle.cy_words.specs.Program.{program}
 use Rattle.cy_words.specs.Scan.{command_of}
 use Rattle.cy_words.specs.Views.{command_asked}
@@ -19,12 +18,6 @@ matches_of-requires-clause-taken c =
 pub matches_of-requires-clause-named : goal.matches_of-requires-clause-named
 matches_of-requires-clause-named c =
     subst (λ (l : List (Bor Text)). is_some (subcommand_of program (texts l)) ≡ true) (sym c.as_slice.ensures.value) (all_read c.self.inside.words.items c.self.inside.asks).named
-
-pub of-requires : goal.of-requires
-of-requires c =
-    let r = all_read c.self.inside.words.items c.self.inside.asks in
-    let kept = same_kept c.self.inside.words.items c.as_slice.result.now r (rows_of (found_of c.in_ok-found.found)) c.as_slice.ensures.value c.in_ok-found.ensures in
-    subst (λ (rows : List Row). IsFlag (flag_kept rows)) (sym kept) r.flag
 
 found_is : (c : goal.After-of) → option_map command_asked c.of.result ≡ command_of (texts c.self.inside.words.items)
 found_is c =
