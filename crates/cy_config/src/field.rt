@@ -8,7 +8,7 @@ ghost use Rattle.cy_config.specs.declared.field.Field as field;
 use cy_text::{Tree, Value};
 
 /// What a field may hold. The messages of a format are told apart by an `M`.
-#[derive(Clone, Copy, Debug, PartialEq, Eq)]
+#[derive(Clone, Copy)]
 pub enum Kind<M> {
     /// A message with known fields.
     Message(M),
@@ -28,7 +28,7 @@ pub enum Kind<M> {
 }
 
 /// A field that a message may hold.
-#[derive(Clone, Copy, Debug, PartialEq, Eq)]
+#[derive(Clone, Copy)]
 pub struct Field<M> {
     /// Whether it may stand more than once. Of another field that does, the last one counts.
     pub repeated: bool,

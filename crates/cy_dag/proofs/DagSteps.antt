@@ -17,6 +17,10 @@ use Rattle.cy_dag.specs.declared.error.DagError.TheVariants.{Shape, Memory}
 pub none_due : (a b c : Option DagError) → a ≡ None → b ≡ None → c ≡ None → first_of (a ∷ b ∷ c ∷ []) ≡ None
 none_due a b c p q r = rw (p, q, r) refl
 
+pub first_due : (a b c : Option DagError) (e : DagError) → IsDue a e → IsDue (first_of (a ∷ b ∷ c ∷ [])) e
+first_due a b c Memory due = tt
+first_due a b c e due = rw due refl
+
 pub second_due : (a b c : Option DagError) (e : DagError) → a ≡ None → IsDue b e → IsDue (first_of (a ∷ b ∷ c ∷ [])) e
 second_due a b c Memory none due = tt
 second_due a b c e none due = rw (none, due) refl

@@ -9,4 +9,5 @@ pub mod Repeats
 pub mod Tested
 pub mod TriggerCycles
 pub mod TriggerSteps
+pub mod WireSteps
 pub mod WiringFacts

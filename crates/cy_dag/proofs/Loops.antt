@@ -1,5 +1,5 @@
 -- One item more of a list that is made item by item.
-use Rattle.std.proofs.Common.{ℕ, Bor, ◌≡◌, ◌+◌, ◌<◌, List, [], ◌∷◌, ◌++◌, length, map, take, get_or, refl, sym, ap, ◌∙◌, append-nil}
+use Rattle.std.proofs.Common.{ℕ, Bor, ◌≡◌, ◌+◌, ◌<◌, List, [], ◌∷◌, ◌++◌, length, map, take, get_or, refl, sym, ap, ◌∙◌, append_assoc, append-nil}
 use Rattle.std.proofs.lemmas.Grind.{flat_map-append}
 use Rattle.std.proofs.lemmas.List.{map-append, take_more}
 use Rattle.std.specs.List.{flat_map}
@@ -21,3 +21,26 @@ gathered_more {A} {B} f xs k x ys more zs there here before is joined =
     ap (flat_map f) shown ∙ flat_map-append f old (x.now ∷ []) ∙ ap (λ (bs : List B). flat_map f old ++ bs) (append-nil (f x.now)) in
     ap (map (λ (m : Bor B). m.now)) joined ∙ map-append (λ (m : Bor B). m.now) ys more ∙ ap (λ (bs : List B). bs ++ map (λ (m : Bor B). m.now) more) before
     ∙ ap (λ (bs : List B). flat_map f old ++ bs) is ∙ sym gives
+
+-- The same of a list of items.
+pub pushed_more : {A B : Type 0} (f : A → B) (xs : List A) (k : ℕ) (x : A) (ys zs : List B) (y : B) → k < length xs → x ≡ get_or xs k x
+    → ys ≡ map f (take k xs) → y ≡ f x → zs ≡ ys ++ y ∷ [] → zs ≡ map f (take (k + 1) xs)
+pushed_more {A} {B} f xs k x ys zs y there here before is pushed =
+    let front : take (k + 1) xs ≡ take k xs ++ x ∷ [] = take_more xs k x there ∙ ap (λ (e : A). take k xs ++ e ∷ []) (sym here) in
+    rw (pushed, before, is, front, map-append f (take k xs) (x ∷ [])) refl
+
+-- The same of a list of references, behind what stood there.
+pub shown_more : {A B : Type 0} (f : A → B) (xs : List A) (k : ℕ) (x : A) (base : List B) (ys zs : List (Bor B)) (y : Bor B) → k < length xs → x ≡ get_or xs k x
+    → map (λ m. m.now) ys ≡ base ++ map f (take k xs) → y.now ≡ f x → zs ≡ ys ++ y ∷ [] → map (λ m. m.now) zs ≡ base ++ map f (take (k + 1) xs)
+shown_more {A} {B} f xs k x base ys zs y there here before is pushed =
+    let front : take (k + 1) xs ≡ take k xs ++ x ∷ [] = take_more xs k x there ∙ ap (λ (e : A). take k xs ++ e ∷ []) (sym here) in
+    ap (map (λ (m : Bor B). m.now)) pushed ∙ map-append (λ (m : Bor B). m.now) ys (y ∷ []) ∙ ap (λ (bs : List B). bs ++ y.now ∷ []) before
+    ∙ ap (λ (b : B). (base ++ map f (take k xs)) ++ b ∷ []) is ∙ append_assoc base (map f (take k xs)) (f x ∷ [])
+    ∙ ap (λ (bs : List B). base ++ bs) (sym (ap (map f) front ∙ map-append f (take k xs) (x ∷ [])))
+
+pub shown_one : {B : Type 0} (xs : List B) (k : ℕ) (x : B) (base : List B) (ys zs : List (Bor B)) (y : Bor B) → k < length xs → x ≡ get_or xs k x
+    → map (λ m. m.now) ys ≡ base ++ take k xs → y.now ≡ x → zs ≡ ys ++ y ∷ [] → map (λ m. m.now) zs ≡ base ++ take (k + 1) xs
+shown_one {B} xs k x base ys zs y there here before is pushed =
+    let front : take (k + 1) xs ≡ take k xs ++ x ∷ [] = take_more xs k x there ∙ ap (λ (e : B). take k xs ++ e ∷ []) (sym here) in
+    ap (map (λ (m : Bor B). m.now)) pushed ∙ map-append (λ (m : Bor B). m.now) ys (y ∷ []) ∙ ap (λ (bs : List B). bs ++ y.now ∷ []) before
+    ∙ ap (λ (b : B). (base ++ take k xs) ++ b ∷ []) is ∙ append_assoc base (take k xs) (x ∷ []) ∙ ap (λ (bs : List B). base ++ bs) (sym front)

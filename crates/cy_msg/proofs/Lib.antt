@@ -1,1 +1,2 @@
 pub mod OnceSteps
+pub mod Quoting

@@ -216,3 +216,11 @@ pub ranks_push : (homes : List Home) (component : ℕ) (ranks after : List (Reve
 ranks_push homes component ranks after rank d there number priority pushed have =
     let right : rank.0.0 ≡ (home_in homes rank.1).priority = priority ∙ sym (ap (λ (x : Home). x.priority) (ap (home_in homes) number ∙ home_is homes component d there)) in
     rw pushed (All-push (λ (r : Reverse ℕ × ℕ). r.0.0 ≡ (home_in homes r.1).priority) ranks rank have right)
+
+-- One component more.
+pub members_more : (homes : List Home) (context component : ℕ) (ranks after : List (Reverse ℕ × ℕ)) → map (λ r. r.1) ranks ≡ filter (is_member homes context) (numbers_below component)
+    → map (λ r. r.1) after ≡ map (λ r. r.1) ranks ++ filter (is_member homes context) (component ∷ []) → map (λ r. r.1) after ≡ filter (is_member homes context) (numbers_below (component + 1))
+members_more homes context component ranks after before pushed =
+    let member = is_member homes context in
+    pushed ∙ ap (λ (ns : List ℕ). ns ++ filter member (component ∷ [])) before
+    ∙ sym (ap (λ (k : ℕ). filter member (numbers_below k)) (add-one component) ∙ filter-append member (numbers_below component) (component ∷ []))

@@ -2,6 +2,7 @@ pub mod Pushes
 pub mod Utf8
 pub mod Values
 pub mod Strings
+pub mod StringEnds
 pub mod LiteralText
 pub mod TokenSteps
 pub mod Columns

@@ -1,0 +1,9 @@
+use Rattle.std.proofs.Common.{map}
+use Rattle.cy_dag.specs.declared.dag.DagReader.{DagReader}
+use Rattle.cy_dag.proofs.Loops.{shown_more}
+use Rattle.cy_dag.proofs.channels.push_readers.Goals as goal
+
+pub loop-reader-preserved : goal.loop-reader-preserved
+loop-reader-preserved c =
+    shown_more (λ (r : DagReader). r.channel) c.args.readers.now c.loop-reader.reader-index c.reader-item.result (map (λ m. m.now) c.args.mentions.now.items) c.loop-reader.mentions.items
+    c.push.new.self.items _ c.loop-reader-test.true c.reader-item.is c.loop-reader.invariant c.as_str.ensures.value c.in_ok-push.ensures.items

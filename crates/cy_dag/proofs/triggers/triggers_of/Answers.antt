@@ -1,0 +1,8 @@
+use Rattle.cy_dag.specs.Triggers.{trigger_of}
+use Rattle.cy_dag.proofs.Loops.{pushed_more}
+use Rattle.cy_dag.proofs.triggers.triggers_of.Goals as goal
+
+pub loop-component-preserved : goal.loop-component-preserved
+loop-component-preserved c =
+    pushed_more (trigger_of c.args.configs.now) c.args.components.now c.loop-component.component-index c.component-item.result c.loop-component.triggers.items c.push.new.self.items _
+    c.loop-component-test.true c.component-item.is c.loop-component.invariant c.trigger_of.ensures c.in_ok-push.ensures.items
