@@ -123,7 +123,7 @@ unplayed w p x world old mid new (failure.Store f) due line same some made run f
     let more = writes_by (play_made w) x world in
     let stops : StopsAt more at.0 mid.files new.files = subst (λ (q : PlayWords). StopsAt (writes_by q x world) at.0 mid.files new.files) same at.2 in
     let Q : Option Files → Type 0 = λ files. StopsAt more at.0 files new.files in
-    fails w x world old new at.0 _ due line some made run (at.1 ∙ ap (λ (q : PlayWords). name_of_play q f) same ∙ result_name w f) (rose_since (after_writes writes) old mid new first counts (rose f refl))
+    fails w x world old new at.0 (w.prefix ++ result_suffix f) due line some made run (at.1 ∙ ap (λ (q : PlayWords). name_of_play q f) same ∙ result_name w f) (rose_since (after_writes writes) old mid new first counts (rose f refl))
     (StopsAt-then writes more at.0 old.files new.files (subst Q first stops)) is.0 is.1
 unplayed w p x world old mid new failure.Memory due line same some made run first counts failed starved rose is =
     let writes = input_writes w.count w.prefix in

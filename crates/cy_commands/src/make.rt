@@ -8,8 +8,10 @@ ghost use Rattle.cy_commands.specs.Lines.{store_line};
 ghost use Rattle.cy_commands.specs.MakeEnds.{IsMade, IsDueUnmade, names_of};
 ghost use Rattle.cy_commands.specs.MakeEnds.{IsDueUnplayed, play_named, result_suffix};
 ghost use Rattle.cy_commands.specs.MakeWork.{play_made};
+ghost use Rattle.cy_commands.specs.PlayEnds.{HasRun};
 ghost use Rattle.cy_words.specs.PlayViews.{play_words_of};
 ghost use Rattle.cy_words.specs.Views.{make_words_of};
+ghost use Rattle.wake_core.specs.WorldOf.{plain_of};
 
 use crate::due::{Due, out_of_memory};
 use crate::failure::{Failure, File};
@@ -23,6 +25,7 @@ use cy_request::Components;
 use cy_store::{MemStore, Store};
 use cy_words::{Make, Play};
 use std::alloc::{AllocError, Global};
+use wake_core::World;
 
 // The names of the files that are played, and of those that are written for it.
 #[derive(Drop)]
@@ -33,16 +36,32 @@ struct Names {
     trace: Text,
 }
 
+// A prefix with each of two suffixes behind it.
+fn names_with(
+    alloc: Global,
+    prefix: &str,
+    first: &str,
+    second: &str,
+) -> Result<(Text, Text), AllocError>
+    ensures { IfOk result (λ names. (names.0 ≡ prefix.now ++ first.now)
+        × (names.1 ≡ prefix.now ++ second.now)) }
+{
+    let first = name_with(alloc, prefix, first)?;
+    Ok((first, name_with(alloc, prefix, second)?))
+}
+
 impl Names {
     // Those of a prefix.
     fn of(alloc: Global, prefix: &str) -> Result<Self, AllocError>
         ensures { IfOk result (λ n. n ≡ names_of prefix.now) }
     {
+        let (dag, input) = names_with(alloc, prefix, ".dag", ".record")?;
+        let (output, trace) = names_with(alloc, prefix, ".out", ".trace")?;
         Ok(Names {
-            dag: name_with(alloc, prefix, ".dag")?,
-            input: name_with(alloc, prefix, ".record")?,
-            output: name_with(alloc, prefix, ".out")?,
-            trace: name_with(alloc, prefix, ".trace")?,
+            dag,
+            input,
+            output,
+            trace,
         })
     }
 
@@ -142,6 +161,58 @@ fn due_unplayed<'a>(make: &Make<'a>, failure: Failure) -> Due<'a>
     }
 }
 
+// What is due once a replay of the files that are made was played: these files are written, and
+// behind them its record and its trace.
+fn due_made<'a, S: Store>(
+    alloc: Global,
+    make: &Make<'a>,
+    play: &Play,
+    store: &mut S,
+    replay: Replay,
+    world: &World,
+) -> Due<'a>
+    requires some { 0 < make.now.count }
+    requires few { make.now.count ≤ 1048576 }
+    requires play { play_words_of play.now ≡ play_made (make_words_of make.now) }
+    requires made { IsMade (make_words_of make.now) replay }
+    requires run { HasRun (play_words_of play.now).serial replay (plain_of world.now) }
+    ensures { IsDueFor (command.Make (make_words_of make.now)) (S.shows store.old)
+        (S.shows store.new) result.status (bytes_of_line result.line) }
+{
+    if let Err(error) = write_inputs(alloc, store, make.count, make.prefix) {
+        return due_unmade(make, error);
+    }
+    match write_both(alloc, store, play, replay, world) {
+        Ok(line) => Due {
+            status: Status::Done,
+            line: Line::Made(line),
+        },
+        Err(failure) => due_unplayed(make, failure),
+    }
+}
+
+// What is due for `make` with these words, by a play of the files that it makes.
+fn make_and_play<'a, S: Store>(
+    alloc: Global,
+    make: &Make<'a>,
+    play: &Play,
+    store: &mut S,
+) -> Due<'a>
+    requires some { 0 < make.now.count }
+    requires few { make.now.count ≤ 1048576 }
+    requires play { play_words_of play.now ≡ play_made (make_words_of make.now) }
+    ensures { IsDueFor (command.Make (make_words_of make.now)) (S.shows store.old)
+        (S.shows store.new) result.status (bytes_of_line result.line) }
+{
+    let Ok(replay) = set_up_made(alloc, make, play) else {
+        return out_of_memory();
+    };
+    let Ok(world) = played_world(alloc, play, &replay) else {
+        return out_of_memory();
+    };
+    due_made(alloc, make, play, store, replay, &world)
+}
+
 /// What is due for `make` with these words: it makes the files of a play of so many messages in
 /// memory, sets the play up from these texts and plays it. Then it writes the files, and behind
 /// them the record of all messages and the trace of all calls. It reads no file of the store.
@@ -154,21 +225,5 @@ pub fn run_make<'a, S: Store>(alloc: Global, make: &Make<'a>, store: &mut S) -> 
     let Ok(names) = Names::of(alloc, make.prefix) else {
         return out_of_memory();
     };
-    let play = names.play();
-    let Ok(replay) = set_up_made(alloc, make, &play) else {
-        return out_of_memory();
-    };
-    let Ok(world) = played_world(alloc, &play, &replay) else {
-        return out_of_memory();
-    };
-    if let Err(error) = write_inputs(alloc, store, make.count, make.prefix) {
-        return due_unmade(make, error);
-    }
-    match write_both(alloc, store, &play, replay, &world) {
-        Ok(line) => Due {
-            status: Status::Done,
-            line: Line::Made(line),
-        },
-        Err(failure) => due_unplayed(make, failure),
-    }
+    make_and_play(alloc, make, &names.play(), store)
 }

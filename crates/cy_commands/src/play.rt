@@ -31,7 +31,7 @@ use crate::line::Line;
 use crate::status::Status;
 use crate::summary::done_line;
 use crate::unset::due_unset;
-use cy_comp::{Call, Plan};
+use cy_comp::{Call, Plan, Wiring};
 use cy_msg::{Bytes, Items, Text};
 use cy_recording::{Played, played_places_are_there, write_record};
 use cy_replay::{Replay, SetupError, set_up};
@@ -180,22 +180,23 @@ fn calls_in(world: &World, plans: &[Plan]) -> u64
     count
 }
 
-// The trace of a replay's run and the line that tells of it. The record that was read and the play
-// list are given back first: the text may have their room.
+// The wiring of a replay. All else is given back: the text of the trace may have the room of the
+// record that was read and of the play list.
+fn wiring_of(replay: Replay) -> Wiring
+    ensures { result ≡ replay.wiring }
+{
+    let Replay { wiring, .. } = replay;
+    wiring
+}
+
+// The trace of a replay's run and the line that tells of it.
 fn tell_run(alloc: Global, play: &Play, replay: Replay, world: &World) -> Result<Told, Failure>
     requires { HasRun (play_words_of play.now).serial replay (plain_of world.now) }
     ensures told { IfOk result (IsTold replay (plain_of world.now)) }
     ensures only_memory { IsOkUnless result Failure.Memory }
 {
-    let Replay {
-        recorded,
-        wiring,
-        list,
-        ..
-    } = replay;
-    let shadowed = list.shadowed;
-    drop(recorded);
-    drop(list);
+    let shadowed = replay.list.shadowed;
+    let wiring = wiring_of(replay);
     let trace = match trace_text(alloc, world, &wiring, shadowed) {
         Ok(trace) => trace,
         Err(TraceError::Memory) => return Err(Failure::Memory),

@@ -70,6 +70,21 @@ fn pass_config(alloc: Global, to: &str, message_type: Text) -> Result<Config, Se
     })
 }
 
+// The component files: one, in the type that a record has for the channel that is read.
+fn pass_configs(
+    alloc: Global,
+    from: &str,
+    to: &str,
+    recorded: &Record,
+) -> Result<Items<Config>, SetupError>
+    ensures is { IfOk result (λ c. c ≡ config_of to.now (type_read recorded.now from.now) ∷ []) }
+    ensures only_memory { IsOkUnless result SetupError.Memory }
+{
+    let message_type = type_of(alloc, recorded, from)?;
+    let config = pass_config(alloc, to, message_type)?;
+    Ok(Items::new(vec![in alloc; config]?))
+}
+
 /// What configuration files would say of one component that passes the messages of a channel on to
 /// another, in the type that a record has for the first.
 #[tactic(auto, using(crate::proofs::PassTested::fit))]
@@ -85,12 +100,12 @@ pub(crate) fn pass_configuration(
     ensures placeable { IfOk result (λ c. IsPlaceable c.sched) }
     ensures only_memory { IsOkUnless result SetupError.Memory }
 {
-    let message_type = type_of(alloc, recorded, from)?;
-    let config = pass_config(alloc, to, message_type)?;
+    let configs = pass_configs(alloc, from, to, recorded)?;
+    let dag = pass_dag(alloc, from)?;
     let sched = default_scheduler(alloc)?;
     Ok(Configuration {
-        dag: pass_dag(alloc, from)?,
-        configs: Items::new(vec![in alloc; config]?),
+        dag,
+        configs,
         sched,
     })
 }
