@@ -1,10 +1,11 @@
 #!/usr/bin/env bash
-# Lists the functions of a crate whose proofs take longest, by a check on one processor that begins with nothing.
+# Lists what takes longest in a check of a crate, on one processor and from nothing: lemma files, definitions and the parts of each
+# function's proof. What a check keeps it writes module by module, so the time of a module is that between its file and the one before.
 # Usage: bench/slowest.sh CRATE [HOW_MANY]
 set -euo pipefail
 top=$(cd "$(dirname "$0")/.." && pwd)
 name=$1
-many=${2:-10}
+many=${2:-20}
 work=$(mktemp -d)
 trap 'rm -rf "$work"' EXIT
 
@@ -18,19 +19,18 @@ for root in src/lib.rt src/main.rt; do
   fi
 done
 
-rt check --jobs 1 --progress 2>&1 | python3 -c '
-import sys, time
-last, took = time.monotonic(), []
-for line in sys.stdin:
-    now = time.monotonic()
-    if line.startswith("checked "):
-        took.append((now - last, line[8:].rsplit(",", 1)[0]))
-        last = now
-    elif line.startswith(("rt:", "so far: 0 ", "ahead ")):
-        last = now
-    elif "proved" in line and line.startswith("logic="):
-        print(line.split()[0])
-print(f"{len(took)} proofs, {sum(it for it, _ in took):.0f} seconds")
-for seconds, function in sorted(took, reverse=True)[: int(sys.argv[1])]:
-    print(f"{seconds:8.1f}  {function}")
-' "$many"
+rt check --jobs 1 >check.log 2>&1 || { tail -n 5 check.log; exit 1; }
+grep -o '^logic=[a-z]*' check.log
+
+python3 - "$name" "$many" <<'END'
+import collections, pathlib, sys
+
+name, many = sys.argv[1], int(sys.argv[2])
+files = sorted((it.stat().st_mtime, it.name) for it in pathlib.Path("out/incremental").rglob("*.oantt"))
+took = collections.Counter()
+for (before, _), (after, file) in zip(files, files[1:]):
+    took[file.removesuffix(".oantt").removesuffix(".decls").replace(f"Rattle-{name}-", "")] += after - before
+print(f"{len(took)} modules, {sum(took.values()):.0f} seconds")
+for module, seconds in took.most_common(many):
+    print(f"{seconds:8.1f}  {module}")
+END
