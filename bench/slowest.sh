@@ -20,7 +20,7 @@ for root in src/lib.rt src/main.rt; do
 done
 
 rt check --jobs 1 >check.log 2>&1 || { tail -n 5 check.log; exit 1; }
-grep -o '^logic=[a-z]*' check.log
+grep -o '^logic=[a-z]*' check.log | tail -n 1
 
 python3 - "$name" "$many" <<'END'
 import collections, pathlib, sys
