@@ -1,3 +1,4 @@
+pub mod AskedShort
 pub mod CheckExits
 pub mod Commas
 pub mod DoneLine

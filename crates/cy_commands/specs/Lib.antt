@@ -1,3 +1,4 @@
+pub mod Begun
 pub mod Check
 pub mod CheckEnds
 pub mod Due

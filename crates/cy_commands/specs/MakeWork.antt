@@ -1,15 +1,18 @@
 -- What `make` makes.
-use Rattle.std.specs.Prelude.{◌≡◌, ◌++◌, true, codes, Some, None}
+use Rattle.std.specs.Prelude.{ℕ, ◌≡◌, ◌≤◌, ◌++◌, true, List, length, codes, Some, None}
 use Rattle.std.specs.FinMap.{empty}
 use Rattle.cy_store.specs.Files.{Files}
 use Rattle.cy_store.specs.Write.{after_writes}
 use Rattle.cy_section.specs.RecordText.{IsRecordText}
+use Rattle.cy_make.specs.declared.config.Config.{Config}
 use Rattle.cy_make.specs.declared.config.Config.TheVariants.{Dag}
 use Rattle.cy_make.specs.Messages.{channels_of, messages_to}
-use Rattle.cy_make.specs.Texts.{suffix_of}
+use Rattle.cy_make.specs.Texts.{suffix_of, text_of}
 use Rattle.cy_make.specs.Inputs.{record_name, made_record, input_writes, with_inputs}
+use Rattle.cy_replay.specs.declared.text.TheConstants.{LONGEST_CONFIG}
 use Rattle.cy_request.specs.Request.{OfFiles}
 use Rattle.cy_commands.specs.Work.{Work}
+use Rattle.cy_words.specs.Command.{Asks, Make}
 use Rattle.cy_words.specs.MakeWords.{MakeWords}
 use Rattle.cy_words.specs.PassWords.{all_messages}
 use Rattle.cy_words.specs.PlayWords.{PlayWords}
@@ -44,3 +47,9 @@ pub record IsMakeWork (w : MakeWords) (work : Work) : Type 0 where
   pub leaves : (m : Files) → after_writes work.writes m
       ≡ after_writes played.writes (with_inputs w.count w.prefix m)
   pub text : work.text ≡ played.text
+
+-- No configuration file that is made is longer than one that is read may be, whatever words ask
+-- for it.
+abbrev pub AskedTextsAreShort : Type 0
+AskedTextsAreShort = (words : List (List ℕ)) (w : MakeWords) (c : Config) → Asks words (Make w)
+    → length (text_of w.prefix c) ≤ LONGEST_CONFIG

@@ -35,8 +35,16 @@ fn read_files<S: Store>(
     ensures placeable { IfOk result (λ c. IsPlaceable c.sched) }
 {
     let configuration = read_configuration(alloc, store, check.dag, check.sched)?;
-    let _wiring = wire_components(alloc, check.dag, &configuration, &[])?;
-    Ok(configuration)
+    match wire_components(alloc, check.dag, &configuration, &[]) {
+        Ok(wiring) => {
+            drop(wiring);
+            Ok(configuration)
+        }
+        Err(error) => {
+            drop(configuration);
+            Err(error)
+        }
+    }
 }
 
 // The fields of a scheduler file that aren't known.
@@ -85,11 +93,16 @@ pub fn run_check<'a, S: Store>(alloc: Global, check: &Check<'a>, store: &mut S) 
         Ok(configuration) => configuration,
         Err(error) => return due_unset(alloc, error),
     };
-    match text_of(alloc, check, &configuration) {
+    let text = text_of(alloc, check, &configuration);
+    drop(configuration);
+    match text {
         Ok(text) => Due {
             status: Status::Done,
             line: Line::Made(text),
         },
-        Err(_) => out_of_memory(),
+        Err(error) => {
+            drop(error);
+            out_of_memory()
+        }
     }
 }

@@ -24,7 +24,9 @@ pub fn run_info<'a, S: Store>(alloc: Global, info: &Info<'a>, store: &mut S) -> 
         Ok(record) => record,
         Err(error) => return due_unset(alloc, error),
     };
-    match record.info(alloc) {
+    let text = record.info(alloc);
+    drop(record);
+    match text {
         Ok(text) => Due {
             status: Status::Done,
             line: Line::Made(text),

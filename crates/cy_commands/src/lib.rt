@@ -7,12 +7,14 @@
 //! told.
 #![tactic(auto)]
 
-mod asked;
+mod alone;
+mod begun;
 mod check;
 mod due;
 mod failure;
 mod fault_text;
 mod info;
+mod laws;
 mod line;
 mod make;
 mod play;
@@ -20,10 +22,11 @@ mod status;
 mod summary;
 mod unset;
 
-pub use asked::{due_for, due_of, misused};
+pub use alone::due_of;
+pub use begun::{Begun, begin};
 pub use due::{Due, out_of_memory};
 pub use fault_text::OUTPUT_LINE;
+pub use laws::asked_texts_are_short;
 pub use line::Line;
-pub use play::{due_played, opening, played_world, read_files};
+pub use play::{due_played, opening, played_world};
 pub use status::Status;
-pub use unset::due_unset;

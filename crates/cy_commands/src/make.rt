@@ -95,12 +95,18 @@ fn set_up_made(alloc: Global, make: &Make, play: &Play) -> Result<Replay, Failur
 {
     let mut drafts = MemStore::new(alloc);
     let Ok(()) = write_inputs(alloc, &mut drafts, make.count, make.prefix) else {
+        drop(drafts);
         return Err(Failure::Memory);
     };
-    match read_files(alloc, &mut drafts, play) {
+    let replay = read_files(alloc, &mut drafts, play);
+    drop(drafts);
+    match replay {
         Ok(replay) => Ok(replay),
         // No call of these drafts fails, and no text of theirs is refused.
-        Err(_) => Err(Failure::Memory),
+        Err(error) => {
+            drop(error);
+            Err(Failure::Memory)
+        }
     }
 }
 
@@ -180,6 +186,7 @@ fn due_made<'a, S: Store>(
         (S.shows store.new) result.status (bytes_of_line result.line) }
 {
     if let Err(error) = write_inputs(alloc, store, make.count, make.prefix) {
+        drop(replay);
         return due_unmade(make, error);
     }
     match write_both(alloc, store, play, replay, world) {
@@ -208,9 +215,12 @@ fn make_and_play<'a, S: Store>(
         return out_of_memory();
     };
     let Ok(world) = played_world(alloc, play, &replay) else {
+        drop(replay);
         return out_of_memory();
     };
-    due_made(alloc, make, play, store, replay, &world)
+    let due = due_made(alloc, make, play, store, replay, &world);
+    drop(world);
+    due
 }
 
 /// What is due for `make` with these words: it makes the files of a play of so many messages in
@@ -225,5 +235,7 @@ pub fn run_make<'a, S: Store>(alloc: Global, make: &Make<'a>, store: &mut S) -> 
     let Ok(names) = Names::of(alloc, make.prefix) else {
         return out_of_memory();
     };
-    make_and_play(alloc, make, &names.play(), store)
+    let due = make_and_play(alloc, make, &names.play(), store);
+    drop(names);
+    due
 }

@@ -30,7 +30,6 @@ use crate::failure::{Failure, File};
 use crate::line::Line;
 use crate::status::Status;
 use crate::summary::done_line;
-use crate::unset::due_unset;
 use cy_comp::{Call, Plan, Wiring};
 use cy_msg::{Bytes, Items, Text};
 use cy_recording::{Played, played_places_are_there, write_record};
@@ -113,7 +112,11 @@ fn filter_of(alloc: Global, play: &Play) -> Result<Filter, SetupError>
 }
 
 /// Reads the files, and sets up what is played.
-pub fn read_files<S: Store>(alloc: Global, store: &mut S, play: &Play) -> Result<Replay, SetupError>
+pub(crate) fn read_files<S: Store>(
+    alloc: Global,
+    store: &mut S,
+    play: &Play,
+) -> Result<Replay, SetupError>
     requires { HasReader (play_words_of play.now).request.components }
     ensures comes { ComesTo replayed (replayed_in (play_words_of play.now))
         (IsAsked (play_words_of play.now).request (S.shows store.old).files)
@@ -126,7 +129,9 @@ pub fn read_files<S: Store>(alloc: Global, store: &mut S, play: &Play) -> Result
         input: play.input,
         filter: &filter,
     };
-    set_up(alloc, store, &request)
+    let replay = set_up(alloc, store, &request);
+    drop(filter);
+    replay
 }
 
 /// The world of a replay, in which nothing has happened.
@@ -249,6 +254,7 @@ pub(crate) fn write_both<S: Store>(
         list: &replay.list,
     };
     if let Err(error) = write_record(alloc, store, play.output, &played, world.tape_list()) {
+        drop(replay);
         return Err(unwritten(File::Output, error));
     }
     let told = tell_run(alloc, play, replay, world)?;
@@ -296,21 +302,23 @@ pub fn due_played<'a, S: Store>(
     }
 }
 
-/// What is due for a `play` with these words, or for `pass`, where one thread plays all: it sets up
-/// a replay, plays it, and writes the record of all messages and then the trace of all calls. All
-/// reading is done before the first file is made, and the record is written before anything else
-/// takes memory.
-pub fn run_play<'a, S: Store>(alloc: Global, play: &Play<'a>, store: &mut S) -> Due<'a>
-    requires { HasReader (play_words_of play.now).request.components }
-    ensures { IsDueFor (command.Play (play_words_of play.now)) (S.shows store.old)
+/// What is due once a replay that was set up was played serially, and written.
+pub(crate) fn due_played_alone<'a, S: Store>(
+    alloc: Global,
+    store: &mut S,
+    play: &Play<'a>,
+    replay: Replay,
+) -> Due<'a>
+    requires set_up { IsSetUp (play_words_of play.now).request.filter replay }
+    ensures { (before : StoreView) → SetsUp (play_words_of play.now) before (S.shows store.old)
+        (Ok replay) → IsDueFor (command.Play (play_words_of play.now)) before
         (S.shows store.new) result.status (bytes_of_line result.line) }
 {
-    let replay = match read_files(alloc, store, play) {
-        Ok(replay) => replay,
-        Err(error) => return due_unset(alloc, error),
-    };
     let Ok(world) = played_world(alloc, play, &replay) else {
+        drop(replay);
         return out_of_memory();
     };
-    due_played(alloc, store, play, replay, &world)
+    let due = due_played(alloc, store, play, replay, &world);
+    drop(world);
+    due
 }

@@ -1,41 +1,22 @@
 // The top calls.
 ghost use Rattle.std.specs.Prelude.{ℕ, ◌≡◌, List, Option};
-ghost use Rattle.cy_commands.specs.Due.{IsDue, IsDueFor};
+ghost use Rattle.cy_commands.specs.Due.{IsDue};
 ghost use Rattle.cy_commands.specs.Line.{bytes_of_line};
 ghost use Rattle.cy_words.specs.Asking.{IsReadAs};
 ghost use Rattle.cy_words.specs.Command as asked;
 ghost use Rattle.cy_words.specs.Command.{Asks, AsksStill, IsAsked};
-ghost use Rattle.cy_words.specs.Views.{command_asked, IsInForm};
 ghost use Rattle.cyber_cli.specs.Ends.{Answers, IsComplete};
 
 use crate::telling::tell;
-use crate::threads::run_play_with_threads;
-use cy_commands::{Due, Status, due_for, due_of, misused, out_of_memory};
+use crate::threads::due_played_with_threads;
+use cy_commands::{Begun, Due, Status, begin, due_of};
 use cy_msg::Text;
 use cy_run::Gate;
 use cy_store::{Sink, Store};
-use cy_words::{Command, CommandWords, WordsError};
+use cy_words::{CommandWords, WordsError};
 use std::alloc::Global;
 use std::sync::Wait;
 use std::thread::Threads;
-
-// Does a command with threads, and says which status is due.
-fn due_with<'a, S: Store, G: Gate, R: Threads + Wait + Sync>(
-    rt: &R,
-    alloc: Global,
-    command: &Command<'a>,
-    store: &mut S,
-    gate: &G,
-) -> Due<'a>
-    requires { IsInForm command.now }
-    ensures { IsDueFor (command_asked command.now) (S.shows store.old) (S.shows store.new)
-        result.status (bytes_of_line result.line) }
-{
-    match command {
-        Command::Play(play) => run_play_with_threads(rt, alloc, play, store, gate),
-        _ => due_for(alloc, command, store),
-    }
-}
 
 // Does what words that were read ask for, with threads, and says which status is due.
 fn due_with_threads<'s, S: Store, G: Gate, R: Threads + Wait + Sync>(
@@ -50,13 +31,11 @@ fn due_with_threads<'s, S: Store, G: Gate, R: Threads + Wait + Sync>(
         → IsDue command (S.shows store.old) (S.shows store.new) result.status
         (bytes_of_line result.line) }
 {
-    match read {
-        Ok(Some(words)) => match words.command(alloc) {
-            Ok(command) => due_with(rt, alloc, &command, store, gate),
-            Err(WordsError::Memory) => out_of_memory(),
-        },
-        Ok(None) => misused(),
-        Err(WordsError::Memory) => out_of_memory(),
+    match begin(alloc, read, store) {
+        Begun::Ended(due) => due,
+        Begun::SetUp(play, replay) => {
+            due_played_with_threads(rt, alloc, store, &play, replay, gate)
+        }
     }
 }
 

@@ -1,15 +1,15 @@
 // The command `play` on threads.
-ghost use Rattle.std.specs.Prelude.{◌≡◌, false, IfOk};
+ghost use Rattle.std.specs.Prelude.{◌≡◌, false, Ok, IfOk};
+ghost use Rattle.cy_store.specs.Store.{StoreView};
 ghost use Rattle.wake_core.specs.WorldOf.{plain_of};
-ghost use Rattle.cy_request.specs.Request.{HasReader};
 ghost use Rattle.cy_replay.specs.Setup.{IsSetUp};
 ghost use Rattle.cy_words.specs.Command as command;
 ghost use Rattle.cy_commands.specs.Due.{IsDueFor};
 ghost use Rattle.cy_commands.specs.Line.{bytes_of_line};
-ghost use Rattle.cy_commands.specs.PlayEnds.{HasRun};
+ghost use Rattle.cy_commands.specs.PlayEnds.{HasRun, SetsUp};
 ghost use Rattle.cy_words.specs.PlayViews.{play_words_of};
 
-use cy_commands::{Due, due_played, due_unset, opening, out_of_memory, played_world, read_files};
+use cy_commands::{Due, due_played, opening, out_of_memory, played_world};
 use cy_recording::played_places_are_there;
 use cy_replay::Replay;
 use cy_run::{Gate, run_threads};
@@ -64,25 +64,26 @@ fn world_as_asked<G: Gate, R: Threads + Wait + Sync>(
     }
 }
 
-/// What is due for a `play` with these words, or for `pass`, where there are threads: on these the
-/// components run, unless the play is serial. It may wait.
-pub fn run_play_with_threads<'a, S: Store, G: Gate, R: Threads + Wait + Sync>(
+/// What is due once a replay that was set up was played, on threads unless the play is serial, and
+/// written. It may wait.
+pub fn due_played_with_threads<'a, S: Store, G: Gate, R: Threads + Wait + Sync>(
     rt: &R,
     alloc: Global,
-    play: &Play<'a>,
     store: &mut S,
+    play: &Play<'a>,
+    replay: Replay,
     gate: &G,
 ) -> Due<'a>
-    requires { HasReader (play_words_of play.now).request.components }
-    ensures { IsDueFor (command.Play (play_words_of play.now)) (S.shows store.old)
+    requires set_up { IsSetUp (play_words_of play.now).request.filter replay }
+    ensures { (before : StoreView) → SetsUp (play_words_of play.now) before (S.shows store.old)
+        (Ok replay) → IsDueFor (command.Play (play_words_of play.now)) before
         (S.shows store.new) result.status (bytes_of_line result.line) }
 {
-    let replay = match read_files(alloc, store, play) {
-        Ok(replay) => replay,
-        Err(error) => return due_unset(alloc, error),
-    };
     let Ok(world) = world_as_asked(rt, alloc, play, &replay, gate) else {
+        drop(replay);
         return out_of_memory();
     };
-    due_played(alloc, store, play, replay, &world)
+    let due = due_played(alloc, store, play, replay, &world);
+    drop(world);
+    due
 }

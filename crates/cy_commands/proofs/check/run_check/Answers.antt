@@ -5,9 +5,9 @@ use Rattle.cy_commands.proofs.check.run_check.Goals as goal
 pub returns-in-Err : goal.returns-in-Err
 returns-in-Err g c = unset (check_words_of c.args.check.now) _ _ c.in-Err.error _ _ c.in-Err.ensures.comes c.due_unset.ensures
 
-pub returns-in-Ok-text_of : goal.returns-in-Ok-text_of
-returns-in-Ok-text_of g c = done (check_words_of c.args.check.now) c.in-Ok.configuration _ _ c.in-Ok-text_of.text c.in-Ok.ensures.comes c.in-Ok-text_of.ensures.text
+pub returns-in-Ok-text : goal.returns-in-Ok-text
+returns-in-Ok-text g c = done (check_words_of c.args.check.now) c.in-Ok.configuration _ _ c.in-Ok-text.text c.in-Ok.ensures.comes c.in-Ok-text.ensures.text
 
-pub returns : goal.returns
-returns g c =
+pub returns-in-Err-text : goal.returns-in-Err-text
+returns-in-Err-text g c =
     no_text (check_words_of c.args.check.now) c.in-Ok.configuration _ _ _ _ c.in-Ok.ensures.comes record { status = c.out_of_memory.ensures.status; told = c.out_of_memory.ensures.line }

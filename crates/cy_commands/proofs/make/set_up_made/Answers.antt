@@ -5,10 +5,10 @@ use Rattle.cy_words.specs.Views.{make_words_of}
 use Rattle.cy_commands.proofs.MakeExits.{made, has_reader}
 use Rattle.cy_commands.proofs.make.set_up_made.Goals as goal
 
-pub read_files-requires : goal.read_files-requires
-read_files-requires c = has_reader (make_words_of c.args.make.now) (play_words_of c.args.play.now) c.requires.play
+pub read_files-replay-requires : goal.read_files-replay-requires
+read_files-replay-requires c = has_reader (make_words_of c.args.make.now) (play_words_of c.args.play.now) c.requires.play
 
-pub returns-in-Ok-read_files-clause-made : goal.returns-in-Ok-read_files-clause-made
-returns-in-Ok-read_files-clause-made c =
-    made (make_words_of c.args.make.now) (play_words_of c.args.play.now) c.in-Ok-read_files.replay _ _ c.requires.play (ap (λ (m : Memory). (shows_of m).files) c.new-drafts.ensures) c.in-Ok.ensures.done
-    c.in-Ok-read_files.ensures.comes.accepted.1 c.in-Ok-read_files.ensures.set_up
+pub returns-in-Ok-replay-clause-made : goal.returns-in-Ok-replay-clause-made
+returns-in-Ok-replay-clause-made c =
+    made (make_words_of c.args.make.now) (play_words_of c.args.play.now) c.in-Ok-replay.replay _ _ c.requires.play (ap (λ (m : Memory). (shows_of m).files) c.new-drafts.ensures) c.in-Ok.ensures.done
+    c.in-Ok-replay.ensures.comes.accepted.1 c.in-Ok-replay.ensures.set_up
