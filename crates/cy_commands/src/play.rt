@@ -9,6 +9,7 @@ ghost use Rattle.wake_core.specs.LawfulRun.{Quiet};
 ghost use Rattle.wake_core.specs.Plain.{opening_world};
 ghost use Rattle.wake_core.specs.Rest.{run_shown};
 ghost use Rattle.wake_core.specs.Run.{routes_of};
+ghost use Rattle.wake_core.specs.Plain.{played_count};
 ghost use Rattle.wake_core.specs.WorldOf.{plain_of};
 ghost use Rattle.cy_trace.specs.TraceText.{trace_text as text_of};
 ghost use Rattle.cy_replay.specs.Comes.{ComesTo};
@@ -23,7 +24,7 @@ ghost use Rattle.cy_commands.specs.PlayEnds.{name_of_play, unwritten, writes_by}
 ghost use Rattle.cy_words.specs.PlayViews.{play_words_of};
 ghost use Rattle.cy_words.specs.PlayWords.{names_in};
 ghost use Rattle.cy_commands.specs.PlayWork.{replayed_in};
-ghost use Rattle.cy_commands.specs.Summary.{calls_from};
+ghost use Rattle.cy_commands.specs.Summary.{calls_from, done_line as line_of};
 
 use crate::due::{Due, out_of_memory, store_failed};
 use crate::failure::{Failure, File};
@@ -190,8 +191,45 @@ fn calls_in(world: &World, plans: &[Plan]) -> u64
 fn wiring_of(replay: Replay) -> Wiring
     ensures { result ≡ replay.wiring }
 {
-    let Replay { wiring, .. } = replay;
+    let Replay {
+        configuration,
+        recorded,
+        wiring,
+        placement,
+        list,
+        counts,
+    } = replay;
+    drop(configuration);
+    drop(recorded);
+    drop(placement);
+    drop(list);
+    drop(counts);
     wiring
+}
+
+// The trace of a world that was made for a wiring, and the line that tells of its run.
+fn tell_wired(alloc: Global, wiring: &Wiring, shadowed: u32, world: &World) -> Result<Told, Failure>
+    requires quiet { Quiet (plain_of world.now) }
+    requires routes { (plain_of world.now).routes ≡ routes_of wiring.now.plans }
+    requires channels { length (plain_of world.now).counts ≡ length wiring.now.names }
+    requires few { length wiring.now.plans ≤ 64 }
+    ensures trace { IfOk result (λ told. told.trace
+        ≡ text_of wiring.now.names wiring.now.plans shadowed (run_shown (plain_of world.now))) }
+    ensures line { IfOk result (λ told. told.line
+        ≡ line_of (played_count (plain_of world.now)) shadowed
+        (calls_from (run_shown (plain_of world.now)) 0 wiring.now.plans)
+        (length (plain_of world.now).tape)) }
+    ensures only_memory { IsOkUnless result Failure.Memory }
+{
+    let trace = match trace_text(alloc, world, wiring, shadowed) {
+        Ok(trace) => trace,
+        Err(TraceError::Memory) => return Err(Failure::Memory),
+        Err(TraceError::Bad { .. }) => unreachable!(),
+    };
+    let calls = calls_in(world, wiring.plans.as_slice());
+    let written = world.tape_list().len() as u64;
+    let line = done_line(alloc, world.played(), shadowed, calls, written)?;
+    Ok(Told { trace, line })
 }
 
 // The trace of a replay's run and the line that tells of it.
@@ -202,15 +240,9 @@ fn tell_run(alloc: Global, play: &Play, replay: Replay, world: &World) -> Result
 {
     let shadowed = replay.list.shadowed;
     let wiring = wiring_of(replay);
-    let trace = match trace_text(alloc, world, &wiring, shadowed) {
-        Ok(trace) => trace,
-        Err(TraceError::Memory) => return Err(Failure::Memory),
-        Err(TraceError::Bad { .. }) => unreachable!(),
-    };
-    let calls = calls_in(world, wiring.plans.as_slice());
-    let written = world.tape_list().len() as u64;
-    let line = done_line(alloc, world.played(), shadowed, calls, written)?;
-    Ok(Told { trace, line })
+    let told = tell_wired(alloc, &wiring, shadowed, world);
+    drop(wiring);
+    told
 }
 
 // A failure to write a file.

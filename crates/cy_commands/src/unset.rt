@@ -34,9 +34,9 @@ fn store_line(alloc: Global, file: &str) -> Result<Bytes, AllocError>
     Ok(Bytes::from_vec(line))
 }
 
-/// What is due where the files are not accepted.
-pub fn due_unset<'a>(alloc: Global, error: SetupError) -> Due<'a>
-    ensures { IsDueUnset error result.status (bytes_of_line result.line) }
+// What is due where the files are not accepted.
+fn due_of<'a>(alloc: Global, error: &SetupError) -> Due<'a>
+    ensures { IsDueUnset error.now result.status (bytes_of_line result.line) }
 {
     match error {
         SetupError::Refused(refusal) => match refusal.line(alloc) {
@@ -55,4 +55,13 @@ pub fn due_unset<'a>(alloc: Global, error: SetupError) -> Due<'a>
         },
         SetupError::Memory => out_of_memory(),
     }
+}
+
+/// What is due where the files are not accepted.
+pub fn due_unset<'a>(alloc: Global, error: SetupError) -> Due<'a>
+    ensures { IsDueUnset error result.status (bytes_of_line result.line) }
+{
+    let due = due_of(alloc, &error);
+    drop(error);
+    due
 }
