@@ -14,12 +14,13 @@ use std::process::ExitCode;
 // no known form.
 fn program_words(rt: &HostRuntime) -> Result<Vec<Text>, AllocError> {
     let mut words = Vec::new(rt.alloc());
-    let args = match env::args(rt) {
+    let mut args = match env::args(rt) {
         Ok(args) => args,
         Err(error) if error.kind() == ErrorKind::OutOfMemory => return Err(AllocError),
         Err(_) => return Ok(words),
     };
-    for word in args.skip(1) {
+    args.next();
+    for word in args {
         words.push(Text::from_string(word))?;
     }
     Ok(words)
