@@ -1,8 +1,8 @@
 // How the program's commands are told to `clap`.
 ghost use Rattle.std.specs.Prelude.{◌≡◌, Some, true, false, is_some, IfOk, fold, map, option_map};
-ghost use Rattle.clap.specs.Words.{app_of, found_of, new_rule, rows_of, rule_of};
+ghost use Rattle.clap.specs.Words.{App, app_of, found_of, new_rule, rows_of, rule_of};
 ghost use Rattle.clap.specs.declared.builder.command.Command.TheViews.{out-Command};
-ghost use Rattle.clap.specs.Words.{subcommand_of, takes, with_rule};
+ghost use Rattle.clap.specs.Words.{subcommand_of, takes, with_rule, with_subcommand};
 ghost use Rattle.clap.specs.Walk.{texts};
 ghost use Rattle.cy_words.specs.Program.{IsCommand, check_app, info_app, make_app};
 ghost use Rattle.cy_words.specs.Program.{option_rule, pass_app, play_app, program};
@@ -114,19 +114,36 @@ fn make<'a>(alloc: Global) -> Result<Command<'a>, AllocError>
     with_places(alloc, Command::new(alloc, "make"), &MADE)
 }
 
+// A program with a further command.
+fn with_command<'a>(
+    program: Command<'a>,
+    command: Result<Command<'a>, AllocError>,
+) -> Result<Command<'a>, AllocError>
+    ensures { (app : App) → IfOk command.entry (IsCommand app) → IfOk result (λ c. app_of c
+        ≡ with_subcommand (app_of program.entry) app.top) }
+{
+    match command {
+        Ok(command) => program.subcommand(command),
+        Err(error) => {
+            drop(program);
+            Err(error)
+        }
+    }
+}
+
 // The program: its words are those behind its name, a command stands first, and it has no help.
 fn program<'a>(alloc: Global) -> Result<Command<'a>, AllocError>
     ensures { IfOk result (λ c. app_of c ≡ program) }
 {
-    Command::new(alloc, "cyber")
+    let bare = Command::new(alloc, "cyber")
         .no_binary_name(true)
         .disable_help_flag(true)
-        .disable_help_subcommand(true)
-        .subcommand(play(alloc)?)?
-        .subcommand(check(alloc)?)?
-        .subcommand(info(alloc)?)?
-        .subcommand(pass(alloc)?)?
-        .subcommand(make(alloc)?)
+        .disable_help_subcommand(true);
+    let one = with_command(bare, play(alloc))?;
+    let two = with_command(one, check(alloc))?;
+    let three = with_command(two, info(alloc))?;
+    let four = with_command(three, pass(alloc))?;
+    with_command(four, make(alloc))
 }
 
 /// The matches of the command that the words name, which `clap` takes.
