@@ -1,7 +1,8 @@
--- How a fusion and a buffer grow.
-use Rattle.std.specs.Prelude.{ℕ, ◌≡◌, ◌≤◌, ◌+◌, ◌-◌, nat_lt, ◌||◌, if◌then◌else◌, List, [], ◌∷◌}
-use Rattle.std.specs.Prelude.{◌++◌, length, slice_get, None}
+-- How a fusion and a buffer grow, and what a fetch finds.
+use Rattle.std.specs.Prelude.{ℕ, ◌≡◌, ◌≢◌, ◌≤◌, ◌<◌, ◌+◌, ◌-◌, nat_lt, ◌||◌, if◌then◌else◌}
+use Rattle.std.specs.Prelude.{List, [], ◌∷◌, ◌++◌, length, slice_get, Some, None}
 use Rattle.cy_fuse.specs.Fusion.{Arrival, added, fused}
+use Rattle.cy_fuse.specs.Fetch.{fetch}
 use Rattle.cy_fuse.specs.Cache.{cache_of, filled, item_at}
 
 -- One more arrival leaves the tuples that were made, and adds what it is joined to.
@@ -25,3 +26,35 @@ CachesKeep X = (size number : ℕ) (items : List X) →
     item_at (cache_of size items) number
     ≡ (if nat_lt number (length items - size + 1) || nat_lt (length items) number then None
     else slice_get items (number - 1))
+
+-- What was found is an item that was filled, and none from before the index: nothing is fetched
+-- twice.
+pub record FetchBounds (index tail number : ℕ) : Type 0 where
+  pub from_index : index ≤ number
+  pub from_one : 1 ≤ number
+  pub to_tail : number ≤ tail
+
+-- What a fetch finds, but for what stands in place of an item that isn't kept any more.
+pub record FetchesFind : Type 0 where
+  -- Nothing is found in an empty buffer and past the tail,
+  pub empty : (index queue : ℕ) → fetch index 0 queue ≡ None
+  pub past : (index tail queue : ℕ) → tail < index → fetch index tail queue ≡ None
+  -- and something at any other index, so that items are left out only where a later one is found.
+  pub some : (index tail queue : ℕ) → 1 ≤ tail → index ≤ tail → fetch index tail queue ≢ None
+  -- It is an item from the index on, and is kept.
+  pub bounds : (index tail queue number : ℕ) → fetch index tail queue ≡ Some number
+      → FetchBounds index tail number
+  pub kept : (index tail queue number : ℕ) → 1 ≤ queue → fetch index tail queue ≡ Some number
+      → tail < number + queue
+  -- The first fetch finds the newest item, and a later one that of its index, where that is kept.
+  pub first : (tail queue : ℕ) → 1 ≤ tail → fetch 0 tail queue ≡ Some tail
+  pub next : (index tail queue : ℕ) → 1 ≤ index → index ≤ tail → tail < index + queue
+      → fetch index tail queue ≡ Some index
+  -- How many items are kept is nothing to it where all are.
+  pub roomy : (index tail few many : ℕ) → tail ≤ few → tail ≤ many
+      → fetch index tail few ≡ fetch index tail many
+
+-- In place of an item that isn't kept any more it finds the newest.
+abbrev pub FetchesOverflow : Type 0
+FetchesOverflow =
+    (index tail queue : ℕ) → 1 ≤ tail → index + queue ≤ tail → fetch index tail queue ≡ Some tail

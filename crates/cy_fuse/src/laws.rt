@@ -1,5 +1,6 @@
-// How fusions and buffers grow.
+// How fusions and buffers grow, and what fetches find.
 ghost use Rattle.cy_fuse.specs.Laws.{FusionsGrow, FusionsAreFew, CachesFill, CachesKeep};
+ghost use Rattle.cy_fuse.specs.Laws.{FetchesFind, FetchesOverflow};
 
 /// One more arrival leaves the tuples that were made and adds what it is joined to, so there are
 /// never more tuples than arrivals.
@@ -12,4 +13,12 @@ pub fn fusions_grow()
 pub fn caches_keep_the_last<T: Copy>()
     ensures fill { CachesFill T }
     ensures keep { CachesKeep T }
+{}
+
+/// A fetch finds an item that is kept, from its index on: the newest at first, and then that of its
+/// index where it is kept. Where that isn't kept any more it is the newest.
+#[inline(always)]
+pub fn fetches_find()
+    ensures find { FetchesFind }
+    ensures overflow { FetchesOverflow }
 {}

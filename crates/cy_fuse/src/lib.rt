@@ -3,7 +3,8 @@
 //!
 //! `specs/Fusion` has the tuples that arrivals make, `specs/Fetch` the fetch rule, `specs/Cache`
 //! what a buffer keeps of all that was filled, `specs/Visitor` what a visitor answers over its
-//! arrivals, `specs/Laws` how one more arrival changes a fusion.
+//! arrivals, `specs/Laws` how one more arrival changes a fusion, and what stays true of a fetch
+//! whatever it finds in place of an item that isn't kept any more.
 #![tactic(auto)]
 
 mod cache;
@@ -17,5 +18,5 @@ pub use cache::CacheBuffer;
 pub use cursor::Cursor;
 pub use error::FuseError;
 pub use fetch::fetch_at;
-pub use laws::{caches_keep_the_last, fusions_grow};
+pub use laws::{caches_keep_the_last, fetches_find, fusions_grow};
 pub use visitor::Visitor;

@@ -2,6 +2,7 @@
 use Rattle.std.proofs.Common.{ℕ, ◌≡◌, ◌≢◌, Bool, true, false, refl, sym, ◌∙◌, ap, subst, inl, inr, List, [], Option, Some, None, is_some, option_map, arith, ◌<◌, ◌∷◌, ◌++◌, length, slice_get}
 use Rattle.cy_msg.specs.declared.token.Token.{Token}
 use Rattle.cy_msg.specs.declared.token.Tuple.{Tuple}
+use Rattle.cy_fuse.specs.Laws.{FetchesFind}
 use Rattle.cy_comp.specs.declared.call.Call.{Call}
 use Rattle.cy_comp.specs.declared.call.Outcome.{Outcome}
 use Rattle.cy_comp.specs.Calls.{held_until}
@@ -280,13 +281,13 @@ module _ (c : ℕ) (w : Plain) (h : IsInHand c Running w) (outcome : Outcome) (l
     pub follow_stepped : (before after : ℕ → Option Tuple) → before c ≡ None → after ≡ before → IsStepped 0 m after
     follow_stepped before after none same = here_stepped c Running m after after_hand.held (ap (λ (f : ℕ → Option Tuple). f c) same ∙ none)
 
-    pub follow_resumes : (state : State) (v : Plain) → GivesBack state m v → (first : Plain) (x : Call) → IsCalledFrom c x first w → Resumes c first v
-    follow_resumes state v g first x k =
+    pub follow_resumes : FetchesFind → (state : State) (v : Plain) → GivesBack state m v → (first : Plain) (x : Call) → IsCalledFrom c x first w → Resumes c first v
+    follow_resumes law state v g first x k =
         let yields : Yields 0 c state m g.between = subst (λ n. Yields 0 n state m g.between) after_it g.yields in
         let releases : Releases 0 c g.between v = subst (λ n. Releases 0 n g.between v) after_it g.releases in
         elim sends.turn [
-          | inl j ↦ called_quiet c x first w k.before k.sound k.ready k.called j.1 state g.between v (subst (λ (y : Plain). Yields 0 c state y g.between) j.0 yields) releases
-          | inr j ↦ called_sent c x first w k.before k.sound k.ready k.called j.0 m j.1 j.2 j.3 state g.between v yields releases
+          | inl j ↦ called_quiet c x first w k.before k.sound k.ready k.called law j.1 state g.between v (subst (λ (y : Plain). Yields 0 c state y g.between) j.0 yields) releases
+          | inr j ↦ called_sent c x first w k.before k.sound k.ready k.called law j.0 m j.1 j.2 j.3 state g.between v yields releases
         ]
 
 -- What was found is in hand.

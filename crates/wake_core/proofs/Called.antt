@@ -5,6 +5,7 @@ use Rattle.std.specs.Option.{option_map_or}
 use Rattle.cy_msg.specs.declared.token.Token.{Token}
 use Rattle.cy_msg.specs.declared.token.Tuple.{Tuple}
 use Rattle.cy_msg.specs.Tokens.{on_channel}
+use Rattle.cy_fuse.specs.Laws.{FetchesFind}
 use Rattle.cy_comp.specs.declared.call.Call.{Call}
 use Rattle.cy_comp.specs.declared.call.Out.{Out}
 use Rattle.cy_comp.specs.declared.call.Outcome.{Outcome}
@@ -148,14 +149,14 @@ module _ (c : ℕ) (call : Call) (w m : Plain) (u : IsMade w c call) (h : IsInHa
   called_can : is_runnable w.routes (run_shown w) c ≡ true
   called_can = found_can c w h s ready u.route u.at k.none_held ∙ ap is_some found
 
-  called_less : left_of m < left_of w
-  called_less = rw (ap left_of k.same) (calls_less w c u.route call u.at room)
+  called_less : FetchesFind → left_of m < left_of w
+  called_less law = rw (ap left_of k.same) (calls_less w c u.route call u.at room)
     where
       asked : Consistent (after_ask 0 c w)
       asked = ask_consistent 0 c w h.held ready k.none_held s.consistent
 
       room : length (w.calls c) < planned_count w.routes w.counts (first_reader u.route)
-      room = call_in_room (after_ask 0 c w) 0 c u.route call (set_at_same 0 (hand c Asked) w.hands) k.found u.at asked
+      room = call_in_room law (after_ask 0 c w) 0 c u.route call (set_at_same 0 (hand c Asked) w.hands) k.found u.at asked
 
   -- What the world shows after it: the output waits to be sent, ..
   held_called_run : held_until (Some outcome) ≢ None → run_shown m ≡ resume w.routes (run_shown w) c
@@ -236,8 +237,8 @@ module _ (c : ℕ) (call : Call) (w m : Plain) (u : IsMade w c call) (h : IsInHa
       (ap (λ (x : Plain). played_of x.routes x.tape) k.same)
 
   -- After a call whose output is held back, or that has none.
-  quiet_resumes : (held_until (Some outcome) ≡ None → unsent_of m c ≡ None) → (state : State) (o v : Plain) → Yields 0 c state m o → Releases 0 c o v → Resumes c w v
-  quiet_resumes none state o v y r = called_ends m k.in_hand (by (held_until (Some outcome)) refl) called_less called_stays state o v y r
+  quiet_resumes : FetchesFind → (held_until (Some outcome) ≡ None → unsent_of m c ≡ None) → (state : State) (o v : Plain) → Yields 0 c state m o → Releases 0 c o v → Resumes c w v
+  quiet_resumes law none state o v y r = called_ends m k.in_hand (by (held_until (Some outcome)) refl) (called_less law) called_stays state o v y r
     where
       some_none : {u : ℕ} → Some u ≡ None → ⊥
       some_none e = cc
@@ -247,9 +248,9 @@ module _ (c : ℕ) (call : Call) (w m : Plain) (u : IsMade w c call) (h : IsInHa
       by (Some u) e = held_called_run (λ no. some_none (sym e ∙ no))
 
   -- After one whose output was sent at once.
-  sent_resumes : (t : Token) (n : Plain) → held_until (Some outcome) ≡ None → unsent_of m c ≡ Some t → Delivered c Running t m n
+  sent_resumes : FetchesFind → (t : Token) (n : Plain) → held_until (Some outcome) ≡ None → unsent_of m c ≡ Some t → Delivered c Running t m n
       → (state : State) (o v : Plain) → Yields 0 c state n o → Releases 0 c o v → Resumes c w v
-  sent_resumes t n sent unsent d state o v y r = called_ends n d.in_hand (sent_run t n sent unsent d) less (stays_by w n
+  sent_resumes law t n sent unsent d state o v y r = called_ends n d.in_hand (sent_run t n sent unsent d) less (stays_by w n
       (ap (λ (x : Plain). x.routes) d.same ∙ called_stays.routes)
       (ap (λ (x : Plain). x.counts) d.same ∙ called_stays.counts)
       (ap (λ (x : Plain). x.closing) d.same ∙ called_stays.closing)
@@ -260,17 +261,17 @@ module _ (c : ℕ) (call : Call) (w m : Plain) (u : IsMade w c call) (h : IsInHa
       no_more = rw (ap left_of d.same) (tape_no_more m t)
 
       less : left_of n < left_of w
-      less = omega (arith, no_more, called_less)
+      less = let one = called_less law in omega (arith, no_more, one)
 
 -- A croutine was called, and yields after what the outcome says of its output.
 module _ (c : ℕ) (call : Call) (w m : Plain) (h : IsInHand c Known w) (s : Sound w) (ready : w.states c ≡ Ready) (k : IsCalled c call w m) where
-  pub called_quiet : (held_until (last_of m.routes m.calls c) ≡ None → unsent_of m c ≡ None) → (state : State) (o v : Plain) → Yields 0 c state m o → Releases 0 c o v → Resumes c w v
-  called_quiet none state o v y r =
+  pub called_quiet : FetchesFind → (held_until (last_of m.routes m.calls c) ≡ None → unsent_of m c ≡ None) → (state : State) (o v : Plain) → Yields 0 c state m o → Releases 0 c o v → Resumes c w v
+  called_quiet law none state o v y r =
       let u = call_made w c call k.found in
-      quiet_resumes c call w m u h s ready k (λ e. none (ap held_until (called_last c call w m u h s ready k) ∙ e)) state o v y r
+      quiet_resumes c call w m u h s ready k law (λ e. none (ap held_until (called_last c call w m u h s ready k) ∙ e)) state o v y r
 
-  pub called_sent : (t : Token) (n : Plain) → held_until (last_of m.routes m.calls c) ≡ None → unsent_of m c ≡ Some t → Delivered c Running t m n
+  pub called_sent : FetchesFind → (t : Token) (n : Plain) → held_until (last_of m.routes m.calls c) ≡ None → unsent_of m c ≡ Some t → Delivered c Running t m n
       → (state : State) (o v : Plain) → Yields 0 c state n o → Releases 0 c o v → Resumes c w v
-  called_sent t n sent unsent d state o v y r =
+  called_sent law t n sent unsent d state o v y r =
       let u = call_made w c call k.found in
-      sent_resumes c call w m u h s ready k t n (sym (ap held_until (called_last c call w m u h s ready k)) ∙ sent) unsent d state o v y r
+      sent_resumes c call w m u h s ready k law t n (sym (ap held_until (called_last c call w m u h s ready k)) ∙ sent) unsent d state o v y r

@@ -3,6 +3,7 @@ use Rattle.std.proofs.Common.{ℕ, ◌-◌, ◌^◌, ◌≡◌, ◌≢◌, ◌�
 use mathlib.Core.Path.{fun_ext}
 use Rattle.cy_msg.specs.declared.token.Token.{Token}
 use Rattle.cy_msg.specs.declared.token.Tuple.{Tuple}
+use Rattle.cy_fuse.specs.Laws.{FetchesFind}
 use Rattle.cy_fuse.specs.Visitor.{VisitorView, visited}
 use Rattle.cy_comp.specs.declared.call.Call.{Call}
 use Rattle.cy_comp.specs.declared.call.Outcome.{Outcome}
@@ -26,7 +27,6 @@ use Rattle.wake_core.proofs.Reading.{read_is, read-set}
 use Rattle.wake_core.proofs.Listing.{get_last}
 use Rattle.wake_core.proofs.Outputs.{last_push}
 use Rattle.wake_core.proofs.Joining.{fused_messages}
-use Rattle.wake_core.proofs.Fetching.{fetch_bounds}
 use Rattle.wake_core.proofs.Arriving.{there, fused_planned, planned_trigger}
 use Rattle.wake_core.proofs.Fetched.{next_visited}
 use Rattle.wake_core.proofs.Shown.{calls_stepped, none_waiting, called_world, found_waiting}
@@ -81,6 +81,7 @@ pub record IsToCall (s : World) (n : ℕ) (r : RoutineView) : Type 0 where
   pub ready : (plain_of s).states n ≡ Ready
   pub none_held : unsent_of (plain_of s) n ≡ None
   pub routine : r ≡ get_or s.routines.items n r
+  pub law : FetchesFind
 
 -- A croutine in hand is one of the components.
 pub hand_in : (s : World) (n : ℕ) → IsInHand n Known (plain_of s) → n < length (plain_of s).routes
@@ -141,7 +142,7 @@ module _ (s : World) (n : ℕ) (r : RoutineView) (t : IsToCall s n r) where
       let x = there s.fixed.routes.items n known in
       let fits : n < length s.visitors.items = omega (arith, known, s.sized.visitors_fit) in
       let view = read_is (λ v. v) no_visitor s.visitors.items n v fits visitor in
-      next_visited asked n index x.0 r v x.1 (ap (λ (r : RoutineView). r.kind) (sym its_routine) ∙ s.waiting.kinds n x.0 x.1) its_calls
+      next_visited t.law asked n index x.0 r v x.1 (ap (λ (r : RoutineView). r.kind) (sym its_routine) ∙ s.waiting.kinds n x.0 x.1) its_calls
       (sym (read_is (λ v. v.arrivals) [] s.visitors.items n v fits visitor))
       (ap (λ (v : VisitorView). v.roles) (sym view) ∙ s.visited.roles n x.0 x.1)
       (ap (λ (v : VisitorView). v.queue) (sym view) ∙ s.visited.queues n x.0 x.1)
@@ -159,7 +160,7 @@ module _ (s : World) (n : ℕ) (r : RoutineView) (t : IsToCall s n r) where
     made = after_call 0 n (call_of r (tuple, position, tail)) asked
 
     made_sound : Sound made
-    made_sound = fetch_sound 0 n asked made (fetched (Some (call_of r (tuple, position, tail))) next made refl) asked_sound
+    made_sound = fetch_sound t.law 0 n asked made (fetched (Some (call_of r (tuple, position, tail))) next made refl) asked_sound
 
     made_calls : made.calls n ≡ r.calls ++ call_of r (tuple, position, tail) ∷ []
     made_calls = set_at_same n ((plain_of s).calls n ++ call_of r (tuple, position, tail) ∷ []) (plain_of s).calls ∙ ap (λ (l : List Call). l ++ call_of r (tuple, position, tail) ∷ []) (sym its_calls)
@@ -181,7 +182,7 @@ module _ (s : World) (n : ℕ) (r : RoutineView) (t : IsToCall s n r) where
     may_call asking is =
         let x = there s.fixed.routes.items n known in
         let lawful = made_sound.consistent.called.lawful n x.0 x.1 in
-        let bounds = fetch_bounds _ _ _ _ (lawful.positions (length r.calls) (call_of r (tuple, position, tail)) call_there) in
+        let bounds = t.law.bounds _ _ _ _ (lawful.positions (length r.calls) (call_of r (tuple, position, tail)) call_there) in
         let fused_tail = lawful.tails_fused (length r.calls) (call_of r (tuple, position, tail)) call_there in
         let few = le_trans (fused_planned made n x.0 x.1 made_sound.consistent) (planned_trigger s.fixed.routes.items s.fixed.counts.items n x.0 x.1) in
         let may : MayTake (record r { state = DataWait }) tuple position = record {
@@ -288,4 +289,4 @@ module _ (s : World) (n : ℕ) (r : RoutineView) (t : IsToCall s n r) where
         none_some q e = cc
 
     pub missed_still : (v : Plain) → v ≡ missed → Sound v
-    missed_still v is_missed = fetch_sound 0 n asked v (fetched None none v is_missed) asked_sound
+    missed_still v is_missed = fetch_sound t.law 0 n asked v (fetched None none v is_missed) asked_sound

@@ -1,9 +1,10 @@
 -- What a fetch by a visitor is in a world.
-use Rattle.std.proofs.Common.{ℕ, ◌+◌, ◌-◌, ◌≡◌, ◌≢◌, ◌≤◌, Bool, true, false, refl, sym, ◌∙◌, ap, ap₂, arith, Option, Some, None, List, length, slice_get, option_map, option_and_then, ◌==◌, ◌||◌, if◌then◌else◌, nat_lt, nat_le, min, max}
+use Rattle.std.proofs.Common.{ℕ, ◌-◌, ◌≡◌, ◌≤◌, Bool, true, false, refl, sym, ◌∙◌, ap, ap₂, arith, Option, Some, None, List, length, slice_get, option_map, option_and_then, nat_le, min, max}
 use Rattle.std.proofs.lemmas.Bool.Decides.{nat_tests}
 use Rattle.cy_msg.specs.declared.token.Tuple.{Tuple}
 use Rattle.cy_fuse.specs.Fusion.{fused}
 use Rattle.cy_fuse.specs.Fetch.{fetch}
+use Rattle.cy_fuse.specs.Laws.{FetchesFind}
 use Rattle.cy_fuse.specs.Visitor.{VisitorView, visited, position_at}
 use Rattle.cy_comp.specs.declared.call.Call.{Call}
 use Rattle.cy_comp.specs.Routine.{RoutineView}
@@ -17,25 +18,21 @@ use Rattle.wake_core.specs.Laws.{call_of}
 use Rattle.wake_core.proofs.Arriving.{fused_planned}
 
 -- A buffer that keeps as many items as ever come answers as one that keeps more.
-pub same_ring : (index tail queue few : ℕ) → 1 ≤ queue → tail ≤ few → fetch index tail (max 1 (min queue few)) ≡ fetch index tail queue
-unfolding fetch
-same_ring index tail queue few some l = by (tail == 0) (nat_lt tail index) (index == 0) (nat_le (index + max 1 (min queue few)) tail) (nat_le (index + queue) tail) refl refl refl refl refl
+same_ring : FetchesFind → (index tail queue few : ℕ) → 1 ≤ queue → tail ≤ few → fetch index tail (max 1 (min queue few)) ≡ fetch index tail queue
+same_ring law index tail queue few some l = by (nat_le queue few) refl
   where
-    less : index ≢ 0 → index + queue ≤ tail → index + max 1 (min queue few) ≤ tail
-    less n a = omega arith
+    kept : nat_le queue few ≡ true → max 1 (min queue few) ≡ queue
+    kept e = grind (arith, nat_tests, e)
 
-    more : index ≢ 0 → index + max 1 (min queue few) ≤ tail → index + queue ≤ tail
-    more n a = omega arith
+    all : nat_le queue few ≡ false → tail ≤ queue
+    all e = grind (arith, nat_tests, e)
 
-    by : (a b c d e : Bool) → (tail == 0) ≡ a → nat_lt tail index ≡ b → (index == 0) ≡ c → nat_le (index + max 1 (min queue few)) tail ≡ d → nat_le (index + queue) tail ≡ e
-        → (if a || b then None else (if c || d then Some tail else Some index)) ≡ (if a || b then None else (if c || e then Some tail else Some index))
-    by true b c d e ea eb ec ed ee = refl
-    by false true c d e ea eb ec ed ee = refl
-    by false false true d e ea eb ec ed ee = refl
-    by false false false true true ea eb ec ed ee = refl
-    by false false false false false ea eb ec ed ee = refl
-    by false false false true false ea eb ec ed ee = absurd (grind (arith, nat_tests, ec, ed, ee, more))
-    by false false false false true ea eb ec ed ee = absurd (grind (arith, nat_tests, ec, ed, ee, less))
+    fits : nat_le queue few ≡ false → tail ≤ max 1 (min queue few)
+    fits e = grind (arith, nat_tests, e)
+
+    by : (b : Bool) → nat_le queue few ≡ b → fetch index tail (max 1 (min queue few)) ≡ fetch index tail queue
+    by true e = ap (fetch index tail) (kept e)
+    by false e = law.roomy index tail (max 1 (min queue few)) queue (fits e) (all e)
 
 -- What a fetch finds, mapped to the calls that it makes.
 mapped : (r : RoutineView) (tuples : List Tuple) (o : Option ℕ)
@@ -49,28 +46,28 @@ mapped r tuples (Some n) = by (slice_get tuples (n - 1))
     by (Some t) = refl
 
 -- A visitor's fetch finds what the component's queue says.
-visited_ring : (w : Plain) (c index : ℕ) (x : Route) (v : VisitorView) → slice_get w.routes c ≡ Some x
+visited_ring : FetchesFind → (w : Plain) (c index : ℕ) (x : Route) (v : VisitorView) → slice_get w.routes c ≡ Some x
     → v.arrivals ≡ w.arrivals c → v.roles ≡ length x.readers → v.queue ≡ queue_of w.routes w.counts x → 1 ≤ x.queue → index ≡ w.cursors c → Consistent w
     → position_at index v ≡ fetch (w.cursors c) (length (fused (w.arrivals c) (length x.readers))) x.queue
-visited_ring w c index x v at arrivals roles queue some cursor s =
+visited_ring law w c index x v at arrivals roles queue some cursor s =
     let tuples : List Tuple = fused (w.arrivals c) (length x.readers) in
     let same_tuples : fused v.arrivals v.roles ≡ tuples = ap₂ fused arrivals roles in
     let few : length tuples ≤ planned_count w.routes w.counts (first_reader x) = fused_planned w c x at s in
-    rw (same_tuples, queue, cursor) (same_ring (w.cursors c) (length tuples) x.queue (planned_count w.routes w.counts (first_reader x)) some few)
+    rw (same_tuples, queue, cursor) (same_ring law (w.cursors c) (length tuples) x.queue (planned_count w.routes w.counts (first_reader x)) some few)
 
-pub found_visited : (w : Plain) (c index : ℕ) (x : Route) (v : VisitorView) → slice_get w.routes c ≡ Some x
+pub found_visited : FetchesFind → (w : Plain) (c index : ℕ) (x : Route) (v : VisitorView) → slice_get w.routes c ≡ Some x
     → v.arrivals ≡ w.arrivals c → v.roles ≡ length x.readers → v.queue ≡ queue_of w.routes w.counts x → 1 ≤ x.queue → index ≡ w.cursors c → Consistent w
     → position_at index v ≡ found_by w c
-found_visited w c index x v at arrivals roles queue some cursor s = rw at (visited_ring w c index x v at arrivals roles queue some cursor s)
+found_visited law w c index x v at arrivals roles queue some cursor s = rw at (visited_ring law w c index x v at arrivals roles queue some cursor s)
 
 -- The call that a fetch makes is on what the component's visitor finds.
-pub next_visited : (w : Plain) (c index : ℕ) (x : Route) (r : RoutineView) (v : VisitorView) → slice_get w.routes c ≡ Some x → r.kind ≡ x.kind → r.calls ≡ w.calls c
+pub next_visited : FetchesFind → (w : Plain) (c index : ℕ) (x : Route) (r : RoutineView) (v : VisitorView) → slice_get w.routes c ≡ Some x → r.kind ≡ x.kind → r.calls ≡ w.calls c
     → v.arrivals ≡ w.arrivals c → v.roles ≡ length x.readers → v.queue ≡ queue_of w.routes w.counts x → 1 ≤ x.queue → index ≡ w.cursors c → Consistent w
     → next_call w c ≡ option_map (call_of r) (visited index v)
-next_visited w c index x r v at kind calls arrivals roles queue some cursor s =
+next_visited law w c index x r v at kind calls arrivals roles queue some cursor s =
     let tuples : List Tuple = fused (w.arrivals c) (length x.readers) in
     let same_tuples : fused v.arrivals v.roles ≡ tuples = ap₂ fused arrivals roles in
-    let found : position_at index v ≡ fetch (w.cursors c) (length tuples) x.queue = visited_ring w c index x v at arrivals roles queue some cursor s in
+    let found : position_at index v ≡ fetch (w.cursors c) (length tuples) x.queue = visited_ring law w c index x v at arrivals roles queue some cursor s in
     let calls_on : (λ (n : ℕ) (t : Tuple). call_on x w c n t) ≡ (λ (n : ℕ) (t : Tuple). call_of r (t, n, length tuples)) = rw (kind, calls) refl in
     rw at (
     ap (λ (f : ℕ → Tuple → Call). option_and_then (λ (n : ℕ). option_map (f n) (slice_get tuples (n - 1))) (fetch (w.cursors c) (length tuples) x.queue)) calls_on

@@ -1,6 +1,7 @@
 -- What a fetch finds in a world, over its fields.
 use Rattle.std.proofs.Common.{ℕ, ◌≡◌, ◌<◌, ◌∷◌, ◌++◌, sym, ◌∙◌, ap, arith, Option, Some, None, List, [], length, get_or, option_map}
 use Rattle.cy_msg.specs.declared.token.Tuple.{Tuple}
+use Rattle.cy_fuse.specs.Laws.{FetchesFind}
 use Rattle.cy_fuse.specs.Visitor.{VisitorView, visited}
 use Rattle.cy_comp.specs.declared.call.Call.{Call}
 use Rattle.cy_comp.specs.Calls.{cursor_after}
@@ -47,14 +48,14 @@ module _ (s : World) (p n : ℕ) (r : RoutineView) (a : IsAsking s p n r) where
       none_waiting (plain_of s).calls n x.0 s.waiting x.1 (ap (λ (r : RoutineView). r.calls) its_routine ∙ its_calls) (asked_unsent (plain_of s) p n a.held s.sound.consistent.held)
 
   -- The call that comes of the fetch is on what the visitor finds.
-  pub fetch_next : (v : VisitorView) (index : ℕ) (o : Option (Tuple × ℕ × ℕ)) → v ≡ get_or s.visitors.items n v → index ≡ cursor_after r.calls → o ≡ visited index v
+  pub fetch_next : FetchesFind → (v : VisitorView) (index : ℕ) (o : Option (Tuple × ℕ × ℕ)) → v ≡ get_or s.visitors.items n v → index ≡ cursor_after r.calls → o ≡ visited index v
       → next_call (plain_of s) n ≡ option_map (call_of r) o
   unfolding plain_of
-  fetch_next v index o visitor cursor found =
+  fetch_next law v index o visitor cursor found =
       let x = there s.fixed.routes.items n a.known in
       let within : n < length s.visitors.items = omega (arith, a.known, s.sized.visitors_fit) in
       let view = read_is (λ v. v) no_visitor s.visitors.items n v within visitor in
-      next_visited (plain_of s) n index x.0 r v x.1 (ap (λ (r : RoutineView). r.kind) (sym its_routine) ∙ s.waiting.kinds n x.0 x.1) its_calls
+      next_visited law (plain_of s) n index x.0 r v x.1 (ap (λ (r : RoutineView). r.kind) (sym its_routine) ∙ s.waiting.kinds n x.0 x.1) its_calls
       (sym (read_is (λ v. v.arrivals) [] s.visitors.items n v within visitor))
       (ap (λ (v : VisitorView). v.roles) (sym view) ∙ s.visited.roles n x.0 x.1)
       (ap (λ (v : VisitorView). v.queue) (sym view) ∙ s.visited.queues n x.0 x.1)

@@ -1,40 +1,15 @@
--- What a fetch finds, and how far lawful calls have come.
-use Rattle.std.proofs.Common.{ℕ, zero, suc, ◌+◌, ◌-◌, ◌≡◌, ◌≤◌, ◌<◌, Bool, true, false, refl, sym, ◌∙◌, ap, arith, List, [], ◌∷◌, ◌++◌, length, take, Some, None, Option, slice_get, ◌==◌, ◌||◌, cond, if◌then◌else◌, nat_lt, nat_le, option_map, option_to_list, map, filter}
-use Rattle.std.proofs.lemmas.Bool.Decides.{nat_tests}
+-- How far lawful calls have come.
+use Rattle.std.proofs.Common.{ℕ, zero, suc, ◌+◌, ◌-◌, ◌≡◌, ◌≤◌, ◌<◌, Bool, true, false, refl, sym, ◌∙◌, ap, arith, List, [], ◌∷◌, ◌++◌, length, take, Some, None, Option, slice_get, ◌==◌, cond, option_map, option_to_list, map, filter}
 use Rattle.std.proofs.lemmas.Option.{slice_get_within}
 use Rattle.std.proofs.Math.Seq.{take-length}
 use Rattle.cy_msg.specs.declared.token.Token.{Token}
 use Rattle.cy_fuse.specs.Fusion.{Arrival, joined, latest_of, fused_after, fused}
-use Rattle.cy_fuse.specs.Fetch.{fetch}
+use Rattle.cy_fuse.specs.Laws.{FetchesFind}
 use Rattle.cy_comp.specs.declared.call.Call.{Call}
 use Rattle.cy_comp.specs.Calls.{cursor_after, tail_after, LawfulCalls}
 use Rattle.wake_core.specs.Run.{Route}
 use Rattle.wake_core.specs.Plain.{of_role}
 use Rattle.wake_core.proofs.Listing.{take_next}
-
--- What a fetch finds is not below its index, and one of those that are there.
-pub record FetchBounds (index tail position : ℕ) : Type 0 where
-  pub from_index : index ≤ position
-  pub from_one : 1 ≤ position
-  pub to_tail : position ≤ tail
-
-pub fetch_bounds : (index tail queue position : ℕ) → fetch index tail queue ≡ Some position → FetchBounds index tail position
-unfolding fetch
-fetch_bounds index tail queue position e = by (tail == 0) (nat_lt tail index) (index == 0) (nat_le (index + queue) tail) refl refl refl refl e
-  where
-    by : (a b c d : Bool) → (tail == 0) ≡ a → nat_lt tail index ≡ b → (index == 0) ≡ c → nat_le (index + queue) tail ≡ d
-        → (if a || b then None else (if c || d then Some tail else Some index)) ≡ Some position → FetchBounds index tail position
-    by true b c d ea eb ec ed e = cc
-    by false true c d ea eb ec ed e = cc
-    by false false true d ea eb ec ed e =
-        let is : tail ≡ position = cc in
-        record { from_index = grind (arith, nat_tests, is, eb); from_one = grind (arith, nat_tests, is, ea); to_tail = omega arith }
-    by false false false true ea eb ec ed e =
-        let is : tail ≡ position = cc in
-        record { from_index = grind (arith, nat_tests, is, eb); from_one = grind (arith, nat_tests, is, ea); to_tail = omega arith }
-    by false false false false ea eb ec ed e =
-        let is : index ≡ position = cc in
-        record { from_index = omega arith; from_one = grind (arith, nat_tests, is, ec); to_tail = grind (arith, nat_tests, is, eb) }
 
 pub cursor_push : (calls : List Call) (x : Call) → cursor_after (calls ++ x ∷ []) ≡ x.position + 1
 cursor_push [] x = refl
@@ -53,29 +28,29 @@ some_there (x ∷ calls) zero l = (x, refl)
 some_there (x ∷ calls) (suc n) l = some_there calls n (omega arith)
 
 -- Positions rise with each call.
-pub position_rises : (x : Route) (arrivals : List Arrival) (calls : List Call) → LawfulCalls x.kind arrivals (length x.readers) x.queue calls
+pub position_rises : FetchesFind → (x : Route) (arrivals : List Arrival) (calls : List Call) → LawfulCalls x.kind arrivals (length x.readers) x.queue calls
     → (n : ℕ) (call : Call) → slice_get calls n ≡ Some call → n + 1 ≤ call.position
-position_rises x arrivals calls l zero call e = (fetch_bounds (cursor_after (take 0 calls)) call.tail x.queue call.position (l.positions 0 call e)).from_one
-position_rises x arrivals calls l (suc n) call e =
+position_rises law x arrivals calls l zero call e = (law.bounds (cursor_after (take 0 calls)) call.tail x.queue call.position (l.positions 0 call e)).from_one
+position_rises law x arrivals calls l (suc n) call e =
     let inside : n < length calls = omega (arith, slice_get_within calls (suc n) call e) in
     let y = some_there calls n inside in
-    let below = position_rises x arrivals calls l n y.0 y.1 in
+    let below = position_rises law x arrivals calls l n y.0 y.1 in
     let more : suc n ≡ n + 1 = omega arith in
     let cursor : cursor_after (take (suc n) calls) ≡ y.0.position + 1 =
     ap (λ i. cursor_after (take i calls)) more ∙ ap cursor_after (take_next calls n y.0 y.1) ∙ cursor_push (take n calls) y.0 in
-    let bounds = (fetch_bounds (cursor_after (take (suc n) calls)) call.tail x.queue call.position (l.positions (suc n) call e)).from_index in
+    let bounds = (law.bounds (cursor_after (take (suc n) calls)) call.tail x.queue call.position (l.positions (suc n) call e)).from_index in
     omega (arith, below, cursor, bounds)
 
 -- There are fewer calls than where the next fetch begins says.
-pub calls_below : (x : Route) (arrivals : List Arrival) (calls : List Call) → LawfulCalls x.kind arrivals (length x.readers) x.queue calls
+pub calls_below : FetchesFind → (x : Route) (arrivals : List Arrival) (calls : List Call) → LawfulCalls x.kind arrivals (length x.readers) x.queue calls
     → length calls ≤ cursor_after calls - 1
-calls_below x arrivals calls l = by (length calls) refl
+calls_below law x arrivals calls l = by (length calls) refl
   where
     by : (n : ℕ) → length calls ≡ n → length calls ≤ cursor_after calls - 1
     by zero e = omega arith
     by (suc n) e =
         let y = some_there calls n (omega arith) in
-        let below = position_rises x arrivals calls l n y.0 y.1 in
+        let below = position_rises law x arrivals calls l n y.0 y.1 in
         let more : suc n ≡ n + 1 = omega arith in
         let all : take (suc n) calls ≡ calls = ap (λ i. take i calls) (sym e) ∙ take-length calls in
         let cursor : cursor_after calls ≡ y.0.position + 1 = ap cursor_after (sym all) ∙ ap (λ i. cursor_after (take i calls)) more ∙ ap cursor_after (take_next calls n y.0 y.1) ∙ cursor_push (take n calls) y.0 in

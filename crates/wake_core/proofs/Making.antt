@@ -5,6 +5,7 @@ use Rattle.cy_msg.specs.declared.token.Tuple.{Tuple}
 use Rattle.cy_msg.specs.Tokens.{on_channel}
 use Rattle.cy_fuse.specs.Fusion.{fused}
 use Rattle.cy_fuse.specs.Fetch.{fetch}
+use Rattle.cy_fuse.specs.Laws.{FetchesFind}
 use Rattle.cy_comp.specs.declared.call.Call.{Call}
 use Rattle.cy_comp.specs.Step.{outcome_after, out_of}
 use Rattle.cy_comp.specs.Calls.{cursor_after, tuples_of, last_outcome, is_last, outs}
@@ -17,7 +18,7 @@ use Rattle.wake_core.proofs.Places.{set_at_there, set_at_other}
 use Rattle.wake_core.proofs.HeldLaws.{not_running_of}
 use Rattle.wake_core.proofs.HeldCalls.{OneCall, call_held}
 use Rattle.wake_core.proofs.Delivering.{phase_delivered, call_delivered}
-use Rattle.wake_core.proofs.Fetching.{fetch_bounds, tail_bounded, calls_below, cursor_push, fused_few}
+use Rattle.wake_core.proofs.Fetching.{tail_bounded, calls_below, cursor_push, fused_few}
 use Rattle.wake_core.proofs.Calling.{IsNextCall, call_called, call_causal, lawful_call}
 use Rattle.wake_core.proofs.Outputs.{put_out, outs_push, held_puts, last_push}
 use Rattle.wake_core.proofs.Writers.{first_reads}
@@ -57,8 +58,8 @@ call_made w c call e = by_route (slice_get w.routes c) refl e
     by_route (Some x) at e = by_position x at (fetch (w.cursors c) (tail_at x w c) x.queue) refl e
 
 -- Where no call comes of it, a fetch finds nothing.
-pub none_made : (w : Plain) (c : ℕ) → next_call w c ≡ None → found_by w c ≡ None
-none_made w c e = by_route (slice_get w.routes c) e
+pub none_made : FetchesFind → (w : Plain) (c : ℕ) → next_call w c ≡ None → found_by w c ≡ None
+none_made law w c e = by_route (slice_get w.routes c) e
   where
     inside : (xs : List Tuple) (position : ℕ) → 1 ≤ position → position ≤ length xs → slice_get xs (position - 1) ≢ None
     inside [] position l m = absurd (omega arith)
@@ -77,7 +78,7 @@ none_made w c e = by_route (slice_get w.routes c) e
         → option_and_then (λ position. option_map (call_on x w c position) (slice_get (fused (w.arrivals c) (length x.readers)) (position - 1))) o ≡ None → o ≡ None
     by_position x None finds e = refl
     by_position x (Some position) finds e =
-        let b = fetch_bounds (w.cursors c) (tail_at x w c) x.queue position finds in
+        let b = law.bounds (w.cursors c) (tail_at x w c) x.queue position finds in
         absurd (by_tuple x position (slice_get (fused (w.arrivals c) (length x.readers)) (position - 1)) refl (inside (fused (w.arrivals c) (length x.readers)) position b.from_one b.to_tail) e)
 
     by_route : (o : Option Route)
@@ -145,11 +146,11 @@ module _ (p c : ℕ) (w : Plain) (call : Call) (held : w.hands p ≡ hand c Aske
       not_last false n = refl
 
   -- There is room for the call: as many tuples were fused as messages came that trigger it.
-  pub fits : Consistent w → (x : Route) → slice_get w.routes c ≡ Some x → length (w.calls c ++ call ∷ []) ≤ planned_count w.routes w.counts (first_reader x)
-  fits s x at =
+  pub fits : FetchesFind → Consistent w → (x : Route) → slice_get w.routes c ≡ Some x → length (w.calls c ++ call ∷ []) ≤ planned_count w.routes w.counts (first_reader x)
+  fits law s x at =
       let next = next_is s x at in
-      let few = calls_below x (w.arrivals c) (w.calls c ++ call ∷ []) (lawful_call x (w.arrivals c) (w.calls c) call next (s.called.lawful c x at)) in
-      let bounds = fetch_bounds (cursor_after (w.calls c)) call.tail x.queue call.position next.position in
+      let few = calls_below law x (w.arrivals c) (w.calls c ++ call ∷ []) (lawful_call x (w.arrivals c) (w.calls c) call next (s.called.lawful c x at)) in
+      let bounds = law.bounds (cursor_after (w.calls c)) call.tail x.queue call.position next.position in
       let begun = s.delivered.begins c 0 (first_reader x) (first_reads w.routes c x at (s.wired.some_reader c x at)) in
       let arrived : length (of_role 0 (w.arrivals c)) ≤ length (on_channel (first_reader x) w.tape) = omega (arith, ap length begun, length-take (length (of_role 0 (w.arrivals c))) (on_channel (first_reader x) w.tape)) in
       omega (arith, few, cursor_push (w.calls c) call, bounds.to_tail, next.tail, fused_few (length x.readers) (w.arrivals c), arrived, s.room.taped (first_reader x))
@@ -158,13 +159,13 @@ module _ (p c : ℕ) (w : Plain) (call : Call) (held : w.hands p ≡ hand c Aske
   pub sent_few : Consistent w → (x : Route) → slice_get w.routes c ≡ Some x → length (on_channel x.out w.tape) ≤ length (outs x.out (w.calls c))
   sent_few s x at = let few = s.held.few c in rw at at few
 
-  pub call_consistent : Consistent w → Consistent (after_call p c call w)
-  call_consistent s = record {
+  pub call_consistent : FetchesFind → Consistent w → Consistent (after_call p c call w)
+  call_consistent law s = record {
     wired = s.wired;
     held = call_in s.held;
     called = call_called c call (next_is s) s.called;
     delivered = call_delivered c call (all_sent s) (λ x at. (put_out x.out (length (outs x.out (w.calls c))) call.out, outs_push x.out (w.calls c) call))
         (phase_delivered p c Asked (hand c Running) held (λ e. cc) (λ e. cc) s.delivered);
     causal = call_causal c call (next_is s) s.delivered.numbered (sent_few s) s.causal;
-    room = call_room c call (fits s) s.room;
+    room = call_room c call (fits law s) s.room;
   }

@@ -1,6 +1,7 @@
 -- A croutine whose next turn would find nothing is parked at rest: that turn, in one call.
 use Rattle.std.proofs.Common.{ℕ, ◌-◌, ◌≡◌, ◌<◌, ◌||◌, ◌&&◌, Bool, true, false, not, refl, sym, ◌∙◌, ap, subst, inl, inr, length, Option, Some, None, is_some, option_map, option_and_then, slice_get}
 use Rattle.cy_fuse.specs.Fusion.{fused}
+use Rattle.cy_fuse.specs.Laws.{FetchesFind}
 use Rattle.cy_comp.specs.declared.call.Call.{Call}
 use Rattle.wake_core.specs.Run.{Route, set_at}
 use Rattle.wake_core.specs.Plain.{Plain, Hand, hand, State, Ready, DataWait, Sleep, Finished, Known, Asked, Empty, Done, unsent_of, found_by}
@@ -103,11 +104,11 @@ module _ (c : ℕ) (w : Plain) (rest : IsAtRest w) (known : c < length w.routes)
       ∙ set_at_again 0 (hand c Asked) None t.hands ∙ set_at_again 0 (hand c Known) None w.hands
       ∙ ap (λ (h : Option Hand). set_at 0 h w.hands) (sym (rest 0).hand) ∙ set_at_itself 0 w.hands)
 
-  pub parked_sound : Sound (parked_world c w)
-  parked_sound = subst Sound parked_is
+  pub parked_sound : FetchesFind → Sound (parked_world c w)
+  parked_sound law = subst Sound parked_is
       (release_sound 0 c yielded (after_release 0 yielded) releases
       (yield_sound 0 c DataWait missed yielded yields
-      (fetch_sound 0 c asked missed fetches
+      (fetch_sound law 0 c asked missed fetches
       (ask_sound 0 c t asked asks taken_sound))))
 
 -- A croutine that was resumed may be parked: one that only waited isn't READY, and stays.

@@ -1,6 +1,7 @@
 -- A croutine that is parked, in a world at rest, over its fields.
 use Rattle.std.proofs.Common.{ℕ, ◌+◌, ◌≡◌, ◌≢◌, ◌<◌, ◌&&◌, Bool, true, false, not, refl, sym, ◌∙◌, ap, arith, Option, Some, None, List, [], length, get_or, set, is_some, option_map}
 use Rattle.std.proofs.lemmas.List.{set-get_or}
+use Rattle.cy_fuse.specs.Laws.{FetchesFind}
 use Rattle.cy_fuse.specs.Visitor.{VisitorView, position_at}
 use Rattle.cy_comp.specs.Calls.{cursor_after, output}
 use Rattle.cy_comp.specs.Routine.{RoutineView}
@@ -22,6 +23,7 @@ pub record IsToPark (s : World) (n : ℕ) (r : RoutineView) : Type 0 where
   pub rest : IsAtRest (plain_of s)
   pub known : n < length (plain_of s).routes
   pub routine : r ≡ get_or s.routines.items n r
+  pub law : FetchesFind
 
 module _ (s : World) (n : ℕ) (r : RoutineView) (t : IsToPark s n r) where
   within : n < length s.routines.items
@@ -65,7 +67,7 @@ module _ (s : World) (n : ℕ) (r : RoutineView) (t : IsToPark s n r) where
       let known = t.known in
       let fits : n < length s.visitors.items = omega (arith, known, s.sized.visitors_fit) in
       let view = read_is (λ v. v) no_visitor s.visitors.items n v fits visitor in
-      ap is_some (found_visited (plain_of s) n index x.0 v x.1
+      ap is_some (found_visited t.law (plain_of s) n index x.0 v x.1
       (sym (read_is (λ v. v.arrivals) [] s.visitors.items n v fits visitor))
       (ap (λ (v : VisitorView). v.roles) (sym view) ∙ s.visited.roles n x.0 x.1)
       (ap (λ (v : VisitorView). v.queue) (sym view) ∙ s.visited.queues n x.0 x.1)

@@ -3,6 +3,7 @@ use Rattle.std.proofs.Common.{ℕ, ◌-◌, ap₂, drop, false, ◌≡◌, ◌�
 use Rattle.std.proofs.Math.Seq.{take-length, take-append_seam}
 use mathlib.Core.Path.{fun_ext}
 use Rattle.cy_msg.specs.declared.token.Token.{Token}
+use Rattle.cy_fuse.specs.Laws.{FetchesFind}
 use Rattle.cy_comp.specs.declared.call.Call.{Call}
 use Rattle.cy_comp.specs.Calls.{last_outcome, outs, is_last}
 use Rattle.wake_core.specs.Run.{Route, set_at, readers_of}
@@ -149,25 +150,25 @@ module _ (routes : List Route) (counts : List ℕ) (wired : IsWired routes count
 pub none_lost : (w : Plain) → Sound w → (c : ℕ) → Lost w c → ⊥
 none_lost w s c l = s.wakes.none_lost c l.spent l.unfetched l.untold l.waits (λ p. (l.free p _, l.free p _, l.free p _))
 
-event_sound : (w v : Plain) → Event w v → Sound w → Sound v
-event_sound w v (acquire {p} {c} e) s = acquire_sound p c w v e s
-event_sound w v (spend {p} {c} {seen} e) s = spend_sound p c seen w v e s
-event_sound w v (ready {p} {c} e) s = ready_sound p c w v e s
-event_sound w v (ask {p} {c} e) s = ask_sound p c w v e s
-event_sound w v (fetch {p} {c} e) s = fetch_sound p c w v e s
-event_sound w v (tape {t} e) s = tape_sound t w v e s
-event_sound w v (send {p} {c} {next} {t} e) s = send_sound p c next t w v e s
-event_sound w v (fill {p} {u} {j} e) s = fill_sound p u j w v e s
-event_sound w v (look {p} {c} e) s = look_sound p c w v e s
-event_sound w v (clear {p} {c} e) s = clear_sound p c w v e s
-event_sound w v (yield_as {p} {c} {state} e) s = yield_sound p c state w v e s
-event_sound w v (release {p} {c} e) s = release_sound p c w v e s
-event_sound w v (tick {time} e) s = tick_sound time w v e s
-event_sound w v (close e) s = close_sound w v e s
+event_sound : FetchesFind → (w v : Plain) → Event w v → Sound w → Sound v
+event_sound law w v (acquire {p} {c} e) s = acquire_sound p c w v e s
+event_sound law w v (spend {p} {c} {seen} e) s = spend_sound p c seen w v e s
+event_sound law w v (ready {p} {c} e) s = ready_sound p c w v e s
+event_sound law w v (ask {p} {c} e) s = ask_sound p c w v e s
+event_sound law w v (fetch {p} {c} e) s = fetch_sound law p c w v e s
+event_sound law w v (tape {t} e) s = tape_sound t w v e s
+event_sound law w v (send {p} {c} {next} {t} e) s = send_sound p c next t w v e s
+event_sound law w v (fill {p} {u} {j} e) s = fill_sound p u j w v e s
+event_sound law w v (look {p} {c} e) s = look_sound p c w v e s
+event_sound law w v (clear {p} {c} e) s = clear_sound p c w v e s
+event_sound law w v (yield_as {p} {c} {state} e) s = yield_sound p c state w v e s
+event_sound law w v (release {p} {c} e) s = release_sound p c w v e s
+event_sound law w v (tick {time} e) s = tick_sound time w v e s
+event_sound law w v (close e) s = close_sound w v e s
 
-pub events_sound : (w v : Plain) → Events w v → Sound w → Sound v
-events_sound w v none s = s
-events_sound w v (more {m} e rest) s = events_sound m v rest (event_sound w m e s)
+pub events_sound : FetchesFind → (w v : Plain) → Events w v → Sound w → Sound v
+events_sound law w v none s = s
+events_sound law w v (more {m} e rest) s = events_sound law m v rest (event_sound law w m e s)
 
 -- An event that makes no call leaves the calls as they were.
 pub same_calls : (w v : Plain) → v.calls ≡ w.calls → (c : ℕ) → take (length (w.calls c)) (v.calls c) ≡ w.calls c

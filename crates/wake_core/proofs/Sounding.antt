@@ -4,6 +4,7 @@ use Rattle.std.proofs.lemmas.Bool.Decides.{nat_tests}
 use Rattle.cy_msg.specs.declared.token.Token.{Token}
 use Rattle.cy_fuse.specs.Fusion.{Arrival, fused}
 use Rattle.cy_fuse.specs.Fetch.{fetch}
+use Rattle.cy_fuse.specs.Laws.{FetchesFind}
 use Rattle.cy_comp.specs.declared.call.Call.{Call}
 use Rattle.cy_comp.specs.declared.call.Outcome.{Outcome}
 use Rattle.cy_comp.specs.declared.call.Outcome.TheVariants.{Emit, Hold, Last}
@@ -87,16 +88,16 @@ ask_sound p c w v e s = subst Sound (sym e.effect) record {
     waits_ready : DataWait ≡ Ready → ⊥
     waits_ready e = cc
 
-fetched_sound : (p c : ℕ) (w : Plain) → w.hands p ≡ hand c Asked → (o : Option Call) → next_call w c ≡ o → Sound w → Sound (after_fetch p c o w)
-fetched_sound p c w held None none s = record {
+fetched_sound : FetchesFind → (p c : ℕ) (w : Plain) → w.hands p ≡ hand c Asked → (o : Option Call) → next_call w c ≡ o → Sound w → Sound (after_fetch p c o w)
+fetched_sound law p c w held None none s = record {
   consistent = none_consistent p c w held s.consistent;
-  wakes = none_wakes p c held (none_made w c none) s.wakes;
+  wakes = none_wakes p c held (none_made law w c none) s.wakes;
   timely = s.timely;
 }
-fetched_sound p c w held (Some call) some s =
+fetched_sound law p c w held (Some call) some s =
     let m = call_made w c call some in
     record {
-      consistent = call_consistent p c w call held m s.consistent;
+      consistent = call_consistent p c w call held m law s.consistent;
       wakes = call_wakes (found_by (after_call p c call w)) p c held (λ k other. ap (λ n. option_and_then (λ (x : Route). fetch n (length (fused (w.arrivals k) (length x.readers))) x.queue) (slice_get w.routes k)) (set_at_other c (call.position + 1) w.cursors k other)) s.wakes;
       timely = call_timely c call (λ r. waits_ready (sym (s.consistent.held.asked p c held) ∙ r)) s.consistent.delivered.numbered (sent_few p c w call held m s.consistent) s.timely;
     }
@@ -111,15 +112,15 @@ fetched_in p c w held h = by (next_call w c) refl
     by None e = none_in p c w held h
     by (Some call) e = call_in p c w call held (call_made w c call e) h
 
-pub fetched_consistent : (p c : ℕ) (w : Plain) → w.hands p ≡ hand c Asked → Consistent w → Consistent (after_fetch p c (next_call w c) w)
-fetched_consistent p c w held s = by (next_call w c) refl
+pub fetched_consistent : FetchesFind → (p c : ℕ) (w : Plain) → w.hands p ≡ hand c Asked → Consistent w → Consistent (after_fetch p c (next_call w c) w)
+fetched_consistent law p c w held s = by (next_call w c) refl
   where
     by : (o : Option Call) → next_call w c ≡ o → Consistent (after_fetch p c o w)
     by None e = none_consistent p c w held s
-    by (Some call) e = call_consistent p c w call held (call_made w c call e) s
+    by (Some call) e = call_consistent p c w call held (call_made w c call e) law s
 
-pub fetch_sound : (p c : ℕ) (w v : Plain) → Fetches p c w v → Sound w → Sound v
-fetch_sound p c w v e s = subst Sound (sym e.effect) (fetched_sound p c w e.held (next_call w c) refl s)
+pub fetch_sound : FetchesFind → (p c : ℕ) (w v : Plain) → Fetches p c w v → Sound w → Sound v
+fetch_sound law p c w v e s = subst Sound (sym e.effect) (fetched_sound law p c w e.held (next_call w c) refl s)
 
 pub tape_sound : (t : Token) (w v : Plain) → Tapes t w v → Sound w → Sound v
 tape_sound t w v e s = subst Sound (sym e.effect) record {

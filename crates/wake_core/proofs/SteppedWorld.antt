@@ -1,6 +1,7 @@
 -- A component that is to be stepped in a world, over its fields.
 use Rattle.std.proofs.Common.{ℕ, ◌-◌, ◌^◌, ◌≡◌, ◌≢◌, ◌≤◌, ◌<◌, ◌∷◌, refl, sym, ◌∙◌, ap, arith, Option, Some, None, [], length, length-append, get_or, set, option_map, slice_get, le_trans}
 use Rattle.cy_msg.specs.declared.token.Tuple.{Tuple}
+use Rattle.cy_fuse.specs.Laws.{FetchesFind}
 use Rattle.cy_comp.specs.declared.call.Call.{Call}
 use Rattle.cy_comp.specs.declared.call.Outcome.{Outcome}
 use Rattle.cy_comp.specs.Routine.{RoutineView, taken, answer_to, MayTake}
@@ -17,7 +18,6 @@ use Rattle.wake_core.proofs.Arriving.{there, fused_planned, planned_trigger}
 use Rattle.wake_core.proofs.Reading.{read_is, read-set_same}
 use Rattle.wake_core.proofs.Listing.{get_last}
 use Rattle.wake_core.proofs.Joining.{fused_messages}
-use Rattle.wake_core.proofs.Fetching.{fetch_bounds}
 use Rattle.wake_core.proofs.Outputs.{last_push}
 use Rattle.wake_core.specs.Laws.{call_of}
 use Rattle.wake_core.proofs.Stepped.{calls_same, stepped_world}
@@ -105,12 +105,12 @@ module _ (s : World) (n : ℕ) (r : RoutineView) (f : Found) (tuple : Tuple) (t 
       omega (arith, planned, called, ap length shown_step, length-append r.calls (its_call ∷ []), ap (λ (r : RoutineView). length r.calls) t.routine)
 
   -- The component may be stepped.
-  pub may_take : MayTake r tuple f.position
+  pub may_take : FetchesFind → MayTake r tuple f.position
   unfolding plain_of its_call
-  may_take =
+  may_take law =
       let x = there s.fixed.routes.items n t.known in
       let lawful = s.sound.consistent.called.lawful n x.0 x.1 in
-      let bounds = fetch_bounds _ _ _ _ (lawful.positions (length r.calls) its_call call_there) in
+      let bounds = law.bounds _ _ _ _ (lawful.positions (length r.calls) its_call call_there) in
       let fused_tail = lawful.tails_fused (length r.calls) its_call call_there in
       let few = le_trans (fused_planned (plain_of s) n x.0 x.1 s.sound.consistent) (planned_trigger s.fixed.routes.items s.fixed.counts.items n x.0 x.1) in
       let room = room_left in

@@ -8,6 +8,7 @@ use Rattle.cy_msg.specs.declared.token.Token.{Token}
 use Rattle.cy_msg.specs.Tokens.{on_channel}
 use Rattle.cy_fuse.specs.Fusion.{Arrival}
 use Rattle.wake_core.specs.Run.{Route}
+use Rattle.cy_fuse.specs.Laws.{FetchesFind}
 use Rattle.cy_comp.specs.declared.call.Call.{Call}
 use Rattle.wake_core.specs.Planned.{planned_count, counts_from, first_reader}
 use Rattle.wake_core.specs.Plain.{Plain, hand, Asked, reads, of_role, lists_reader, unsent_of}
@@ -190,6 +191,6 @@ arrival_room w p v j x owes at s =
           rw (of_role_other j i (w.arrivals v) (w.tokens p) n) (shorter (of_role i (w.arrivals v)) (on_channel channel w.tape) (planned_count w.routes w.counts channel) begun l)
     ])
 
-pub call_in_room : (w : Plain) (p c : ℕ) (x : Route) (call : Call) → w.hands p ≡ hand c Asked → next_call w c ≡ Some call → slice_get w.routes c ≡ Some x → Consistent w
+pub call_in_room : FetchesFind → (w : Plain) (p c : ℕ) (x : Route) (call : Call) → w.hands p ≡ hand c Asked → next_call w c ≡ Some call → slice_get w.routes c ≡ Some x → Consistent w
     → length (w.calls c) < planned_count w.routes w.counts (first_reader x)
-call_in_room w p c x call held some at s = let all = fits p c w call held (call_made w c call some) s x at in omega (arith, all, length-append (w.calls c) (call ∷ []))
+call_in_room law w p c x call held some at s = let all = fits p c w call held (call_made w c call some) law s x at in omega (arith, all, length-append (w.calls c) (call ∷ []))

@@ -1,13 +1,15 @@
 -- Runs worked out event by event: the definitions allow them, and come to what is expected.
-use Rattle.std.proofs.Common.{ℕ, ◌≡◌, refl, inl, arith, Option, Some, None, option_map, [], ◌∷◌, map}
+use Rattle.std.proofs.Common.{ℕ, ◌-◌, ◌≡◌, refl, sym, ap, inl, arith, Option, Some, None, option_map, option_and_then, slice_get, length, [], ◌∷◌, map}
 use Rattle.cy_msg.specs.declared.token.Token.{Token}
 use Rattle.cy_msg.specs.declared.token.Tuple.TheVariants.{One}
 use Rattle.cy_fuse.specs.Fusion.{fused}
 use Rattle.cy_fuse.specs.Fetch.{fetch as fetch_rule}
+use Rattle.cy_fuse.specs.Laws.{FetchesFind}
+use Rattle.cy_comp.specs.declared.call.Call.{Call}
 use Rattle.cy_comp.specs.Calls.{outs}
 use Rattle.wake_core.specs.Run.{Route, set_at}
-use Rattle.wake_core.specs.Plain.{Plain, hand, DataWait, Known, opening_world}
-use Rattle.wake_core.specs.Events.{next_call, after_acquire, after_spend, after_ready, after_ask, after_none, after_fetch, after_tape, after_fill, after_look, after_clear, after_yield, after_release}
+use Rattle.wake_core.specs.Plain.{Plain, hand, DataWait, Known, opening_world, tail_at}
+use Rattle.wake_core.specs.Events.{call_on, next_call, after_acquire, after_spend, after_ready, after_ask, after_none, after_call, after_fetch, after_tape, after_fill, after_look, after_clear, after_yield, after_release}
 use Rattle.wake_core.specs.Laws.{Events, none, more, acquire, spend, ready, ask, fetch, tape, fill, look, clear, yield_as, release, tick}
 use Rattle.wake_core.proofs.Places.{set_at_is}
 
@@ -33,11 +35,20 @@ called_once r = record (opening_world (alone 1 r ∷ []) (2 ∷ 0 ∷ [])) {
 abbrev position_of : Plain → Option ℕ
 position_of w = option_map (λ x. x.position) (next_call w 0)
 
+-- The call that comes of what a fetch finds.
+next_by : (c : ℕ) (w : Plain) (x : Route) (o : Option ℕ) → slice_get w.routes c ≡ Some x → fetch_rule (w.cursors c) (tail_at x w c) x.queue ≡ o
+    → next_call w c ≡ option_and_then (λ (n : ℕ). option_map (call_on x w c n) (slice_get (fused (w.arrivals c) (length x.readers)) (n - 1))) o
+next_by c w x o at is = rw at (ap (λ (o : Option ℕ). option_and_then (λ (n : ℕ). option_map (call_on x w c n) (slice_get (fused (w.arrivals c) (length x.readers)) (n - 1))) o) is)
+
+-- A fetch that finds nothing.
+misses : (p c : ℕ) (w : Plain) (x : Route) → slice_get w.routes c ≡ Some x → fetch_rule (w.cursors c) (tail_at x w c) x.queue ≡ None → after_none p c w ≡ after_fetch p c (next_call w c) w
+misses p c w x at is = ap (λ (o : Option Call). after_fetch p c o w) (sym (next_by c w x None at is))
+
 -- A message that comes between the fetch and the parking isn't lost: its Look sees DATA_WAIT, the flag is cleared, and so the
 -- component is woken and called on it.
-park_race : (r : Route) → (v : Plain) × Events (called_once r) v × (position_of v ≡ Some 2)
-unfolding set_at fused fetch_rule outs
-park_race r =
+park_race : FetchesFind → (r : Route) → (v : Plain) × Events (called_once r) v × (position_of v ≡ Some 2)
+unfolding set_at fused outs
+park_race law r =
     let w0 = called_once r in
     let w1 = after_ask 1 0 w0 in
     let w2 = after_none 1 0 w1 in
@@ -53,7 +64,7 @@ park_race r =
     let w12 = after_ask 1 0 w11 in (
       w12,
       more {m = w1} (ask {p = 1} {c = 0} record { held = refl; ready = refl; none_held = refl; effect = refl })
-          (more {m = w2} (fetch {p = 1} {c = 0} record { held = refl; effect = refl })
+          (more {m = w2} (fetch {p = 1} {c = 0} record { held = refl; effect = misses 1 0 w1 (alone 1 r) refl (law.past 2 1 1 (omega arith)) })
           (more {m = w3} (tape {t = message 2 2} record { owes = record { filled = refl; looked = refl; cleared = refl }; next = record { unwritten = refl; next = refl; within = omega arith }; now = refl; effect = refl })
           (more {m = w4} (fill {p = 0} {u = 0} {j = 0} record { later = []; first = refl; effect = refl })
           (more {m = w5} (look {p = 0} {c = 0} record { later = []; filled = refl; first = refl; effect = refl })
@@ -65,13 +76,13 @@ park_race r =
           (more {m = w11} (ready {p = 1} {c = 0} record { held = inl refl; effect = refl })
           (more {m = w12} (ask {p = 1} {c = 0} record { held = refl; ready = refl; none_held = refl; effect = refl })
           none))))))))))),
-      refl,
+      ap (option_map (λ (x : Call). x.position)) (next_by 0 w12 (alone 1 r) (Some 2) refl (law.next 2 2 1 (omega arith) (omega arith) (omega arith))),
     )
 
 -- One that comes while the component is READY needs no wake: the fetch that follows finds it.
-fetch_without_wake : (r : Route) → (v : Plain) × Events (called_once r) v × (position_of v ≡ Some 2)
-unfolding set_at fused fetch_rule outs
-fetch_without_wake r =
+fetch_without_wake : FetchesFind → (r : Route) → (v : Plain) × Events (called_once r) v × (position_of v ≡ Some 2)
+unfolding set_at fused outs
+fetch_without_wake law r =
     let w0 = called_once r in
     let w1 = after_tape 0 (message 2 2) w0 in
     let w2 = after_fill 0 0 0 [] w1 in
@@ -83,7 +94,7 @@ fetch_without_wake r =
           (more {m = w3} (look {p = 0} {c = 0} record { later = []; filled = refl; first = refl; effect = refl })
           (more {m = w4} (ask {p = 1} {c = 0} record { held = refl; ready = refl; none_held = refl; effect = refl })
           none))),
-      refl,
+      ap (option_map (λ (x : Call). x.position)) (next_by 0 w4 (alone 1 r) (Some 2) refl (law.next 2 2 1 (omega arith) (omega arith) (omega arith))),
     )
 
 -- A message of channel 0 is played at its time, while its reader is READY.
@@ -91,11 +102,11 @@ abbrev played_to_ready : (seq : ℕ) → Plain → Plain
 played_to_ready seq w = after_look 0 0 [] (after_fill 0 0 0 [] (after_tape 0 (message seq seq) record w { clock = seq }))
 
 -- Four that come before the first resume: the first fetch takes the newest, and the next begins behind it.
-four_before_the_first_resume : (r : Route) → let w0 = opening_world (alone 4 r ∷ []) (4 ∷ 0 ∷ []) in
+four_before_the_first_resume : FetchesFind → (r : Route) → let w0 = opening_world (alone 4 r ∷ []) (4 ∷ 0 ∷ []) in
     (v : Plain) × Events w0 v × (v.arrivals 0 ≡ (0, message 1 1) ∷ (0, message 2 2) ∷ (0, message 3 3) ∷ (0, message 4 4) ∷ [])
     × (map (λ x. x.position) (v.calls 0) ≡ 4 ∷ []) × (map (λ x. x.tail) (v.calls 0) ≡ 4 ∷ []) × (v.cursors 0 ≡ 5)
-unfolding set_at fused fetch_rule outs
-four_before_the_first_resume r =
+unfolding set_at fused outs
+four_before_the_first_resume law r =
     let w0 = opening_world (alone 4 r ∷ []) (4 ∷ 0 ∷ []) in
     let w1 = played_to_ready 1 w0 in
     let w2 = played_to_ready 2 w1 in
@@ -104,7 +115,7 @@ four_before_the_first_resume r =
     let w5 = after_acquire 1 0 w4 in
     let w6 = after_spend 1 0 w5 in
     let w7 = after_ask 1 0 w6 in
-    let w8 = after_fetch 1 0 (next_call w7 0) w7 in (
+    let w8 = after_call 1 0 (call_on (alone 4 r) w7 0 4 (One (message 4 4))) w7 in (
       w8,
       more {m = record w0 { clock = 1 }} (tick {time = 1} record { later = omega arith; effect = refl })
           (more {m = after_tape 0 (message 1 1) record w0 { clock = 1 }} (tape {t = message 1 1} record { owes = record { filled = refl; looked = refl; cleared = refl }; next = record { unwritten = refl; next = refl; within = omega arith }; now = refl; effect = refl })
@@ -125,7 +136,7 @@ four_before_the_first_resume r =
           (more {m = w5} (acquire {p = 1} {c = 0} record { known = omega arith; idle = refl; free = λ p f e. grind (arith, set_at_is, e); effect = refl })
           (more {m = w6} (spend {p = 1} {c = 0} {seen = 4} record { held = refl; past = omega arith; not_due = λ d. d; effect = refl })
           (more {m = w7} (ask {p = 1} {c = 0} record { held = refl; ready = refl; none_held = refl; effect = refl })
-          (more {m = w8} (fetch {p = 1} {c = 0} record { held = refl; effect = refl })
+          (more {m = w8} (fetch {p = 1} {c = 0} record { held = refl; effect = ap (λ (o : Option Call). after_fetch 1 0 o w7) (sym (next_by 0 w7 (alone 4 r) (Some 4) refl (law.first 4 4 (omega arith)))) })
           none))))))))))))))))))),
       refl,
       refl,
@@ -138,10 +149,10 @@ abbrev of_two : Route → Route
 of_two r = record r { readers = 0 ∷ 1 ∷ []; queue = 1; out = 2 }
 
 -- Where nothing comes to the second reader nothing is fused: each message wakes the component, which finds nothing and parks.
-never_fuses : (r : Route) → let w0 = opening_world (of_two r ∷ []) (2 ∷ 0 ∷ 0 ∷ []) in
+never_fuses : FetchesFind → (r : Route) → let w0 = opening_world (of_two r ∷ []) (2 ∷ 0 ∷ 0 ∷ []) in
     (v : Plain) × Events w0 v × (map (λ x. x.0) (v.arrivals 0) ≡ 0 ∷ 0 ∷ []) × (v.calls 0 ≡ []) × (v.cursors 0 ≡ 0) × (v.states 0 ≡ DataWait)
-unfolding set_at fused fetch_rule outs
-never_fuses r =
+unfolding set_at fused outs
+never_fuses law r =
     let w0 = opening_world (of_two r ∷ []) (2 ∷ 0 ∷ 0 ∷ []) in
     let w1 = record w0 { clock = 1 } in
     let w2 = after_tape 0 (message 1 1) w1 in
@@ -173,7 +184,7 @@ never_fuses r =
           (more {m = w5} (acquire {p = 1} {c = 0} record { known = omega arith; idle = refl; free = λ p f e. grind (arith, set_at_is, e); effect = refl })
           (more {m = w6} (spend {p = 1} {c = 0} {seen = 1} record { held = refl; past = omega arith; not_due = λ d. d; effect = refl })
           (more {m = w7} (ask {p = 1} {c = 0} record { held = refl; ready = refl; none_held = refl; effect = refl })
-          (more {m = w8} (fetch {p = 1} {c = 0} record { held = refl; effect = refl })
+          (more {m = w8} (fetch {p = 1} {c = 0} record { held = refl; effect = misses 1 0 w7 (of_two r) refl (law.empty 0 1) })
           (more {m = w9} (yield_as {p = 1} {c = 0} {state = DataWait} record { owes = record { filled = refl; looked = refl; cleared = refl }; held = inl (refl, refl); effect = refl })
           (more {m = w10} (release {p = 1} {c = 0} record { held = inl refl; effect = refl })
           (more {m = w11} (tick {time = 2} record { later = omega arith; effect = refl })
@@ -185,7 +196,7 @@ never_fuses r =
           (more {m = w17} (spend {p = 1} {c = 0} {seen = 2} record { held = refl; past = omega arith; not_due = λ d. d; effect = refl })
           (more {m = w18} (ready {p = 1} {c = 0} record { held = inl refl; effect = refl })
           (more {m = w19} (ask {p = 1} {c = 0} record { held = refl; ready = refl; none_held = refl; effect = refl })
-          (more {m = w20} (fetch {p = 1} {c = 0} record { held = refl; effect = refl })
+          (more {m = w20} (fetch {p = 1} {c = 0} record { held = refl; effect = misses 1 0 w19 (of_two r) refl (law.empty 0 1) })
           (more {m = w21} (yield_as {p = 1} {c = 0} {state = DataWait} record { owes = record { filled = refl; looked = refl; cleared = refl }; held = inl (refl, refl); effect = refl })
           (more {m = w22} (release {p = 1} {c = 0} record { held = inl refl; effect = refl })
           none))))))))))))))))))))),

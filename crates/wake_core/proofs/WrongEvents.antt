@@ -5,7 +5,7 @@ use Rattle.std.proofs.lemmas.List.{length-take}
 use Rattle.cy_msg.specs.declared.token.Token.{Token}
 use Rattle.cy_msg.specs.Tokens.{on_channel}
 use Rattle.cy_fuse.specs.Fusion.{fused}
-use Rattle.cy_fuse.specs.Fetch.{fetch as fetch_rule}
+use Rattle.cy_fuse.specs.Laws.{FetchesFind}
 use Rattle.cy_comp.specs.declared.call.Call.{Call}
 use Rattle.cy_comp.specs.declared.call.Out.{Out}
 use Rattle.cy_comp.specs.declared.call.Outcome.TheVariants.{Emit}
@@ -31,21 +31,21 @@ waiting r =
     after_tape 0 (message 1 1) record parked { clock = 1 }
 
 -- A fill that joins no news (the notifier cleared before it, and doesn't look again) loses the component, ..
-fill_tells_nobody : (r : Route) → Lost record (after_fill 0 0 0 [] (waiting r)) { news = λ p. [] } 0
-unfolding set_at fused fetch_rule
-fill_tells_nobody r = record { free = λ p f e. grind (arith, set_at_is, e); waits = refl; spent = refl; unfetched = λ e. cc; untold = λ p. (refl, refl) }
+fill_tells_nobody : FetchesFind → (r : Route) → Lost record (after_fill 0 0 0 [] (waiting r)) { news = λ p. [] } 0
+unfolding set_at fused
+fill_tells_nobody law r = record { free = λ p f e. grind (arith, set_at_is, e); waits = refl; spent = refl; unfetched = law.some 0 1 1 (omega arith) (omega arith); untold = λ p. (refl, refl) }
 
 -- .. and so does a Look that sees DATA_WAIT and has nothing to clear, ..
-look_clears_nothing : (r : Route) → Lost record (after_look 0 0 [] (after_fill 0 0 0 [] (waiting r))) { news = λ p. []; clearing = λ p. [] } 0
-unfolding set_at fused fetch_rule
-look_clears_nothing r = record { free = λ p f e. grind (arith, set_at_is, e); waits = refl; spent = refl; unfetched = λ e. cc; untold = λ p. (refl, refl) }
+look_clears_nothing : FetchesFind → (r : Route) → Lost record (after_look 0 0 [] (after_fill 0 0 0 [] (waiting r))) { news = λ p. []; clearing = λ p. [] } 0
+unfolding set_at fused
+look_clears_nothing law r = record { free = λ p f e. grind (arith, set_at_is, e); waits = refl; spent = refl; unfetched = law.some 0 1 1 (omega arith) (omega arith); untold = λ p. (refl, refl) }
 
 -- .. and a holder that spends a clear flag in DATA_WAIT and gives the component back without making it READY.
-spend_without_ready : (r : Route) →
+spend_without_ready : FetchesFind → (r : Route) →
     let cleared = after_clear 0 0 [] (after_look 0 0 [] (after_fill 0 0 0 [] (waiting r))) in
     Lost record (after_release 1 (after_spend 1 0 (after_acquire 1 0 cleared))) { news = λ p. []; clearing = λ p. [] } 0
-unfolding set_at fused fetch_rule
-spend_without_ready r = record { free = λ p f e. grind (arith, set_at_is, e); waits = refl; spent = refl; unfetched = λ e. cc; untold = λ p. (refl, refl) }
+unfolding set_at fused
+spend_without_ready law r = record { free = λ p f e. grind (arith, set_at_is, e); waits = refl; spent = refl; unfetched = law.some 0 1 1 (omega arith) (omega arith); untold = λ p. (refl, refl) }
 
 -- One that was lost was in no world of a run.
 refused : (w : Plain) → Lost w 0 → Sound w → ⊥

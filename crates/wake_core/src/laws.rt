@@ -11,6 +11,8 @@ ghost use Rattle.wake_core.specs.Laws.{OutsideLaws, LimitLaws, WiringLaws};
 ghost use Rattle.wake_core.specs.TapeLaws.{UnsentLaws, PutLaws};
 ghost use Rattle.wake_core.specs.Bounds.{PlaceLaws, BoundLaws};
 
+use cy_fuse::fetches_find;
+
 /// Taking a croutine that is free keeps what holds of a world.
 pub fn acquire()
     ensures { AcquireLaws }
@@ -34,7 +36,9 @@ pub fn ask()
 /// So does a fetch, whether it finds a tuple or not.
 pub fn fetch()
     ensures { FetchLaws }
-{}
+{
+    fetches_find();
+}
 
 /// So does a message that the player puts onto the tape.
 pub fn tape()
@@ -85,7 +89,9 @@ pub fn close()
 /// there, and none has two holders.
 pub fn run()
     ensures { RunLaws }
-{}
+{
+    fetches_find();
+}
 
 /// Every message that arrived stands on the tape.
 pub fn taped()
@@ -110,7 +116,9 @@ pub fn fewer()
 /// What is to be sent, played, filled or called leaves room for itself.
 pub fn room()
     ensures { RoomLaws }
-{}
+{
+    fetches_find();
+}
 
 /// An output that is not sent yet is the next one of its component's channel.
 pub fn unsent()
@@ -141,7 +149,9 @@ pub fn limits()
 /// component's visitor finds.
 pub fn found()
     ensures { FoundLaws }
-{}
+{
+    fetches_find();
+}
 
 /// The components of a wiring are wired: following triggers comes to a channel that no component
 /// writes, so that as much is planned on a component's channel as on the one that triggers it.

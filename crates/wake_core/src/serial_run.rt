@@ -18,6 +18,7 @@ ghost use Rattle.wake_core.specs.WorldCalls.{in_hand, phase_sent, IsStepped};
 
 use crate::World;
 use cy_comp::{Outcome, State};
+use cy_fuse::fetches_find;
 use cy_msg::{ContextPlan, Placement, PlayList, Token};
 
 /// Plays the messages of a list, one after another, in a world that was made for it and in which
@@ -183,6 +184,7 @@ fn follow(world: &mut World, component: u32, outcome: &Outcome)
     ensures { (w : Plain) (x : Call) → IsCalledFrom component x w (plain_of world.old)
         → Resumes component w (plain_of world.new) }
 {
+    fetches_find();
     send_out(world, component, outcome);
     world.give_back(state_of(outcome));
 }

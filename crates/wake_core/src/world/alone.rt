@@ -4,6 +4,7 @@ ghost use Rattle.wake_core.specs.Turns.{is_due, is_woken, is_ready};
 
 use crate::{Hand, Phase, World};
 use cy_comp::State;
+use cy_fuse::fetches_find;
 
 impl World {
     ghost use Rattle.std.specs.Prelude.{◌≡◌, ◌<◌, ◌∷◌, [], true, false, length};
@@ -49,6 +50,7 @@ impl World {
         ensures parks { Parks component (plain_of self.old) (plain_of self.new) }
         ensures steps { to_step self.new ≡ to_step self.old }
     {
+        fetches_find();
         let index = component as usize;
         let routine = &mut self.routines[index];
         if matches!(routine.state(), State::Ready)

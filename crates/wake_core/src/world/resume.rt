@@ -3,6 +3,7 @@ use crate::found::Found;
 use crate::next_call::call_next;
 use crate::{Hand, Phase, World};
 use cy_comp::{Outcome, State};
+use cy_fuse::fetches_find;
 use cy_msg::Tuple;
 
 impl World {
@@ -44,6 +45,7 @@ impl World {
         ensures steps { to_step self.new
             ≡ set_at (in_hand thread (plain_of self.old)) result (to_step self.old) }
     {
+        fetches_find();
         let croutine = self.holding(thread);
         let mut cursor = self.routines[croutine as usize].cursor();
         match self.visitors[croutine as usize].try_fetch(&mut cursor) {
@@ -80,6 +82,7 @@ impl World {
         ensures steps { to_step self.new
             ≡ set_at (in_hand thread (plain_of self.old)) None (to_step self.old) }
     {
+        fetches_find();
         let croutine = self.holding(thread);
         match self.found[croutine as usize] {
             Some(found) => {
@@ -101,6 +104,7 @@ impl World {
         ensures event { Calls component result (plain_of self.old) (plain_of self.new) }
         ensures steps { to_step self.new ≡ to_step self.old }
     {
+        fetches_find();
         let index = component as usize;
         let routine = &mut self.routines[index];
         routine.ask();

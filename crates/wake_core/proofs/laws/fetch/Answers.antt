@@ -6,7 +6,7 @@ use Rattle.wake_core.proofs.laws.fetch.Goals as goal
 pub returns : goal.returns
 returns k = record {
   held = fetched_in;
-  consistent = fetched_consistent;
-  sound = fetch_sound;
+  consistent = fetched_consistent k.fetches_find.ensures.find;
+  sound = fetch_sound k.fetches_find.ensures.find;
   calls = fetch_calls;
 }

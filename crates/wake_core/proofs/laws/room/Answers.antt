@@ -11,5 +11,5 @@ returns k = record {
   message = message_total;
   arrival = arrival_room;
   next_arrival = λ w p v j later x first at s. arrival_room w p v j x (ap (lists_reader v j) first ∙ lists_reader_first v j later) at s;
-  call = call_in_room;
+  call = call_in_room k.fetches_find.ensures.find;
 }

@@ -5,7 +5,7 @@ use Rattle.wake_core.proofs.laws.run.Goals as goal
 pub returns : goal.returns
 returns k = record {
   opening = opening_sound;
-  sound = events_sound;
+  sound = events_sound k.fetches_find.ensures.find;
   none_lost = none_lost;
   one_holder = λ w h. h.one;
   calls = events_calls;

@@ -12,4 +12,4 @@ give_back-requires-clause-stepped c = follow_stepped c.args.component (plain_of 
 
 pub returns : goal.returns
 returns c = follow_resumes c.args.component (plain_of c.args.world.now) c.requires.held c.args.outcome.now c.requires.outcome (plain_of c.send_out.new.world) c.send_out.ensures.sends
-    c.state_of.result (plain_of c.give_back.new.self) c.give_back.ensures.event
+    c.fetches_find.ensures.find c.state_of.result (plain_of c.give_back.new.self) c.give_back.ensures.event

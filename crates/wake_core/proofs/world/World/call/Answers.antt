@@ -23,7 +23,7 @@ call_next-requires c =
     let s = c.args.self.now in
     let n = c.args.component in
     let r : RoutineView = c.index_mut-routine.result.now in
-    let t : IsToCall s n r = record { held = c.requires.held; ready = c.requires.ready; none_held = c.requires.none_held; routine = c.index_mut-routine.ensures.value } in
+    let t : IsToCall s n r = record { held = c.requires.held; ready = c.requires.ready; none_held = c.requires.none_held; routine = c.index_mut-routine.ensures.value; law = c.fetches_find.ensures.find } in
     let a : RoutineView = c.ask.new.self in
     let cursor : cursor_after a.calls ≡ cursor_after r.calls = ap (λ (x : RoutineView). cursor_after x.calls) c.ask.ensures in
     λ x is. may_call s n r t x.0 x.1 x.2 (call_next s n r t c.index.result.now (cursor_after a.calls) (Some x) c.index.ensures cursor (sym is)) a c.ask.ensures
@@ -34,7 +34,7 @@ invariant_of-self c =
     let s = c.args.self.now in
     let n = c.args.component in
     let r : RoutineView = c.index_mut-routine.result.now in
-    let t : IsToCall s n r = record { held = c.requires.held; ready = c.requires.ready; none_held = c.requires.none_held; routine = c.index_mut-routine.ensures.value } in
+    let t : IsToCall s n r = record { held = c.requires.held; ready = c.requires.ready; none_held = c.requires.none_held; routine = c.index_mut-routine.ensures.value; law = c.fetches_find.ensures.find } in
     let a : RoutineView = c.ask.new.self in
     let cursor : cursor_after a.calls ≡ cursor_after r.calls = ap (λ (x : RoutineView). cursor_after x.calls) c.ask.ensures in
     let h = has_called a c.call_next.new.routine (next_found a c.index.result.now) c.call_next.result c.in-Some.outcome c.call_next.ensures.answer c.call_next.ensures.called c.in-Some.is in
@@ -61,7 +61,7 @@ invariant_of-self-in-None c =
     let s = c.args.self.now in
     let n = c.args.component in
     let r : RoutineView = c.index_mut-routine.result.now in
-    let t : IsToCall s n r = record { held = c.requires.held; ready = c.requires.ready; none_held = c.requires.none_held; routine = c.index_mut-routine.ensures.value } in
+    let t : IsToCall s n r = record { held = c.requires.held; ready = c.requires.ready; none_held = c.requires.none_held; routine = c.index_mut-routine.ensures.value; law = c.fetches_find.ensures.find } in
     let a : RoutineView = c.ask.new.self in
     let cursor : cursor_after a.calls ≡ cursor_after r.calls = ap (λ (x : RoutineView). cursor_after x.calls) c.ask.ensures in
     let m = has_missed a c.call_next.new.routine (next_found a c.index.result.now) c.call_next.result c.call_next.ensures.answer c.call_next.ensures.called c.in-None.is in
@@ -88,7 +88,7 @@ returns-in-Some-clause-event c =
     let s = c.args.self.now in
     let n = c.args.component in
     let r : RoutineView = c.index_mut-routine.result.now in
-    let t : IsToCall s n r = record { held = c.requires.held; ready = c.requires.ready; none_held = c.requires.none_held; routine = c.index_mut-routine.ensures.value } in
+    let t : IsToCall s n r = record { held = c.requires.held; ready = c.requires.ready; none_held = c.requires.none_held; routine = c.index_mut-routine.ensures.value; law = c.fetches_find.ensures.find } in
     let a : RoutineView = c.ask.new.self in
     let cursor : cursor_after a.calls ≡ cursor_after r.calls = ap (λ (x : RoutineView). cursor_after x.calls) c.ask.ensures in
     let h = has_called a c.call_next.new.routine (next_found a c.index.result.now) c.call_next.result c.in-Some.outcome c.call_next.ensures.answer c.call_next.ensures.called c.in-Some.is in
@@ -109,7 +109,7 @@ returns-in-None-clause-event c =
     let s = c.args.self.now in
     let n = c.args.component in
     let r : RoutineView = c.index_mut-routine.result.now in
-    let t : IsToCall s n r = record { held = c.requires.held; ready = c.requires.ready; none_held = c.requires.none_held; routine = c.index_mut-routine.ensures.value } in
+    let t : IsToCall s n r = record { held = c.requires.held; ready = c.requires.ready; none_held = c.requires.none_held; routine = c.index_mut-routine.ensures.value; law = c.fetches_find.ensures.find } in
     let a : RoutineView = c.ask.new.self in
     let cursor : cursor_after a.calls ≡ cursor_after r.calls = ap (λ (x : RoutineView). cursor_after x.calls) c.ask.ensures in
     let m = has_missed a c.call_next.new.routine (next_found a c.index.result.now) c.call_next.result c.call_next.ensures.answer c.call_next.ensures.called c.in-None.is in

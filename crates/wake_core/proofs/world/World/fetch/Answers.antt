@@ -28,20 +28,20 @@ index_mut-requires c = omega (arith, c.holding-croutine.ensures.known, c.args.se
 pub returns-in-None-clause-answer : goal.returns-in-None-clause-answer
 returns-in-None-clause-answer c =
     let a = asking c.args.self.now c.args.thread c.holding-croutine.result c.index.result.now c.holding-croutine.ensures.is c.holding-croutine.ensures.known c.requires c.index.ensures in
-    let next = fetch_next c.args.self.now c.args.thread c.holding-croutine.result c.index.result.now a c.index-2.result.now c.cursor-cursor.result None c.index-2.ensures c.cursor-cursor.ensures (sym c.in-None.is ∙ c.try_fetch.ensures.found) in
+    let next = fetch_next c.args.self.now c.args.thread c.holding-croutine.result c.index.result.now a c.fetches_find.ensures.find c.index-2.result.now c.cursor-cursor.result None c.index-2.ensures c.cursor-cursor.ensures (sym c.in-None.is ∙ c.try_fetch.ensures.found) in
     ap (option_map (λ (x : Call). x.tuple)) (sym next ∙ ap (next_call (plain_of c.args.self.now)) c.holding-croutine.ensures.is)
 
 pub returns-in-Some-clause-answer : goal.returns-in-Some-clause-answer
 returns-in-Some-clause-answer c =
     let a = asking c.args.self.now c.args.thread c.holding-croutine.result c.index.result.now c.holding-croutine.ensures.is c.holding-croutine.ensures.known c.requires c.index.ensures in
-    let next = fetch_next c.args.self.now c.args.thread c.holding-croutine.result c.index.result.now a c.index-2.result.now c.cursor-cursor.result (Some (c.in-Some.tuple, c.in-Some.position, c.in-Some.tail)) c.index-2.ensures c.cursor-cursor.ensures (sym c.in-Some.is ∙ c.try_fetch.ensures.found) in
+    let next = fetch_next c.args.self.now c.args.thread c.holding-croutine.result c.index.result.now a c.fetches_find.ensures.find c.index-2.result.now c.cursor-cursor.result (Some (c.in-Some.tuple, c.in-Some.position, c.in-Some.tail)) c.index-2.ensures c.cursor-cursor.ensures (sym c.in-Some.is ∙ c.try_fetch.ensures.found) in
     ap (option_map (λ (x : Call). x.tuple)) (sym next ∙ ap (next_call (plain_of c.args.self.now)) c.holding-croutine.ensures.is)
 
 pub returns-in-None-clause-event : goal.returns-in-None-clause-event
 unfolding plain_of
 returns-in-None-clause-event c =
     let a = asking c.args.self.now c.args.thread c.holding-croutine.result c.index.result.now c.holding-croutine.ensures.is c.holding-croutine.ensures.known c.requires c.index.ensures in
-    let next = fetch_next c.args.self.now c.args.thread c.holding-croutine.result c.index.result.now a c.index-2.result.now c.cursor-cursor.result None c.index-2.ensures c.cursor-cursor.ensures (sym c.in-None.is ∙ c.try_fetch.ensures.found) in
+    let next = fetch_next c.args.self.now c.args.thread c.holding-croutine.result c.index.result.now a c.fetches_find.ensures.find c.index-2.result.now c.cursor-cursor.result None c.index-2.ensures c.cursor-cursor.ensures (sym c.in-None.is ∙ c.try_fetch.ensures.found) in
     let thread : c.args.thread < length c.args.self.now.hands.items = omega (arith, c.holding-croutine.ensures.thread, c.args.self.now.sized.hands_fit) in
     fetches c.holding-croutine.ensures.is c.requires next (with_hands (plain_of c.args.self.now) (hands_set c.args.self.now.hands.items c.args.thread (hand c.holding-croutine.result Empty) thread))
 
@@ -49,7 +49,7 @@ pub returns-in-Some-clause-event : goal.returns-in-Some-clause-event
 unfolding plain_of
 returns-in-Some-clause-event c =
     let a = asking c.args.self.now c.args.thread c.holding-croutine.result c.index.result.now c.holding-croutine.ensures.is c.holding-croutine.ensures.known c.requires c.index.ensures in
-    let next = fetch_next c.args.self.now c.args.thread c.holding-croutine.result c.index.result.now a c.index-2.result.now c.cursor-cursor.result (Some (c.in-Some.tuple, c.in-Some.position, c.in-Some.tail)) c.index-2.ensures c.cursor-cursor.ensures (sym c.in-Some.is ∙ c.try_fetch.ensures.found) in
+    let next = fetch_next c.args.self.now c.args.thread c.holding-croutine.result c.index.result.now a c.fetches_find.ensures.find c.index-2.result.now c.cursor-cursor.result (Some (c.in-Some.tuple, c.in-Some.position, c.in-Some.tail)) c.index-2.ensures c.cursor-cursor.ensures (sym c.in-Some.is ∙ c.try_fetch.ensures.found) in
     let thread : c.args.thread < length c.args.self.now.hands.items = omega (arith, c.holding-croutine.ensures.thread, c.args.self.now.sized.hands_fit) in
     let component : c.holding-croutine.result < length c.args.self.now.found.items = omega (arith, c.holding-croutine.ensures.known, c.args.self.now.sized.found_fit) in
     let f : Found = record { tuple = c.in-Some.tuple; position = c.in-Some.position; tail = c.in-Some.tail } in
@@ -75,7 +75,7 @@ pub invariant_of-self-in-None : goal.invariant_of-self-in-None
 unfolding plain_of
 invariant_of-self-in-None c =
     let a = asking c.args.self.now c.args.thread c.holding-croutine.result c.index.result.now c.holding-croutine.ensures.is c.holding-croutine.ensures.known c.requires c.index.ensures in
-    let next = fetch_next c.args.self.now c.args.thread c.holding-croutine.result c.index.result.now a c.index-2.result.now c.cursor-cursor.result None c.index-2.ensures c.cursor-cursor.ensures (sym c.in-None.is ∙ c.try_fetch.ensures.found) in
+    let next = fetch_next c.args.self.now c.args.thread c.holding-croutine.result c.index.result.now a c.fetches_find.ensures.find c.index-2.result.now c.cursor-cursor.result None c.index-2.ensures c.cursor-cursor.ensures (sym c.in-None.is ∙ c.try_fetch.ensures.found) in
     let thread : c.args.thread < length c.args.self.now.hands.items = omega (arith, c.holding-croutine.ensures.thread, c.args.self.now.sized.hands_fit) in
     let hands = hands_set c.args.self.now.hands.items c.args.thread (hand c.holding-croutine.result Empty) thread in
     record {
@@ -87,14 +87,14 @@ invariant_of-self-in-None c =
       roomy = c.args.self.now.roomy;
       owing = c.args.self.now.owing;
       counted = c.args.self.now.counted;
-      sound = fetch_sound c.args.thread _ (plain_of c.args.self.now) _ (fetches c.holding-croutine.ensures.is c.requires next (with_hands (plain_of c.args.self.now) hands)) c.args.self.now.sound;
+      sound = fetch_sound c.fetches_find.ensures.find c.args.thread _ (plain_of c.args.self.now) _ (fetches c.holding-croutine.ensures.is c.requires next (with_hands (plain_of c.args.self.now) hands)) c.args.self.now.sound;
     }
 
 pub invariant_of-self : goal.invariant_of-self
 unfolding plain_of
 invariant_of-self c =
     let a = asking c.args.self.now c.args.thread c.holding-croutine.result c.index.result.now c.holding-croutine.ensures.is c.holding-croutine.ensures.known c.requires c.index.ensures in
-    let next = fetch_next c.args.self.now c.args.thread c.holding-croutine.result c.index.result.now a c.index-2.result.now c.cursor-cursor.result (Some (c.in-Some.tuple, c.in-Some.position, c.in-Some.tail)) c.index-2.ensures c.cursor-cursor.ensures (sym c.in-Some.is ∙ c.try_fetch.ensures.found) in
+    let next = fetch_next c.args.self.now c.args.thread c.holding-croutine.result c.index.result.now a c.fetches_find.ensures.find c.index-2.result.now c.cursor-cursor.result (Some (c.in-Some.tuple, c.in-Some.position, c.in-Some.tail)) c.index-2.ensures c.cursor-cursor.ensures (sym c.in-Some.is ∙ c.try_fetch.ensures.found) in
     let thread : c.args.thread < length c.args.self.now.hands.items = omega (arith, c.holding-croutine.ensures.thread, c.args.self.now.sized.hands_fit) in
     let component : c.holding-croutine.result < length c.args.self.now.found.items = omega (arith, c.holding-croutine.ensures.known, c.args.self.now.sized.found_fit) in
     let f : Found = record { tuple = c.in-Some.tuple; position = c.in-Some.position; tail = c.in-Some.tail } in
@@ -112,5 +112,5 @@ invariant_of-self c =
       roomy = c.args.self.now.roomy;
       owing = c.args.self.now.owing;
       counted = c.args.self.now.counted;
-      sound = fetch_sound c.args.thread _ (plain_of c.args.self.now) _ (fetches c.holding-croutine.ensures.is c.requires next effect) c.args.self.now.sound;
+      sound = fetch_sound c.fetches_find.ensures.find c.args.thread _ (plain_of c.args.self.now) _ (fetches c.holding-croutine.ensures.is c.requires next effect) c.args.self.now.sound;
     }

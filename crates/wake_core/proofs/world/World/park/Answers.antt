@@ -29,7 +29,7 @@ invariant_of-self c =
     let s = c.args.self.now in
     let n = c.args.component in
     let r : RoutineView = c.index_mut-routine.result.now in
-    let t : IsToPark s n r = record { rest = c.requires.rest; known = c.requires.known; routine = c.index_mut-routine.ensures.value } in
+    let t : IsToPark s n r = record { rest = c.requires.rest; known = c.requires.known; routine = c.index_mut-routine.ensures.value; law = c.fetches_find.ensures.find } in
     let same = asked_same s n r t c.ask.new.self c.ask.ensures in
     let nothing = none_for s n r t c.index.result.now c.cursor.result c.index.ensures c.cursor.ensures
     (elim c.match-matches.branch [ in-Ready m ↦ sym (ap is_ready m.in-Ready.ensures) | in_default m ↦ absurd (true_false (sym c.if-matches.true ∙ m.matches-is)) ]) (sym (ap is_some c.pending.ensures) ∙ c.if-is_none.ensures) (sym c.if-not-finds.ensures) in
@@ -42,7 +42,7 @@ invariant_of-self c =
       roomy = roomy_stored DataWait same s.roomy;
       owing = s.owing;
       counted = s.counted;
-      sound = subst Sound (sym (parked_shown s n r t c.ask.new.self c.ask.ensures)) (parked_sound n (plain_of s) c.requires.rest c.requires.known s.sound nothing);
+      sound = subst Sound (sym (parked_shown s n r t c.ask.new.self c.ask.ensures)) (parked_sound n (plain_of s) c.requires.rest c.requires.known s.sound nothing c.fetches_find.ensures.find);
     }
 
 pub returns-then-not-finds-clause-parks : goal.returns-then-not-finds-clause-parks
@@ -51,7 +51,7 @@ returns-then-not-finds-clause-parks c =
     let s = c.args.self.now in
     let n = c.args.component in
     let r : RoutineView = c.index_mut-routine.result.now in
-    let t : IsToPark s n r = record { rest = c.requires.rest; known = c.requires.known; routine = c.index_mut-routine.ensures.value } in
+    let t : IsToPark s n r = record { rest = c.requires.rest; known = c.requires.known; routine = c.index_mut-routine.ensures.value; law = c.fetches_find.ensures.find } in
     let nothing = none_for s n r t c.index.result.now c.cursor.result c.index.ensures c.cursor.ensures
     (elim c.match-matches.branch [ in-Ready m ↦ sym (ap is_ready m.in-Ready.ensures) | in_default m ↦ absurd (true_false (sym c.if-matches.true ∙ m.matches-is)) ]) (sym (ap is_some c.pending.ensures) ∙ c.if-is_none.ensures) (sym c.if-not-finds.ensures) in
     parks_it n (plain_of s) _ nothing (parked_shown s n r t c.ask.new.self c.ask.ensures)
@@ -66,7 +66,7 @@ returns-else-matches-clause-parks c =
     let s = c.args.self.now in
     let n = c.args.component in
     let r : RoutineView = c.index_mut-routine.result.now in
-    let t : IsToPark s n r = record { rest = c.requires.rest; known = c.requires.known; routine = c.index_mut-routine.ensures.value } in
+    let t : IsToPark s n r = record { rest = c.requires.rest; known = c.requires.known; routine = c.index_mut-routine.ensures.value; law = c.fetches_find.ensures.find } in
     elim c.else-matches.branch [
       | else-matches-via-then-matches+then-is_none+else-not-finds w ↦
           let busy = finds_some s n r t w.index.result.now w.cursor.result w.index.ensures w.cursor.ensures (sym w.finds.ensures ∙ w.if-not-finds.false) in

@@ -32,7 +32,7 @@ took-requires c =
     let f : Found = c.in-Some.found in
     let given = found_there c.args.self.now c.args.thread c.holding-croutine.result c.args.tuple.now c.holding-croutine.ensures.is c.requires in
     let t = to_be_stepped c.args.self.now c.holding-croutine.result c.index_mut-in-Some.result.now f c.args.tuple.now c.index.result.now c.holding-croutine.ensures.known c.index_mut-in-Some.ensures.value c.index.ensures c.in-Some.is given in
-    may_take c.args.self.now c.holding-croutine.result c.index_mut-in-Some.result.now f c.args.tuple.now t
+    may_take c.args.self.now c.holding-croutine.result c.index_mut-in-Some.result.now f c.args.tuple.now t c.fetches_find.ensures.find
 
 pub returns-clause-outcome : goal.returns-clause-outcome
 returns-clause-outcome c =
