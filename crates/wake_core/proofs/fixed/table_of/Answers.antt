@@ -1,4 +1,4 @@
-use Rattle.std.proofs.Common.{ℕ, ◌+◌, ◌<◌, ◌≡◌, ◌∙◌, ap, sym, subst, List, [], ◌∷◌, ◌++◌, length, length-append, Some, slice_get}
+use Rattle.std.proofs.Common.{ℕ, ◌+◌, ◌≡◌, ◌∙◌, ap, sym, subst, List, [], ◌∷◌, ◌++◌, length, length-append, Some, slice_get}
 use borrow.Author.Count.{below_more}
 use Rattle.wake_core.specs.Run.{Route, readers_of}
 use Rattle.wake_core.specs.Fields.{IsTable}

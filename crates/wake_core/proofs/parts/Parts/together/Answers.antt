@@ -1,4 +1,4 @@
-use Rattle.std.proofs.Common.{ℕ, ◌≡◌, ◌∙◌, sym, ap, subst, length, replicate, List, Option, None, false, option_map}
+use Rattle.std.proofs.Common.{ℕ, ◌≡◌, ◌∙◌, sym, ap, subst, length, List, Option, None, false, option_map}
 use Rattle.std.proofs.lemmas.List.{length-map, length-replicate}
 use Rattle.wake_core.specs.declared.found.Found.{Found}
 use Rattle.wake_core.specs.Fields.{read}
@@ -6,7 +6,7 @@ use Rattle.wake_core.specs.Parts.{shown_by}
 use Rattle.wake_core.specs.Sent.{sent_of, AreCounted}
 use Rattle.wake_core.specs.Sound.{Sound}
 use Rattle.wake_core.specs.WorldOf.{plain_of, to_step}
-use Rattle.wake_core.proofs.Beginning.{none_alone, length_found, length_hands, read_equal, flags_from, stepping_from, owing_from}
+use Rattle.wake_core.proofs.Beginning.{length_found, length_hands, read_equal, flags_from, stepping_from, owing_from}
 use Rattle.wake_core.proofs.Parting.{are_counted, together_waiting, together_visited, together_roomy, together_shown}
 use Rattle.wake_core.proofs.parts.Parts.together.Goals as goal
 

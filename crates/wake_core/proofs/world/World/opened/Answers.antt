@@ -7,7 +7,7 @@ use Rattle.wake_core.specs.Fields.{read}
 use Rattle.wake_core.specs.Opening.{first_visitor, first_routine}
 use Rattle.wake_core.proofs.Rooted.{wired}
 use Rattle.wake_core.proofs.HeldTimes.{held_to_time}
-use Rattle.wake_core.proofs.Beginning.{none_alone, length_found, length_hands, read_equal, flags_from, stepping_from, waiting_from, visited_from, roomy_from, owing_from, counted_from, plain_from, sound_from}
+use Rattle.wake_core.proofs.Beginning.{length_found, length_hands, read_equal, flags_from, stepping_from, waiting_from, visited_from, roomy_from, owing_from, counted_from, plain_from, sound_from}
 use Rattle.wake_core.proofs.world.World.opened.Goals as goal
 
 pub invariant_of-result : goal.invariant_of-result
