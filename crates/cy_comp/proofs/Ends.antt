@@ -1,6 +1,5 @@
 -- The end of a list of calls.
-use Rattle.std.proofs.Common.{ℕ, ℤ, ◌≡◌, ◌∙◌, ap, ◌+◌, ◌-◌, ◌^◌, ◌<◌, ◌≤◌, ◌==◌, ◌&&◌, min, nat_lt, if◌then◌else◌, Bool, true, false, List, [], ◌∷◌, ◌++◌, length, slice_get, Option, Some, None, refl, arith, length-append}
-use Rattle.std.specs.Prelude.{int_le}
+use Rattle.std.proofs.Common.{ℕ, ◌≡◌, ◌∙◌, ap, ◌+◌, ◌-◌, ◌^◌, ◌<◌, ◌≤◌, ◌==◌, ◌&&◌, min, nat_lt, if◌then◌else◌, Bool, true, false, List, [], ◌∷◌, ◌++◌, length, slice_get, Some, None, refl, arith, length-append}
 use native.Mathlib.Numerals.{unary_clauses}
 use Rattle.std.proofs.lemmas.Bool.Decides.{nat_tests}
 use Rattle.std.proofs.lemmas.Option.{none-some}
@@ -10,45 +9,26 @@ use Rattle.cy_msg.specs.Tuple.{first_of}
 use Rattle.cy_comp.specs.declared.call.Call.{Call}
 use Rattle.cy_comp.specs.declared.kind.Kind.{Kind}
 use Rattle.cy_comp.specs.declared.kind.Kind.TheVariants as kind
-use Rattle.cy_comp.specs.declared.call.Outcome.{Outcome}
 use Rattle.cy_comp.specs.declared.call.Outcome.TheVariants.{Last}
-use Rattle.cy_comp.specs.Step.{Kept, opening_of, kept_after, outcome_after, answer_of, on_value, passes, nothing, passed, counted, is_last_passed}
+use Rattle.cy_comp.specs.Step.{Kept, opening_of, kept_after, outcome_after, passes, passed, counted}
 use Rattle.cy_comp.specs.Calls.{cursor_after, last_after, last_outcome, is_last}
+use Rattle.cy_comp.proofs.Answering.{outcome_ends}
 
 -- a class that passes any number of messages on
 abbrev pub IsNotTake : Kind → Type 0
 IsNotTake k = (n : ℕ) → k ≡ kind.Take n → ⊥
 
-plain : (b : Bool) (m : Token) → is_last (Some (if b then passes m else nothing)) ≡ false
-plain true m = refl
-plain false m = refl
-
-on_value-plain : (kept : Kept) (value : Option ℤ) (answer : ℤ → Kept × Outcome) → ((v : ℤ) → is_last (Some (answer v).1) ≡ false)
-    → is_last (Some (on_value kept value answer).1) ≡ false
-on_value-plain kept None answer h = refl
-on_value-plain kept (Some v) answer h = h v
-
-change-plain : (b : Bool) (kept next : Kept) (m : Token) → (let answer : Kept × Outcome = if b then (kept, nothing) else (next, passes m) in is_last (Some answer.1)) ≡ false
-change-plain true kept next m = refl
-change-plain false kept next m = refl
-
 -- none of the answers of another class is its last
-not_last : (k : Kind) (kept : Kept) (m : Token) (tuple : Tuple) → IsNotTake k → is_last (Some (answer_of k kept m tuple).1) ≡ false
-not_last kind.Pass kept m tuple e = refl
-not_last (kind.Filter lo hi) kept m tuple e = on_value-plain kept m.whole _ (λ v. plain (int_le lo v && int_le v hi) m)
-not_last kind.Sum kept m tuple e = refl
-not_last kind.Count kept m tuple e = refl
-not_last kind.Max kept m tuple e = on_value-plain kept m.whole _ (λ v. refl)
-not_last (kind.Window n) kept m tuple e = on_value-plain kept m.whole _ (λ v. refl)
-not_last kind.Change kept m tuple e = on_value-plain kept m.whole _ (λ v. change-plain (is_last_passed kept.passed v) kept (record kept { passed = Some v }) m)
-not_last kind.Select kept m tuple e = on_value-plain kept m.whole _ (λ v. refl)
-not_last (kind.Hold delay) kept m tuple e = refl
-not_last (kind.Take n) kept m tuple e = absurd (e n refl)
+not_last : (k : Kind) (earlier : List Tuple) (tuple : Tuple) → IsNotTake k → is_last (Some (outcome_after k earlier tuple)) ≡ false
+not_last k earlier tuple other = by (is_last (Some (outcome_after k earlier tuple))) refl
+  where
+    by : (b : Bool) → is_last (Some (outcome_after k earlier tuple)) ≡ b → is_last (Some (outcome_after k earlier tuple)) ≡ false
+    by false e = e
+    by true e = let take = outcome_ends k earlier tuple e in absurd (other take.0 take.1)
 
 last_after-goes_on : (k : Kind) (earlier : List Tuple) (calls : List Call) → IsNotTake k → is_last (last_after k earlier calls) ≡ false
-unfolding outcome_after
 last_after-goes_on k earlier [] e = refl
-last_after-goes_on k earlier (x ∷ []) e = not_last k (kept_after k (opening_of k) earlier) (first_of x.tuple) x.tuple e
+last_after-goes_on k earlier (x ∷ []) e = not_last k earlier x.tuple e
 last_after-goes_on k earlier (x ∷ y ∷ rest) e = last_after-goes_on k (earlier ++ x.tuple ∷ []) (y ∷ rest) e
 
 -- a component counts its calls, up to the greatest number that it puts out

@@ -1,4 +1,5 @@
 pub mod Alone
 pub mod Slides
 pub mod Taking
+pub mod Answering
 pub mod Ends

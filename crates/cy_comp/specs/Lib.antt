@@ -1,5 +1,6 @@
 pub mod Kind
 pub mod Step
+pub mod Laws
 pub mod Sums
 pub mod Body
 pub mod Class

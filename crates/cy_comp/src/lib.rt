@@ -1,7 +1,7 @@
 //! Components: their classes, what a call of one gives, and how they are wired to channels.
 //!
 //! `specs/Step` has what each class answers, `specs/Calls` which calls are lawful and what they put
-//! out, `specs/Wiring` what a wiring keeps.
+//! out, `specs/Laws` what all classes have in common, `specs/Wiring` what a wiring keeps.
 #![tactic(auto)]
 
 mod body;
@@ -10,6 +10,7 @@ mod class;
 mod ended;
 mod error;
 mod kind;
+mod laws;
 mod messages;
 mod plan;
 mod routine;
@@ -22,6 +23,7 @@ pub use call::{Call, Out, Outcome};
 pub use ended::{is_finished, next_cursor};
 pub use error::CompError;
 pub use kind::{Kind, MOST_WINDOW};
+pub use laws::outcomes_are_answers;
 pub use plan::Plan;
 pub use routine::Routine;
 pub use state::State;

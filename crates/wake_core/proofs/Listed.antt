@@ -10,6 +10,7 @@ use Rattle.cy_msg.specs.Tokens.{on_channel, IsNumbered, IsTimed}
 use Rattle.cy_msg.specs.declared.placement.ContextPlan.{ContextPlan}
 use Rattle.cy_msg.specs.Placement.{scan_of}
 use Rattle.cy_comp.specs.Calls.{outs}
+use Rattle.cy_comp.specs.Laws.{OutcomesAreAnswers}
 use Rattle.wake_core.specs.Run.{Route, Run, opening, writes_from, played_of}
 use Rattle.wake_core.specs.Settle.{Settles, Runs}
 use Rattle.wake_core.specs.Serial.{play, next, last_clock, SerialRun}
@@ -270,11 +271,11 @@ module _ (scan : List ℕ) (tokens : List Token) (first w m v : Plain) (i : ℕ)
             (subst (λ (x : List Route). Settles (next x scan) (run_shown m) (run_shown v)) (ap (λ (x : Plain). x.routes) tick.effect ∙ h.routes) settled.settles),
       )
 
-  pub serial_lawful : LawfulRun tokens first.routes v
-  serial_lawful = record {
+  pub serial_lawful : OutcomesAreAnswers → LawfulRun tokens first.routes v
+  serial_lawful law = record {
     wired = ends_routes;
     sound = s;
-    quiet = settled_quiet scan v settled.rest s (subst (λ (x : List Route). IsScanOf (length x) scan) (sym ends_routes) each) settled.parked
+    quiet = settled_quiet law scan v settled.rest s (subst (λ (x : List Route). IsScanOf (length x) scan) (sym ends_routes) each) settled.parked
         (settled.stays.clock ∙ ap (λ (x : Plain). x.clock) tick.effect)
         (ap length ends_played ∙ sym (to_play_total first tokens p) ∙ ap (λ (x : List Route). to_play_from x 0 first.counts) (sym ends_routes) ∙ ap (to_play_from v.routes 0) (sym ends_counts));
     exact = ends_played;
@@ -288,8 +289,8 @@ module _ (scan : List ℕ) (tokens : List Token) (first w m v : Plain) (i : ℕ)
   }
 
 -- Where all was played, and the clock is at its greatest value, what settles is quiet.
-pub finished_quiet : (scan : List ℕ) (w v : Plain) → played_count w ≡ to_play w → w.clock ≡ last_clock → IsScanOf (length w.routes) scan → IsSettled scan w v → Sound v → Quiet v
-finished_quiet scan w v played clock each settled s = settled_quiet scan v settled.rest s
+pub finished_quiet : OutcomesAreAnswers → (scan : List ℕ) (w v : Plain) → played_count w ≡ to_play w → w.clock ≡ last_clock → IsScanOf (length w.routes) scan → IsSettled scan w v → Sound v → Quiet v
+finished_quiet law scan w v played clock each settled s = settled_quiet law scan v settled.rest s
     (subst (λ (x : List Route). IsScanOf (length x) scan) (sym settled.stays.routes) each) settled.parked
     (settled.stays.clock ∙ clock)
     (ap length settled.stays.played ∙ played ∙ ap (λ (x : List Route). to_play_from x 0 w.counts) (sym settled.stays.routes) ∙ ap (to_play_from v.routes 0) (sym settled.stays.counts))

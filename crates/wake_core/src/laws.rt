@@ -11,6 +11,7 @@ ghost use Rattle.wake_core.specs.Laws.{OutsideLaws, LimitLaws, WiringLaws};
 ghost use Rattle.wake_core.specs.TapeLaws.{UnsentLaws, PutLaws};
 ghost use Rattle.wake_core.specs.Bounds.{PlaceLaws, BoundLaws};
 
+use cy_comp::outcomes_are_answers;
 use cy_fuse::fetches_find;
 
 /// Taking a croutine that is free keeps what holds of a world.
@@ -157,4 +158,6 @@ pub fn found()
 /// writes, so that as much is planned on a component's channel as on the one that triggers it.
 pub fn wiring()
     ensures { WiringLaws }
-{}
+{
+    outcomes_are_answers();
+}

@@ -17,7 +17,7 @@ ghost use Rattle.wake_core.specs.WorldOf.{plain_of, to_step};
 ghost use Rattle.wake_core.specs.WorldCalls.{in_hand, phase_sent, IsStepped};
 
 use crate::World;
-use cy_comp::{Outcome, State};
+use cy_comp::{Outcome, State, outcomes_are_answers};
 use cy_fuse::fetches_find;
 use cy_msg::{ContextPlan, Placement, PlayList, Token};
 
@@ -32,6 +32,7 @@ pub fn serial(world: &mut World, list: &PlayList, placement: &Placement)
     ensures lawful { LawfulRun list.now.tokens (plain_of world.old).routes (plain_of world.new) }
     ensures stays { StaysMade (plain_of world.old) (plain_of world.new) }
 {
+    outcomes_are_answers();
     let contexts = placement.contexts.as_slice();
     for token in list.tokens.as_slice() {
         play(world, token);
@@ -50,6 +51,7 @@ pub fn finish(world: &mut World, placement: &Placement)
     ensures quiet { Quiet (plain_of world.new) }
     ensures stays { StaysFixed (plain_of world.old) (plain_of world.new) }
 {
+    outcomes_are_answers();
     settle(world, placement.contexts.as_slice());
 }
 

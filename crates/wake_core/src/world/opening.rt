@@ -13,7 +13,7 @@ use crate::found::Found;
 use crate::owed::Owed;
 use crate::phase::Hand;
 use crate::{CoreError, MOST_PLANNED, World, planned};
-use cy_comp::{Routine, Wiring};
+use cy_comp::{Routine, Wiring, outcomes_are_answers};
 use cy_fuse::Visitor;
 use cy_msg::Token;
 use std::alloc::Global;
@@ -55,6 +55,7 @@ impl World {
             IsOpening (routes_of wiring.now.plans) counts.now (plain_of w) (to_step w)) }
         ensures memory { IfErr result (λ e. e ≡ CoreError.Memory) }
     {
+        outcomes_are_answers();
         let fixed = Fixed::new(alloc, wiring, counts)?;
         let size = wiring.plans.as_slice().len();
         let visitors = visitors_for(alloc, wiring, counts)?;

@@ -9,6 +9,6 @@ returns c =
     let settled = settled_at c.as_slice.result.now c.args.placement.now.contexts (plain_of c.args.world.now) (plain_of c.settle.new.world) c.as_slice.ensures c.settle.ensures in
     record {
       settles = settled.settles;
-      quiet = finished_quiet (scan_of c.args.placement.now.contexts) (plain_of c.args.world.now) (plain_of c.settle.new.world) c.requires.played c.requires.clock c.requires.scan settled c.settle.new.world.sound;
+      quiet = finished_quiet c.outcomes_are_answers.ensures (scan_of c.args.placement.now.contexts) (plain_of c.args.world.now) (plain_of c.settle.new.world) c.requires.played c.requires.clock c.requires.scan settled c.settle.new.world.sound;
       stays = settled.stays;
     }

@@ -31,7 +31,7 @@ pub returns-clause-lawful : goal.returns-clause-lawful
 unfolding plain_of
 returns-clause-lawful c = serial_lawful (scan_of c.args.placement.now.contexts) c.args.list.now.tokens (plain_of c.args.world.now) (plain_of c.loop-token.world) (plain_of c.end_clock.new.world) (plain_of c.settle-2.new.world)
     c.loop-token.token-index (subst (λ (l : List Token). length l ≤ c.loop-token.token-index) c.as_slice-token-items.ensures c.loop-token-test.false) c.requires.opening c.requires.made c.requires.scan c.loop-token.invariant
-    c.end_clock.ensures (settled_at _ _ _ _ c.as_slice-contexts.ensures c.settle-2.ensures) c.settle-2.new.world.sound
+    c.end_clock.ensures (settled_at _ _ _ _ c.as_slice-contexts.ensures c.settle-2.ensures) c.settle-2.new.world.sound c.outcomes_are_answers.ensures
 
 pub returns-clause-stays : goal.returns-clause-stays
 unfolding plain_of

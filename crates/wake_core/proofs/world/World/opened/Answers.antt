@@ -6,7 +6,7 @@ use Rattle.wake_core.specs.Run.{route_of, routes_of}
 use Rattle.wake_core.specs.Fields.{read}
 use Rattle.wake_core.specs.Opening.{first_visitor, first_routine}
 use Rattle.wake_core.proofs.Rooted.{wired}
-use Rattle.wake_core.proofs.HeldTimes.{held_to_time}
+use Rattle.wake_core.proofs.HeldTimes.{held_so}
 use Rattle.wake_core.proofs.Beginning.{length_found, length_hands, read_equal, flags_from, stepping_from, waiting_from, visited_from, roomy_from, owing_from, counted_from, plain_from, sound_from}
 use Rattle.wake_core.proofs.world.World.opened.Goals as goal
 
@@ -47,7 +47,7 @@ invariant_of-result c =
       owing = owing_from size owed;
       counted = counted_from c.in_ok-fixed.fixed.routes.items tape;
       sound = sound_from (plain_from n routes counts visitors routines found spent hands owed tape)
-          (wired names plans c.args.wiring.now.lawful c.args.counts.now c.requires.counts (λ k p earlier tuple until out at. held_to_time p.kind earlier tuple until out));
+          (wired names plans c.args.wiring.now.lawful c.args.counts.now c.requires.counts (λ k p earlier tuple until out at e. (held_so c.outcomes_are_answers.ensures p.kind earlier tuple until out e).time));
     }
 
 pub returns-clause-opening : goal.returns-clause-opening

@@ -1,0 +1,143 @@
+-- What a component answers, class by class.
+use Rattle.std.proofs.Common.{ℕ, ℤ, pos, zero, suc, ◌≡◌, ◌+◌, ◌==◌, cond, Bool, true, false, List, [], ◌∷◌, ◌++◌, length, slice_get, Option, Some, None, option_map, refl, subst, inl, inr, arith}
+use Rattle.std.specs.Prelude.{int_lt}
+use Rattle.std.specs.Ordering.{int_eq}
+use Rattle.std.proofs.lemmas.Option.{none-some}
+use Rattle.circular_buffer.specs.Buffer.{keep_last}
+use Rattle.cy_msg.specs.declared.token.Token.{Token}
+use Rattle.cy_msg.specs.declared.token.Tuple.{Tuple}
+use Rattle.cy_msg.specs.declared.token.Tuple.TheVariants.{One, Two, Three, Four}
+use Rattle.cy_msg.specs.Tuple.{first_of, messages_of}
+use Rattle.cy_comp.specs.declared.kind.Kind.{Kind}
+use Rattle.cy_comp.specs.declared.kind.Kind.TheVariants as kind
+use Rattle.cy_comp.specs.declared.call.Out.{Out}
+use Rattle.cy_comp.specs.declared.call.Outcome.{Outcome}
+use Rattle.cy_comp.specs.declared.call.Outcome.TheVariants.{Emit, Last}
+use Rattle.cy_comp.specs.Step.{Kept, opening_of, sum_of, held_sum, values_of, is_between, greater_of, is_last_passed, counted, second_of, third_of, passes, passed, made_at, on_value, answer_of, step, kept_after, outcome_after}
+use Rattle.cy_comp.specs.Calls.{is_last}
+use Rattle.cy_comp.specs.Laws.{IsOf, CameWith, IsAnswer, no_output, passes_on, makes_value, holds_back, ends_with}
+
+-- The messages of a tuple that classes pass on.
+first_is : (tuple : Tuple) → IsOf tuple (first_of tuple)
+first_is (One a) = record { place = 0; there = refl }
+first_is (Two a b) = record { place = 0; there = refl }
+first_is (Three a b c) = record { place = 0; there = refl }
+first_is (Four a b c d) = record { place = 0; there = refl }
+
+second_is : (tuple : Tuple) → IsOf tuple (second_of tuple)
+second_is (One a) = record { place = 0; there = refl }
+second_is (Two a b) = record { place = 1; there = refl }
+second_is (Three a b c) = record { place = 1; there = refl }
+second_is (Four a b c d) = record { place = 1; there = refl }
+
+third_is : (tuple : Tuple) → IsOf tuple (third_of tuple)
+third_is (One a) = record { place = 0; there = refl }
+third_is (Two a b) = record { place = 1; there = refl }
+third_is (Three a b c) = record { place = 2; there = refl }
+third_is (Four a b c d) = record { place = 2; there = refl }
+
+either_is : (b : Bool) (tuple : Tuple) (x y : Token) → IsOf tuple x → IsOf tuple y → IsOf tuple (cond b x y)
+either_is true tuple x y p q = p
+either_is false tuple x y p q = q
+
+-- The greatest value that is kept came with a tuple.
+abbrev KeptCame : List Tuple → Kept → Type 0
+KeptCame tuples kept = (value : ℤ) → kept.greatest ≡ Some value → CameWith tuples value
+
+-- What a call of a class answers, and what it keeps; and only a Take ends.
+record IsStep (k : Kind) (tuples : List Tuple) (tuple : Tuple) (s : Kept × Outcome) : Type 0 where
+  kept : KeptCame tuples s.0
+  answer : IsAnswer tuples tuple s.1
+  ends : is_last (Some s.1) ≡ true → (n : ℕ) × (k ≡ kind.Take n)
+
+module _ (k : Kind) (tuples : List Tuple) (tuple : Tuple) where
+  emits : (kept : Kept) (o : Option Out) → KeptCame tuples kept → IsAnswer tuples tuple (Emit o) → IsStep k tuples tuple (kept, Emit o)
+  emits kept o came answer = record { kept = came; answer = answer; ends = λ e. absurd (false_true e) }
+    where
+      false_true : false ≡ true → ⊥
+      false_true e = cc
+
+  on_value_steps : (kept : Kept) (o : Option ℤ) (answer : ℤ → Kept × Outcome) → KeptCame tuples kept → ((value : ℤ) → o ≡ Some value → IsStep k tuples tuple (answer value))
+      → IsStep k tuples tuple (on_value kept o answer)
+  on_value_steps kept None answer came all = emits kept None came no_output
+  on_value_steps kept (Some value) answer came all = all value refl
+
+  emits_either : (b : Bool) (kept : Kept) (x y : Option Out) → KeptCame tuples kept → IsAnswer tuples tuple (Emit x) → IsAnswer tuples tuple (Emit y) → IsStep k tuples tuple (kept, cond b (Emit x) (Emit y))
+  emits_either true kept x y came p q = emits kept x came p
+  emits_either false kept x y came p q = emits kept y came q
+
+  either_steps : (b : Bool) (x y : Kept × Outcome) → IsStep k tuples tuple x → IsStep k tuples tuple y → IsStep k tuples tuple (cond b x y)
+  either_steps true x y p q = p
+  either_steps false x y p q = q
+
+module _ (tuples : List Tuple) (tuple : Tuple) where
+  sum_answers : (o : Option (List ℤ)) → IsAnswer tuples tuple (Emit (option_map (λ (vs : List ℤ). made_at (first_of tuple).time (held_sum vs)) o))
+  sum_answers None = no_output
+  sum_answers (Some vs) = makes_value (inr (sum_of vs, refl))
+
+  greater_came : (o : Option ℤ) (value : ℤ) → ((before : ℤ) → o ≡ Some before → CameWith tuples before) → CameWith tuples value → CameWith tuples (greater_of o value)
+  greater_came None value before came = came
+  greater_came (Some most) value before came = by (int_lt value most)
+    where
+      by : (b : Bool) → CameWith tuples (cond b most value)
+      by true = before most refl
+      by false = came
+
+  came_some : (value : ℤ) → CameWith tuples value → (other : ℤ) → Some value ≡ Some other → CameWith tuples other
+  came_some value came other e = let same : value ≡ other = cc in subst (CameWith tuples) same came
+
+  ends_or_passes : (b : Bool) (n : ℕ) (kept : Kept) → KeptCame tuples kept → IsStep (kind.Take n) tuples tuple (kept, cond b (Last (Some (passed (first_of tuple)))) (passes (first_of tuple)))
+  ends_or_passes true n kept came = record { kept = came; answer = ends_with (first_is tuple); ends = λ e. (n, refl) }
+  ends_or_passes false n kept came = emits (kind.Take n) tuples tuple kept _ came (passes_on (first_is tuple))
+
+  -- The one table of classes: what each may answer.
+  answers : (k : Kind) (kept : Kept) → KeptCame tuples kept → ((value : ℤ) → (first_of tuple).whole ≡ Some value → CameWith tuples value) → IsStep k tuples tuple (answer_of k kept (first_of tuple) tuple)
+  answers kind.Pass kept came first = emits _ tuples tuple kept _ came (passes_on (first_is tuple))
+  answers (kind.Filter lo hi) kept came first = on_value_steps _ tuples tuple kept (first_of tuple).whole _ came (λ v is. emits_either _ tuples tuple (is_between lo hi v) kept _ None came (passes_on (first_is tuple)) no_output)
+  answers kind.Sum kept came first = emits _ tuples tuple kept _ came (sum_answers (values_of (messages_of tuple)))
+  answers kind.Count kept came first = emits _ tuples tuple _ _ came (makes_value (inr (pos (kept.calls + 1), refl)))
+  answers kind.Max kept came first = on_value_steps _ tuples tuple kept (first_of tuple).whole _ came (λ v is.
+      let most = greater_came kept.greatest v came (first v is) in
+      emits _ tuples tuple _ _ (came_some (greater_of kept.greatest v) most) (makes_value (inl most)))
+  answers (kind.Window n) kept came first = on_value_steps _ tuples tuple kept (first_of tuple).whole _ came (λ v is. emits _ tuples tuple _ _ came (makes_value (inr (sum_of (keep_last n (kept.last ++ v ∷ [])), refl))))
+  answers kind.Change kept came first = on_value_steps _ tuples tuple kept (first_of tuple).whole _ came (λ v is. either_steps _ tuples tuple (is_last_passed kept.passed v) _ _
+      (emits _ tuples tuple kept None came no_output) (emits _ tuples tuple (record kept { passed = Some v }) _ came (passes_on (first_is tuple))))
+  answers kind.Select kept came first = on_value_steps _ tuples tuple kept (first_of tuple).whole _ came (λ v is. emits _ tuples tuple kept _ came
+      (passes_on (either_is (int_eq v (pos 0)) tuple (second_of tuple) (third_of tuple) (second_is tuple) (third_is tuple))))
+  answers (kind.Hold delay) kept came first = record { kept = came; answer = holds_back (omega arith) (first_is tuple); ends = λ e. absurd (false_true e) }
+    where
+      false_true : false ≡ true → ⊥
+      false_true e = cc
+  answers (kind.Take n) kept came first = ends_or_passes (counted kept.calls == n) n (record kept { calls = counted kept.calls }) came
+
+kept_came : (tuples : List Tuple) (k : Kind) (kept : Kept) (earlier : List Tuple) → KeptCame tuples kept
+    → ((n : ℕ) (tuple : Tuple) → slice_get earlier n ≡ Some tuple → (value : ℤ) → (first_of tuple).whole ≡ Some value → CameWith tuples value)
+    → KeptCame tuples (kept_after k kept earlier)
+kept_came tuples k kept [] came all = came
+kept_came tuples k kept (tuple ∷ rest) came all =
+    kept_came tuples k (step k kept tuple).0 rest (answers tuples tuple k kept came (all zero tuple refl)).kept (λ n. all (suc n))
+
+-- A tuple of some is one of these with one more, and so is that one.
+earlier_there : (earlier : List Tuple) (last tuple : Tuple) (n : ℕ) → slice_get earlier n ≡ Some tuple → slice_get (earlier ++ last ∷ []) n ≡ Some tuple
+earlier_there [] last tuple n e = absurd (none-some tuple e)
+earlier_there (x ∷ earlier) last tuple zero e = e
+earlier_there (x ∷ earlier) last tuple (suc n) e = earlier_there earlier last tuple n e
+
+last_there : (earlier : List Tuple) (last : Tuple) → slice_get (earlier ++ last ∷ []) (length earlier) ≡ Some last
+last_there [] last = refl
+last_there (x ∷ earlier) last = last_there earlier last
+
+outcome_steps : (k : Kind) (earlier : List Tuple) (tuple : Tuple) → IsStep k (earlier ++ tuple ∷ []) tuple (step k (kept_after k (opening_of k) earlier) tuple)
+outcome_steps k earlier tuple =
+    let tuples = earlier ++ tuple ∷ [] in
+    let kept = kept_came tuples k (opening_of k) earlier (λ value e. absurd (none-some value e))
+    (λ n t at value is. record { place = n; tuple = t; there = earlier_there earlier tuple t n at; whole = is }) in
+    answers tuples tuple k (kept_after k (opening_of k) earlier) kept (λ value is. record { place = length earlier; tuple = tuple; there = last_there earlier tuple; whole = is })
+
+pub outcome_answers : (k : Kind) (earlier : List Tuple) (tuple : Tuple) → IsAnswer (earlier ++ tuple ∷ []) tuple (outcome_after k earlier tuple)
+unfolding outcome_after
+outcome_answers k earlier tuple = (outcome_steps k earlier tuple).answer
+
+pub outcome_ends : (k : Kind) (earlier : List Tuple) (tuple : Tuple) → is_last (Some (outcome_after k earlier tuple)) ≡ true → (n : ℕ) × (k ≡ kind.Take n)
+unfolding outcome_after
+outcome_ends k earlier tuple = (outcome_steps k earlier tuple).ends

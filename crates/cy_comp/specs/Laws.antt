@@ -1,0 +1,45 @@
+-- What the components of all classes have in common.
+use Rattle.std.specs.Prelude.{ℕ, ◌≡◌, ◌≤◌, ◌⊎◌, ℤ, List, [], ◌∷◌, ◌++◌, slice_get, Some, None}
+use Rattle.cy_msg.specs.declared.token.Token.{Token}
+use Rattle.cy_msg.specs.declared.token.Tuple.{Tuple}
+use Rattle.cy_msg.specs.Tuple.{first_of, messages_of}
+use Rattle.cy_comp.specs.declared.kind.Kind.{Kind}
+use Rattle.cy_comp.specs.declared.call.Outcome.{Outcome}
+use Rattle.cy_comp.specs.declared.call.Outcome.TheVariants.{Emit, Hold, Last}
+use Rattle.cy_comp.specs.Step.{held_within, passed_at, made_at, last_wake, outcome_after}
+
+-- A message of a tuple.
+pub record IsOf (tuple : Tuple) (m : Token) : Type 0 where
+  pub place : ℕ
+  pub there : slice_get (messages_of tuple) place ≡ Some m
+
+-- The value of the first message of one of these tuples.
+pub record CameWith (tuples : List Tuple) (value : ℤ) : Type 0 where
+  pub place : ℕ
+  pub tuple : Tuple
+  pub there : slice_get tuples place ≡ Some tuple
+  pub whole : (first_of tuple).whole ≡ Some value
+
+-- A value that is made of tuples: one that came with them, or one that is held within the signed
+-- numbers of 64 bits.
+abbrev pub IsMade : List Tuple → ℤ → Type 0
+IsMade tuples value = CameWith tuples value ⊎ ((exact : ℤ) × (value ≡ held_within exact))
+
+-- What a component may answer to a tuple, the last of these: it puts out nothing, a message of the
+-- tuple or a value that it makes, at the time of the first message; it holds a message back until
+-- the output's own time; or it passes one on as its last output.
+pub data IsAnswer (tuples : List Tuple) (tuple : Tuple) : Outcome → Type 0 where
+  no_output : IsAnswer tuples tuple (Emit None)
+  passes_on : {m : Token} → IsOf tuple m
+      → IsAnswer tuples tuple (Emit (Some (passed_at (first_of tuple).time m)))
+  makes_value : {value : ℤ} → IsMade tuples value
+      → IsAnswer tuples tuple (Emit (Some (made_at (first_of tuple).time value)))
+  holds_back : {until : ℕ} {m : Token} → until ≤ last_wake → IsOf tuple m
+      → IsAnswer tuples tuple (Hold until (passed_at until m))
+  ends_with : {m : Token} → IsOf tuple m
+      → IsAnswer tuples tuple (Last (Some (passed_at (first_of tuple).time m)))
+
+-- Whatever its class, a component answers so to a tuple after calls with others.
+abbrev pub OutcomesAreAnswers : Type 0
+OutcomesAreAnswers = (k : Kind) (earlier : List Tuple) (tuple : Tuple)
+    → IsAnswer (earlier ++ tuple ∷ []) tuple (outcome_after k earlier tuple)
