@@ -9,6 +9,7 @@ use Rattle.cy_fuse.specs.Fusion.{fused}
 use Rattle.cy_comp.specs.declared.call.Call.{Call}
 use Rattle.cy_comp.specs.declared.call.Out.{Out}
 use Rattle.cy_comp.specs.Calls.{tail_after, tuples_of, outs, outs_after, numbered, output}
+use Rattle.cy_comp.specs.Laws.{OutcomesAreAnswers}
 use Rattle.wake_core.specs.declared.route.Route.{Route}
 use Rattle.std.specs.Prelude.{filter, not, is_some}
 use Rattle.wake_core.specs.Run.{writes_from, played_of}
@@ -132,13 +133,13 @@ passing p (s ∷ tape) (suc i) t e is = by (p s) (passing p tape i t e is)
     by true h = (suc h.0, h.1)
     by false h = h
 
-module _ (places : PlaceLaws) (w : Plain) (s : Sound w) (played : (n : ℕ) (t : Token) → slice_get (played_of w.routes w.tape) n ≡ Some t → Suits t) where
+module _ (answers : OutcomesAreAnswers) (places : PlaceLaws) (w : Plain) (s : Sound w) (played : (n : ℕ) (t : Token) → slice_get (played_of w.routes w.tape) n ≡ Some t → Suits t) where
   -- A call's output fits where every message does that was fused when it was made.
   call_suits : (c n : ℕ) (x : Route) (call : Call) → slice_get w.routes c ≡ Some x → slice_get (w.calls c) n ≡ Some call
       → ((k : ℕ) (tuple : Tuple) → k < call.tail → slice_get (fused (w.arrivals c) (length x.readers)) k ≡ Some tuple → AllSuit tuple) → SuitsOut call.out
   call_suits c n x call at is all =
       let lawful = s.consistent.called.lawful c x at in
-      subst SuitsOut (sym (lawful.outputs n call is)) (outcome_suits x.kind (tuples_of (take n (w.calls c))) call.tuple earlier (own n call is (omega arith)))
+      subst SuitsOut (sym (lawful.outputs n call is)) (outcome_suits answers x.kind (tuples_of (take n (w.calls c))) call.tuple earlier (own n call is (omega arith)))
     where
       own : (i : ℕ) (y : Call) → slice_get (w.calls c) i ≡ Some y → y.tail ≤ call.tail → AllSuit y.tuple
       own i y on less =

@@ -15,6 +15,7 @@ use Rattle.cy_comp.specs.declared.call.Call.{Call}
 use Rattle.cy_comp.specs.declared.call.Out.{Out}
 use Rattle.cy_comp.specs.declared.plan.Plan.{Plan}
 use Rattle.cy_comp.specs.Calls.{cursor_after, last_outcome, is_last}
+use Rattle.cy_comp.specs.Laws.{OutcomesAreAnswers}
 use Rattle.wake_core.specs.declared.route.Route.{Route}
 use Rattle.wake_core.specs.Run.{route_of, routes_of, played_of, writes_from}
 use Rattle.wake_core.specs.Plain.{Plain}
@@ -88,7 +89,7 @@ on_known k (t ∷ tape) known channel i m at = go (t.channel == channel) (on_kno
     go true rest (suc j) e = rest j m e
     go false rest j e = rest j m e
 
-module _ (places : PlaceLaws) (bounds : BoundLaws) (names : List (List ℕ)) (plans : List Plan) (w : Plain) (of : IsOf names plans w) (typed : AreTyped names plans w) (s : Sound w) where
+module _ (answers : OutcomesAreAnswers) (places : PlaceLaws) (bounds : BoundLaws) (names : List (List ℕ)) (plans : List Plan) (w : Plain) (of : IsOf names plans w) (typed : AreTyped names plans w) (s : Sound w) where
   route_at : (c : ℕ) (p : Plan) → slice_get plans c ≡ Some p → slice_get w.routes c ≡ Some (route_of p)
   route_at c p at = ap (λ (rs : List Route). slice_get rs c) of.routes ∙ slice_get-map route_of plans c ∙ ap (option_map route_of) at
 
@@ -132,7 +133,7 @@ module _ (places : PlaceLaws) (bounds : BoundLaws) (names : List (List ℕ)) (pl
           omega (arith, size, mapped, of.wiring.some_reader c p at),
           omega (arith, size, mapped, of.wiring.few_readers c p at),
         );
-        out = λ o e. subst SuitsOut e (outs_suit places w s typed.played c n (route_of p) x (route_at c p at) is);
+        out = λ o e. subst SuitsOut e (outs_suit answers places w s typed.played c n (route_of p) x (route_at c p at) is);
       }
 
   role_at : (c n : ℕ) (p : Plan) (a : Arrival) → slice_get plans c ≡ Some p → slice_get (w.arrivals c) n ≡ Some a → a.0 < 10
@@ -173,14 +174,14 @@ module _ (places : PlaceLaws) (bounds : BoundLaws) (names : List (List ℕ)) (pl
       let limit : planned w.routes w.counts ≤ 16777216 = of.limited in
       omega (arith, both, all, limit)
 
-pub run_fits : PlaceLaws → BoundLaws → (names : List (List ℕ)) (plans : List Plan) (shadowed : ℕ) (w : Plain) → IsOf names plans w → AreTyped names plans w → IsShort shadowed → Sound w
+pub run_fits : OutcomesAreAnswers → PlaceLaws → BoundLaws → (names : List (List ℕ)) (plans : List Plan) (shadowed : ℕ) (w : Plain) → IsOf names plans w → AreTyped names plans w → IsShort shadowed → Sound w
     → IsTrace (trace_of_run names plans shadowed (run_shown w))
 unfolding IsTrace
-run_fits places bounds names plans shadowed w of typed short s = (
+run_fits answers places bounds names plans shadowed w of typed short s = (
   tt,
   (
-    (played_short places bounds names plans w of typed s, short),
+    (played_short answers places bounds names plans w of typed s, short),
     are_lines-append (flat_map lines_of_component (trace_components (run_shown w) 0 plans)) (map line.Tape (map (tape_entry names) w.tape))
-        (components_fit places bounds names plans w of typed s plans 0 (λ i p at. let same : i ≡ 0 + i = omega arith in subst (λ k. slice_get plans k ≡ Some p) same at)) (tape_fits names w.tape (entry_at places bounds names plans w of typed s)),
+        (components_fit answers places bounds names plans w of typed s plans 0 (λ i p at. let same : i ≡ 0 + i = omega arith in subst (λ k. slice_get plans k ≡ Some p) same at)) (tape_fits names w.tape (entry_at answers places bounds names plans w of typed s)),
   ),
 )

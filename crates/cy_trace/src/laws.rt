@@ -2,6 +2,7 @@
 ghost use Rattle.cy_trace.specs.Laws.{FirstBadIsOne, LinesAreSpelled, LinesReadBack, RunsAreTraces};
 ghost use Rattle.cy_trace.specs.Laws.{RunsFit, RunsReadBack, TextsOfTracesAreGood, TextsTellTraces};
 
+use cy_comp::outcomes_are_answers;
 use wake_core::laws;
 
 /// A line that is written is read back, and whatever is read is just how a line is written.
@@ -32,6 +33,7 @@ pub fn runs_are_read_back()
     ensures fit { RunsFit }
     ensures back { RunsReadBack }
 {
+    outcomes_are_answers();
     laws::places();
     laws::bounds();
 }
