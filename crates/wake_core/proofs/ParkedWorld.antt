@@ -1,12 +1,11 @@
 -- A croutine that is parked, in a world at rest, over its fields.
-use Rattle.std.proofs.Common.{ℕ, ◌+◌, ◌≡◌, ◌≢◌, ◌<◌, ◌&&◌, Bool, true, false, not, refl, sym, ◌∙◌, ap, arith, Option, Some, None, List, [], length, get_or, set, is_some, option_map}
-use Rattle.std.proofs.lemmas.List.{set-get_or}
+use Rattle.std.proofs.Common.{ℕ, ◌+◌, ◌≡◌, ◌<◌, ◌&&◌, true, not, refl, sym, ◌∙◌, ap, arith, Option, Some, None, [], length, get_or, set, is_some, option_map}
 use Rattle.cy_fuse.specs.Laws.{FetchesFind}
 use Rattle.cy_fuse.specs.Visitor.{VisitorView, position_at}
 use Rattle.cy_comp.specs.Calls.{cursor_after, output}
 use Rattle.cy_comp.specs.Routine.{RoutineView}
 use Rattle.wake_core.specs.declared.world.World.{World}
-use Rattle.wake_core.specs.Plain.{Hand, State, Ready, DataWait, Sleep, Finished, unsent_of, found_by, taped_of}
+use Rattle.wake_core.specs.Plain.{Hand, Ready, DataWait, unsent_of, found_by, taped_of}
 use Rattle.wake_core.specs.WorldOf.{plain_of}
 use Rattle.wake_core.specs.Fields.{read, no_visitor, no_routine, calls_at}
 use Rattle.wake_core.specs.Rest.{IsAtRest}
@@ -76,45 +75,8 @@ module _ (s : World) (n : ℕ) (r : RoutineView) (t : IsToPark s n r) where
       s.sound.consistent)
 
   -- What the call tests is what the plain world says.
-  pub none_for : (v : VisitorView) (index : ℕ) → v ≡ get_or s.visitors.items n v → index ≡ cursor_after r.calls → is_ready r.state ≡ true → is_some r.pending ≡ false → is_some (position_at index v) ≡ false
-      → finds_nothing n (plain_of s) ≡ true
-  none_for v index visitor cursor state pending found =
-      rw (sym state_shown ∙ state, sym unsent_shown ∙ pending, sym (found_shown v index visitor cursor) ∙ found) refl
-
-  pub other_state : (state : State) → state ≡ r.state → state ≢ Ready → finds_nothing n (plain_of s) ≡ false
-  other_state state is other = rw (sym state_shown ∙ ap is_ready (sym is) ∙ not_ready state other) refl
-    where
-      not_ready : (state : State) → state ≢ Ready → is_ready state ≡ false
-      not_ready Ready other = absurd (other refl)
-      not_ready DataWait other = refl
-      not_ready (Sleep until) other = refl
-      not_ready Finished other = refl
-
-  pub holds_back : is_some r.pending ≡ true → finds_nothing n (plain_of s) ≡ false
-  holds_back e = rw (sym unsent_shown ∙ e) (never (is_ready ((plain_of s).states n)) (is_some (found_by (plain_of s) n)))
-    where
-      never : (a b : Bool) → a && not true && not b ≡ false
-      never true b = refl
-      never false b = refl
-
-  pub finds_some : (v : VisitorView) (index : ℕ) → v ≡ get_or s.visitors.items n v → index ≡ cursor_after r.calls → is_some (position_at index v) ≡ true → finds_nothing n (plain_of s) ≡ false
-  finds_some v index visitor cursor e = rw (sym (found_shown v index visitor cursor) ∙ e) (never (is_ready ((plain_of s).states n)) (is_some (unsent_of (plain_of s) n)))
-    where
-      never : (a b : Bool) → a && not b && not true ≡ false
-      never true true = refl
-      never true false = refl
-      never false b = refl
-
-  -- Its routine, written back as it was, shows the same world.
-  pub kept_shown : record (plain_of s) {
-    states = read (λ r. r.state) Ready (set s.routines.items n r);
-    cursors = λ k. cursor_after (calls_at (set s.routines.items n r) s.found.items k);
-    calls = calls_at (set s.routines.items n r) s.found.items;
-  } ≡ plain_of s
-  unfolding plain_of
-  kept_shown =
-      ap (λ (l : List RoutineView). record (plain_of s) { states = read (λ r. r.state) Ready l; cursors = λ k. cursor_after (calls_at l s.found.items k); calls = calls_at l s.found.items })
-      (ap (set s.routines.items n) t.routine ∙ set-get_or s.routines.items n r)
+  pub tests : (v : VisitorView) → v ≡ get_or s.visitors.items n v → (is_ready r.state && not (is_some r.pending) && not (is_some (position_at (cursor_after r.calls) v))) ≡ finds_nothing n (plain_of s)
+  tests v visitor = rw (state_shown, unsent_shown, found_shown v (cursor_after r.calls) visitor refl) refl
 
   -- The world in which it was parked.
   module _ (new : RoutineView) (is : new ≡ record r { state = DataWait }) where

@@ -1,10 +1,12 @@
 // What thread 0 does while it alone does anything: several events in one call.
-ghost use Rattle.std.specs.Prelude.{◌≡◌, ◌||◌, not};
+ghost use Rattle.std.specs.Prelude.{◌≡◌, ◌||◌, ◌&&◌, not, is_some};
+ghost use Rattle.cy_fuse.specs.Visitor.{position_at};
+ghost use Rattle.cy_comp.specs.Calls.{cursor_after};
 ghost use Rattle.wake_core.specs.Turns.{is_due, is_woken, is_ready};
 
 use crate::{Hand, Phase, World};
-use cy_comp::State;
-use cy_fuse::fetches_find;
+use cy_comp::{Routine, State};
+use cy_fuse::{Visitor, fetches_find};
 
 impl World {
     ghost use Rattle.std.specs.Prelude.{◌≡◌, ◌<◌, ◌∷◌, [], true, false, length};
@@ -52,12 +54,8 @@ impl World {
     {
         fetches_find();
         let index = component as usize;
-        let routine = &mut self.routines[index];
-        if matches!(routine.state(), State::Ready)
-            && routine.pending().is_none()
-            && !self.visitors[index].finds(routine.cursor())
-        {
-            routine.ask();
+        if idles(&self.routines[index], &self.visitors[index]) {
+            self.routines[index].ask();
             self.spent[index] = true;
         }
     }
@@ -99,4 +97,30 @@ fn runs(state: State, was_spent: bool, clock: u64) -> bool
         State::Sleep { until } => until < clock,
         State::Finished => false,
     }
+}
+
+// Whether the next turn of a croutine would find nothing.
+#[inline(always)]
+fn idles(routine: &Routine, visitor: &Visitor) -> bool
+    ensures { result ≡ (is_ready routine.now.state && not (is_some routine.now.pending)
+        && not (is_some (position_at (cursor_after routine.now.calls) visitor.now))) }
+{
+    match routine.state() {
+        State::Ready => misses(routine, visitor),
+        State::DataWait => false,
+        State::Sleep { .. } => false,
+        State::Finished => false,
+    }
+}
+
+// Whether one that is READY has no output to send and nothing to fetch.
+#[inline(always)]
+fn misses(routine: &Routine, visitor: &Visitor) -> bool
+    ensures { result ≡ (not (is_some routine.now.pending)
+        && not (is_some (position_at (cursor_after routine.now.calls) visitor.now))) }
+{
+    if routine.pending().is_some() {
+        return false;
+    }
+    !visitor.finds(routine.cursor())
 }
