@@ -1,5 +1,5 @@
 -- The DAG, the component files and the scheduler, one after another.
-use Rattle.std.proofs.Common.{ℕ, ◌≡◌, List, Option, Some, IfSome, Result, Ok, Err, sym, ap, ◌∙◌, inl, inr, Vec, Global}
+use Rattle.std.proofs.Common.{ℕ, ◌≡◌, List, Option, Some, IfSome, Result, Ok, Err, ap, inl, inr, Vec, Global}
 use Rattle.std.specs.List.{Contains}
 use Rattle.cy_store.specs.Files.{Files}
 use Rattle.cy_store.specs.Reads.{Reads, Accepts, ◌>>=◌}
@@ -11,7 +11,7 @@ use Rattle.cy_replay.specs.declared.configuration.Configuration.{Configuration}
 use Rattle.cy_replay.specs.declared.error.Refusal.{Refusal}
 use Rattle.cy_replay.specs.declared.error.SetupError.{SetupError}
 use Rattle.cy_replay.specs.Configuration.{DagSays, Configured, dag_in, configs_in, sched_in, files_of, configuration_in, IsAsked}
-use Rattle.cy_replay.specs.Steps.{dag_says, configured}
+use Rattle.cy_replay.specs.Steps.{dag_says, configured, scheduled_in}
 use Rattle.cy_replay.specs.Comes.{ComesTo}
 use Rattle.cy_replay.proofs.Coming.{then, told_map, comes_err, comes_ok, comes_then}
 
@@ -20,7 +20,7 @@ abbrev pub with_sched : DagSays → List Config → Sched → Files → Reads Re
 with_sched dag configs sched m = Accepts record { dag = dag; configs = configs; sched = sched }
 
 abbrev pub with_configs : Option (List ℕ) → DagSays → List Config → Files → Reads Refusal Configured
-with_configs sched_name dag configs = then (sched_in sched_name) (with_sched dag configs)
+with_configs sched_name dag configs = scheduled_in dag configs sched_name
 
 abbrev pub with_dag : Option (List ℕ) → DagSays → Files → Reads Refusal Configured
 with_dag sched_name dag = then (configs_in dag.components) (with_configs sched_name dag)
@@ -56,18 +56,13 @@ configs_read {r} dag sched says configs old mid next new came came_too rest =
     (comes_then configured (configs_in says.components) (with_configs sched (dag_says says)) (λ file. sched ≡ Some file) (λ file. sched ≡ Some file) mid next new configs.items r record { same = came_too.same; counts = came_too.accepted.0 } came_too.accepted.1 (λ file asked. asked) rest)
 
 -- the scheduler is in the way
-pub sched_stops : (dag : List ℕ) (sched : Option (List ℕ)) (says : Dag) (configs : Vec Config Global) (old mid next new : StoreView) (e : SetupError) → ComesTo dag_says (dag_in dag) (λ file. file ≡ dag) old mid (Ok says)
-    → ComesTo (λ v. v.items) (configs_in says.components) (Contains (files_of says.components)) mid next (Ok configs)
-    → (let r : Result Sched SetupError = Err e in ComesTo (λ s. s) (sched_in sched) (λ file. sched ≡ Some file) next new r)
-    → (let r : Result Configuration SetupError = Err e in ComesTo configured (configuration_in dag sched) (IsAsked dag sched old.files) old new r)
-sched_stops dag sched says configs old mid next new e came came_too stops =
-    configs_read dag sched says configs old mid next new came came_too (comes_err configured (sched_in sched) (with_sched (dag_says says) configs.items) (λ file. sched ≡ Some file) next new e (λ file asked. asked) stops)
+pub sched_stops : (dag : Dag) (configs : List Config) (sched : Option (List ℕ)) (old new : StoreView) (e : SetupError) → (let r : Result Sched SetupError = Err e in ComesTo (λ s. s) (sched_in sched) (λ file. sched ≡ Some file) old new r)
+    → (let r : Result Configuration SetupError = Err e in ComesTo configured (scheduled_in (dag_says dag) configs sched) (λ file. sched ≡ Some file) old new r)
+sched_stops dag configs sched old new e stops = comes_err configured (sched_in sched) (with_sched (dag_says dag) configs) (λ file. sched ≡ Some file) old new e (λ file asked. asked) stops
 
--- all of it was read
-pub all_read : (dag : List ℕ) (sched : Option (List ℕ)) (all : Configuration) (configs : Vec Config Global) (old mid next new : StoreView) → ComesTo dag_says (dag_in dag) (λ file. file ≡ dag) old mid (Ok all.dag)
-    → ComesTo (λ v. v.items) (configs_in all.dag.components) (Contains (files_of all.dag.components)) mid next (Ok configs) → all.configs ≡ configs.items
-    → ComesTo (λ s. s) (sched_in sched) (λ file. sched ≡ Some file) next new (Ok all.sched) → ComesTo configured (configuration_in dag sched) (IsAsked dag sched old.files) old new (Ok all)
-all_read dag sched all configs old mid next new came came_too is last =
-    configs_read dag sched all.dag configs old mid next new came came_too
-    (comes_ok configured (then (sched_in sched) (with_sched (dag_says all.dag) configs.items)) (λ file. sched ≡ Some file) next new all record { same = last.same; counts = last.accepted.0 }
-    (told_map next.files (λ m was. ap (λ q. q >>= λ s. with_sched (dag_says all.dag) configs.items s m) was ∙ ap (λ (cs : List Config). Accepts record { dag = dag_says all.dag; configs = cs; sched = all.sched }) (sym is)) last.accepted.1))
+-- or it was read, as the last of all
+pub sched_read : (all : Configuration) (sched : Option (List ℕ)) (old new : StoreView) → ComesTo (λ s. s) (sched_in sched) (λ file. sched ≡ Some file) old new (Ok all.sched)
+    → ComesTo configured (scheduled_in (dag_says all.dag) all.configs sched) (λ file. sched ≡ Some file) old new (Ok all)
+sched_read all sched old new last =
+    comes_ok configured (scheduled_in (dag_says all.dag) all.configs sched) (λ file. sched ≡ Some file) old new all record { same = last.same; counts = last.accepted.0 }
+    (told_map old.files (λ m was. ap (λ q. q >>= λ s. with_sched (dag_says all.dag) all.configs s m) was) last.accepted.1)

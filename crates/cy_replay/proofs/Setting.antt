@@ -38,6 +38,7 @@ use Rattle.cy_replay.specs.Comes.{ComesTo, IsJudged}
 use Rattle.cy_replay.specs.Configuration as files
 use Rattle.cy_replay.specs.Configuration.{Configured, configuration_in}
 use Rattle.cy_replay.specs.Faults.{in_file, unless}
+use Rattle.cy_replay.specs.Judged.{judged_over}
 use Rattle.cy_replay.specs.Listing.{AreCounts, record_in, channels_of, choice_of, counts_of, played_in, planned_in}
 use Rattle.cy_replay.specs.Passing.{passing, type_read}
 use Rattle.cy_request.specs.Request.{Components, Request, OfFiles, OfPass}
@@ -78,21 +79,21 @@ wired_is dag (Some f) x y e = absurd cc
 
 module _ (file : List ℕ) (r : Request) (conf : Configuration) (recorded : Contents) where
   -- the wiring is in the way
-  pub wiring_stops : {X : Type 0} (v : X → Replayed) (e : SetupError) → (let q : Result Wiring SetupError = Err e in IsJudged wired_by (wiring_in file (channels_of recorded) (configured conf)) q)
-      → (let q : Result X SetupError = Err e in IsJudged v (judged_in file r (configured conf) recorded) q)
-  wiring_stops v e stops =
-      judges_err wired_by v (wiring_in file (channels_of recorded) (configured conf))
-      (λ x. played_in r.input recorded (choice_of r.filter x) >>= λ played. planned_in r.input x (counts_of recorded (choice_of r.filter x)) >>= λ planned. Accepts record { configured = configured conf; contents = recorded; wired = x }) e stops
+  pub wiring_stops : (e : SetupError) → (let q : Result Wiring SetupError = Err e in IsJudged wired_by (wiring_in file (channels_of recorded) (configured conf)) q)
+      → (let q : Result Replay SetupError = Err e in IsJudged replayed (judged_in file r (configured conf) recorded) q)
+  wiring_stops e stops = judges_err wired_by replayed (wiring_in file (channels_of recorded) (configured conf)) (judged_over r (configured conf) recorded) e stops
 
-module _ (file : List ℕ) (r : Request) (conf : Configuration) (recorded : Contents) (w : Wiring) (judged : let q : Result Wiring SetupError = Ok w in IsJudged wired_by (wiring_in file (channels_of recorded) (configured conf)) q) where
-  wired : wiring_in file (channels_of recorded) (configured conf) ≡ Accepts (wired_by w)
-  wired = judged.accepted
+  -- or there is one, and what is judged over it stands
+  pub wiring_then : (w : Wiring) (q : Result Replay SetupError) → (let made : Result Wiring SetupError = Ok w in IsJudged wired_by (wiring_in file (channels_of recorded) (configured conf)) made)
+      → IsJudged replayed (judged_over r (configured conf) recorded (wired_by w)) q → IsJudged replayed (judged_in file r (configured conf) recorded) q
+  wiring_then w q made judged = judges_then replayed (wiring_in file (channels_of recorded) (configured conf)) (judged_over r (configured conf) recorded) (wired_by w) q made.accepted judged
 
+  pub wiring_is : (w : Wiring) → (let made : Result Wiring SetupError = Ok w in IsJudged wired_by (wiring_in file (channels_of recorded) (configured conf)) made) → wired_of (channels_of recorded) (configured conf) ≡ wired_by w
+  wiring_is w made = wired_is file (wire_refusal (channels_of recorded) conf.dag.components conf.configs) (wired_of (channels_of recorded) (configured conf)) (wired_by w) made.accepted
+
+module _ (r : Request) (conf : Configuration) (recorded : Contents) (w : Wiring) (is_wired : wired_of (channels_of recorded) (configured conf) ≡ wired_by w) where
   abbrev components : List (DagComponent × Config)
   components = zip conf.dag.components conf.configs
-
-  is_wired : wired_of (channels_of recorded) (configured conf) ≡ wired_by w
-  is_wired = wired_is file (wire_refusal (channels_of recorded) conf.dag.components conf.configs) (wired_of (channels_of recorded) (configured conf)) (wired_by w) wired
 
   pub channels_named : AreNamed recorded w.names
   channels_named = all_named recorded w.names (flat_map mentioned components) (sym (ap (λ (x : Wired). x.names) is_wired))
@@ -111,39 +112,38 @@ module _ (file : List ℕ) (r : Request) (conf : Configuration) (recorded : Cont
       zipped (x ∷ xs) [] e = absurd (omega (arith, e))
       zipped (x ∷ xs) (y ∷ ys) e = let rest : length ys ≡ length xs = omega (arith, e) in let so = zipped xs ys rest in omega (arith, so)
 
-  -- what follows the wiring, and what follows the play list
-  abbrev with_played : Wired → ℕ → Reads Refusal Replayed
-  with_played x played = planned_in r.input x (counts_of recorded (choice_of r.filter x)) >>= λ planned. Accepts record { configured = configured conf; contents = recorded; wired = x }
+  abbrev choice : Choice
+  choice = choice_of r.filter (wired_by w)
 
-  abbrev with_wired : Wired → Reads Refusal Replayed
-  with_wired x = played_in r.input recorded (choice_of r.filter x) >>= with_played x
+  -- what follows the play list
+  abbrev with_played : ℕ → Reads Refusal Replayed
+  with_played played = planned_in r.input (wired_by w) (counts_of recorded choice) >>= λ planned. Accepts record { configured = configured conf; contents = recorded; wired = wired_by w }
+
+  abbrev over : Reads Refusal Replayed
+  over = judged_over r (configured conf) recorded (wired_by w)
 
   -- the messages that are played are in the way
-  pub list_stops : {X : Type 0} (v : X → Replayed) (e : SetupError) → (let q : Result PlayList SetupError = Err e in IsJudged (λ (l : PlayList). length l.places) (played_in r.input recorded (choice_of r.filter (wired_by w))) q)
-      → (let q : Result X SetupError = Err e in IsJudged v (judged_in file r (configured conf) recorded) q)
-  list_stops v e stops =
-      judges_then v (wiring_in file (channels_of recorded) (configured conf)) with_wired (wired_by w) (Err e) wired
-      (judges_err (λ (l : PlayList). length l.places) v (played_in r.input recorded (choice_of r.filter (wired_by w))) (with_played (wired_by w)) e stops)
+  pub list_stops : {X : Type 0} (v : X → Replayed) (e : SetupError) → (let q : Result PlayList SetupError = Err e in IsJudged (λ (l : PlayList). length l.places) (played_in r.input recorded choice) q)
+      → (let q : Result X SetupError = Err e in IsJudged v over q)
+  list_stops v e stops = judges_err (λ (l : PlayList). length l.places) v (played_in r.input recorded choice) with_played e stops
 
-  module _ (list : PlayList) (counts : List ℕ) (listed : let q : Result PlayList SetupError = Ok list in IsJudged (λ (l : PlayList). length l.places) (played_in r.input recorded (choice_of r.filter (wired_by w))) q)
-      (is : IsPlayList recorded (choice_of r.filter (wired_by w)) list) (are : AreCounts (length w.names) list.tokens counts) where
-    after : {X : Type 0} (v : X → Replayed) (q : Result X SetupError) → IsJudged v (with_played (wired_by w) (length list.places)) q → IsJudged v (judged_in file r (configured conf) recorded) q
-    after v q j =
-        judges_then v (wiring_in file (channels_of recorded) (configured conf)) with_wired (wired_by w) q wired
-        (judges_then v (played_in r.input recorded (choice_of r.filter (wired_by w))) (with_played (wired_by w)) (length list.places) q listed.accepted j)
+  module _ (list : PlayList) (counts : List ℕ) (listed : let q : Result PlayList SetupError = Ok list in IsJudged (λ (l : PlayList). length l.places) (played_in r.input recorded choice) q)
+      (is : IsPlayList recorded choice list) (are : AreCounts (length w.names) list.tokens counts) where
+    after : {X : Type 0} (v : X → Replayed) (q : Result X SetupError) → IsJudged v (with_played (length list.places)) q → IsJudged v over q
+    after v q j = judges_then v (played_in r.input recorded choice) with_played (length list.places) q listed.accepted j
 
-    pub counted : counts ≡ counts_of recorded (choice_of r.filter (wired_by w))
-    counted = counts_are recorded (choice_of r.filter (wired_by w)) list counts is are
+    pub counted : counts ≡ counts_of recorded choice
+    counted = counts_are recorded choice list counts is are
 
-    pub planned_stops : {X : Type 0} (v : X → Replayed) (e : SetupError) → (let q : Result ℕ SetupError = Err e in IsJudged (λ n. n) (planned_in r.input (wired_by w) counts) q) → (let q : Result X SetupError = Err e in IsJudged v (judged_in file r (configured conf) recorded) q)
+    pub planned_stops : {X : Type 0} (v : X → Replayed) (e : SetupError) → (let q : Result ℕ SetupError = Err e in IsJudged (λ n. n) (planned_in r.input (wired_by w) counts) q) → (let q : Result X SetupError = Err e in IsJudged v over q)
     planned_stops v e stops =
-        after v (Err e) (judges_err (λ n. n) v (planned_in r.input (wired_by w) (counts_of recorded (choice_of r.filter (wired_by w)))) (λ planned. Accepts record { configured = configured conf; contents = recorded; wired = wired_by w }) e
+        after v (Err e) (judges_err (λ n. n) v (planned_in r.input (wired_by w) (counts_of recorded choice)) (λ planned. Accepts record { configured = configured conf; contents = recorded; wired = wired_by w }) e
         (subst (λ cs. let q : Result ℕ SetupError = Err e in IsJudged (λ n. n) (planned_in r.input (wired_by w) cs) q) counted stops))
 
     pub all_judged : {X : Type 0} (v : X → Replayed) (n : ℕ) (x : X) → (let q : Result ℕ SetupError = Ok n in IsJudged (λ n. n) (planned_in r.input (wired_by w) counts) q) → (let y : Replayed = record { configured = configured conf; contents = recorded; wired = wired_by w } in y ≡ v x)
-        → (let q : Result X SetupError = Ok x in IsJudged v (judged_in file r (configured conf) recorded) q)
+        → (let q : Result X SetupError = Ok x in IsJudged v over q)
     all_judged v n x fits same =
-        after v (Ok x) (judges_then v (planned_in r.input (wired_by w) (counts_of recorded (choice_of r.filter (wired_by w)))) (λ planned. Accepts record { configured = configured conf; contents = recorded; wired = wired_by w }) n (Ok x)
+        after v (Ok x) (judges_then v (planned_in r.input (wired_by w) (counts_of recorded choice)) (λ planned. Accepts record { configured = configured conf; contents = recorded; wired = wired_by w }) n (Ok x)
         (subst (λ cs. planned_in r.input (wired_by w) cs ≡ Accepts n) counted fits.accepted) (judges_ok v (Accepts record { configured = configured conf; contents = recorded; wired = wired_by w }) x (ap Accepts same)))
 
 -- no more are played, and no more are planned, than can be

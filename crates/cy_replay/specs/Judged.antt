@@ -1,21 +1,35 @@
--- What a configuration and a record make with what was judged of them.
+-- What is judged of a configuration and a record, once its components are wired.
+use Rattle.cy_store.specs.Reads.{Reads, Accepts, ◌>>=◌}
+use Rattle.cy_comp.specs.declared.wiring.Wiring.{Wiring}
+use Rattle.cy_request.specs.Request.{Request}
 use Rattle.cy_reader.specs.Record.{Contents}
 use Rattle.cy_replay.specs.declared.configuration.Configuration.{Configuration}
+use Rattle.cy_replay.specs.declared.error.Refusal.{Refusal}
 use Rattle.cy_replay.specs.declared.setup.Judged.{Judged}
 use Rattle.cy_replay.specs.declared.setup.Replay.{Replay}
+use Rattle.cy_replay.specs.Configuration.{Configured}
+use Rattle.cy_replay.specs.Listing.{choice_of, counts_of, planned_in, played_in}
 use Rattle.cy_replay.specs.Setup.{Replayed, replayed}
+use Rattle.cy_replay.specs.Wiring.{Wired}
 
--- A replay, with what was judged of its configuration and its record.
-abbrev pub replay_of : Configuration → Contents → Judged → Replay
-replay_of configuration recorded j = record {
+-- What is judged behind a wiring: how many messages are played, and how many entries are planned.
+abbrev pub judged_over : Request → Configured → Contents → Wired → Reads Refusal Replayed
+judged_over r configured contents wired = do
+  played ← played_in r.input contents (choice_of r.filter wired)
+  planned ← planned_in r.input wired (counts_of contents (choice_of r.filter wired))
+  Accepts record { configured = configured; contents = contents; wired = wired }
+
+-- A replay, with what was judged of its configuration and its record over its wiring.
+abbrev pub replay_of : Configuration → Contents → Wiring → Judged → Replay
+replay_of configuration recorded wiring j = record {
   configuration = configuration;
   recorded = recorded;
-  wiring = j.wiring;
+  wiring = wiring;
   placement = j.placement;
   list = j.list;
   counts = j.counts;
 }
 
 -- What its files come to.
-abbrev pub judged_as : Configuration → Contents → Judged → Replayed
-judged_as configuration recorded j = replayed (replay_of configuration recorded j)
+abbrev pub judged_as : Configuration → Contents → Wiring → Judged → Replayed
+judged_as configuration recorded wiring j = replayed (replay_of configuration recorded wiring j)

@@ -1,7 +1,10 @@
 -- Single steps of reading configuration files.
 use Rattle.std.specs.Prelude.{ℕ, ◌≡◌, ◌⊎◌, List, Option, Some, None, Result, Ok, Err, IfOk}
 use Rattle.std.specs.Prelude.{IsErrOf}
+use Rattle.cy_store.specs.Files.{Files}
+use Rattle.cy_store.specs.Reads.{Reads, Accepts, ◌>>=◌}
 use Rattle.cy_text.specs.Fields.{Fields}
+use Rattle.cy_dag.specs.declared.config.Config.{Config}
 use Rattle.cy_dag.specs.declared.dag.Dag.{Dag}
 use Rattle.cy_dag.specs.declared.error.DagError.{DagError}
 use Rattle.cy_dag.specs.declared.error.DagError.TheVariants as dag_error
@@ -15,7 +18,7 @@ use Rattle.cy_replay.specs.declared.error.Refusal.{Refusal}
 use Rattle.cy_replay.specs.declared.error.SetupError.{SetupError}
 use Rattle.cy_replay.specs.declared.error.SetupError.TheVariants.{Refused, Store, Memory}
 use Rattle.cy_replay.specs.declared.configuration.Configuration.{Configuration}
-use Rattle.cy_replay.specs.Configuration.{Configured, DagSays, fields_of, refused_in}
+use Rattle.cy_replay.specs.Configuration.{Configured, DagSays, fields_of, refused_in, sched_in}
 
 -- The fields of a text, or its fault; the store is not used.
 pub record IsParsed (name text : List ℕ) (result : Result Fields SetupError) : Type 0 where
@@ -31,6 +34,13 @@ dag_says dag = record { components = dag.components; unknown = dag.unknown }
 -- What a configuration says.
 abbrev pub configured : Configuration → Configured
 configured c = record { dag = dag_says c.dag; configs = c.configs; sched = c.sched }
+
+-- What configuration files come to behind the DAG and the component files: the scheduler is read.
+abbrev pub scheduled_in : DagSays → List Config → Option (List ℕ) → Files
+    → Reads Refusal Configured
+scheduled_in dag configs sched_name files = do
+  sched ← sched_in sched_name files
+  Accepts record { dag = dag; configs = configs; sched = sched }
 
 -- A fault of a file is answered, or want of memory, which is the only answer where there is none.
 abbrev pub IsFault : List ℕ → Option Fault → SetupError → Type 0

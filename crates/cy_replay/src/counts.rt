@@ -1,5 +1,5 @@
 // How many messages are played on each channel.
-ghost use Rattle.std.specs.Prelude.{◌≡◌, ◌<◌, ◌≤◌, ◌^◌, All, length, IfOk, IsOkUnless};
+ghost use Rattle.std.specs.Prelude.{◌≡◌, ◌<◌, ◌≤◌, ◌^◌, All, length, IfOk};
 ghost use Rattle.cy_replay.specs.Comes.{IsJudged};
 ghost use Rattle.cy_replay.specs.Listing.{AreCounts, planned_in};
 ghost use Rattle.cy_replay.specs.Wiring.{wired_by};
@@ -8,7 +8,7 @@ use crate::error::refused;
 use crate::{Fault, SetupError};
 use cy_comp::Wiring;
 use cy_msg::Token;
-use std::alloc::Global;
+use std::alloc::{AllocError, Global};
 use wake_core::{MOST_PLANNED, planned};
 
 /// How many messages stand on each of so many channels, by one look at each message.
@@ -16,11 +16,10 @@ pub(crate) fn counts_of(
     alloc: Global,
     channels: u32,
     tokens: &[Token],
-) -> Result<Vec<u32>, SetupError>
+) -> Result<Vec<u32>, AllocError>
     requires named { All (λ t. t.channel < channels) tokens.now }
     requires few { length tokens.now < 2 ^ 32 }
-    ensures counts { IfOk result (λ counts. AreCounts channels tokens.now counts.items) }
-    ensures only_memory { IsOkUnless result SetupError.Memory }
+    ensures { IfOk result (λ counts. AreCounts channels tokens.now counts.items) }
 {
     let mut counts = vec![in alloc; 0u32; channels as usize]?;
     for token in tokens {

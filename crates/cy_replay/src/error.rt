@@ -140,7 +140,10 @@ pub(crate) fn refused(alloc: Global, file: &str, fault: Fault) -> SetupError
 {
     match Text::new(alloc, file) {
         Ok(file) => SetupError::Refused(Refusal { file, fault }),
-        Err(_) => SetupError::Memory,
+        Err(_) => {
+            drop(fault);
+            SetupError::Memory
+        }
     }
 }
 

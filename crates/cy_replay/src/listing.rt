@@ -1,5 +1,5 @@
 // The record of a replay, and the messages that are played.
-ghost use Rattle.std.specs.Prelude.{◌≡◌, length, map, IfOk, IsOkUnless};
+ghost use Rattle.std.specs.Prelude.{◌≡◌, length, map, IfOk};
 ghost use Rattle.cy_reader.specs.Play.{AreNamed, IsPlayList};
 ghost use Rattle.cy_replay.specs.Comes.{ComesTo, IsJudged};
 ghost use Rattle.cy_replay.specs.Listing.{record_in, channels_of, choice_of, played_in};
@@ -8,11 +8,11 @@ ghost use Rattle.cy_replay.specs.Wiring.{wired_by};
 use crate::SetupError;
 use crate::error::record_fault;
 use cy_comp::Wiring;
-use cy_msg::{PlayList, Text};
+use cy_msg::{NamesError, PlayList, Text};
 use cy_reader::{ChannelSet, Record, load};
 use cy_request::Filter;
 use cy_store::Store;
-use std::alloc::Global;
+use std::alloc::{AllocError, Global};
 
 /// Reads a record, or tells why the file is none. No file is changed.
 pub fn read_record<S: Store>(alloc: Global, store: &mut S, name: &str) -> Result<Record, SetupError>
@@ -26,9 +26,8 @@ pub fn read_record<S: Store>(alloc: Global, store: &mut S, name: &str) -> Result
 }
 
 /// The names of a record's channels.
-pub(crate) fn channel_names(alloc: Global, recorded: &Record) -> Result<Vec<Text>, SetupError>
-    ensures names { IfOk result (λ names. names.items ≡ channels_of recorded.now) }
-    ensures only_memory { IsOkUnless result SetupError.Memory }
+pub(crate) fn channel_names(alloc: Global, recorded: &Record) -> Result<Vec<Text>, NamesError>
+    ensures { IfOk result (λ names. names.items ≡ channels_of recorded.now) }
 {
     let mut names = Vec::with_capacity(alloc, recorded.channels() as usize)?;
     for number in 0..recorded.channels() {
@@ -38,9 +37,8 @@ pub(crate) fn channel_names(alloc: Global, recorded: &Record) -> Result<Vec<Text
 }
 
 // The channels that components write.
-fn written_by(alloc: Global, wiring: &Wiring) -> Result<ChannelSet, SetupError>
-    ensures written { IfOk result (λ set. set ≡ map (λ p. p.out) wiring.now.plans) }
-    ensures only_memory { IsOkUnless result SetupError.Memory }
+fn written_by(alloc: Global, wiring: &Wiring) -> Result<ChannelSet, AllocError>
+    ensures { IfOk result (λ set. set ≡ map (λ p. p.out) wiring.now.plans) }
 {
     let plans = wiring.plans.as_slice();
     let mut numbers = Vec::with_capacity(alloc, plans.len())?;

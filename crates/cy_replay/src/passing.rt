@@ -1,5 +1,5 @@
 // The component that passes messages on, without configuration files.
-ghost use Rattle.std.specs.Prelude.{◌≡◌, ◌≤◌, [], ◌∷◌, length, IfOk, IsOkUnless};
+ghost use Rattle.std.specs.Prelude.{◌≡◌, ◌≤◌, [], ◌∷◌, codes, length, IfOk, IsOkUnless};
 ghost use Rattle.cy_sched.specs.SchedFile.{IsPlaceable};
 ghost use Rattle.cy_replay.specs.Passing.{pass_component as component_of, pass_config as config_of};
 ghost use Rattle.cy_replay.specs.Passing.{PassIsWired, passing, type_read};
@@ -9,46 +9,63 @@ use crate::read::default_scheduler;
 use crate::{Configuration, SetupError};
 use cy_comp::Kind;
 use cy_dag::{Config, Dag, DagComponent, DagReader};
-use cy_msg::{Items, Text};
+use cy_msg::{Items, NamesError, Text};
 use cy_reader::Record;
 use std::alloc::Global;
 
 // The type that a record has for a channel.
-fn type_of(alloc: Global, recorded: &Record, channel: &str) -> Result<Text, SetupError>
-    ensures is { IfOk result (λ t. t ≡ type_read recorded.now channel.now) }
-    ensures only_memory { IsOkUnless result SetupError.Memory }
+fn type_of(alloc: Global, recorded: &Record, channel: &str) -> Result<Text, NamesError>
+    ensures { IfOk result (λ t. t ≡ type_read recorded.now channel.now) }
 {
-    let message_type = match recorded.channel_named(channel) {
-        Some(known) => known.message_type.as_str(),
-        None => "",
-    };
-    Ok(Text::new(alloc, message_type)?)
+    match recorded.channel_named(channel) {
+        Some(known) => Text::new(alloc, known.message_type.as_str()),
+        None => Text::new(alloc, ""),
+    }
 }
 
-// The component, as a DAG file has it.
-fn pass_component(alloc: Global, from: &str) -> Result<DagComponent, SetupError>
-    ensures is { IfOk result (λ c. c ≡ component_of from.now) }
-    ensures only_memory { IsOkUnless result SetupError.Memory }
+// What the component reads.
+fn pass_readers(alloc: Global, from: &str) -> Result<Items<DagReader>, NamesError>
+    ensures { IfOk result (λ readers. readers ≡ (component_of from.now).readers) }
 {
     let reader = DagReader {
         channel: Text::new(alloc, from)?,
         queue: 1,
     };
-    Ok(DagComponent {
-        class_name: Text::new(alloc, "PassComponent")?,
-        name: Text::new(alloc, "pass")?,
-        config_file_path: Text::new(alloc, "pass")?,
-        readers: Items::new(vec![in alloc; reader]?),
-    })
+    Ok(Items::new(vec![in alloc; reader]?))
+}
+
+// The name of its class, its own, and that of its file.
+fn pass_names(alloc: Global) -> Result<(Text, Text, Text), NamesError>
+    ensures { IfOk result (λ names. (names.0 ≡ codes "PassComponent") × (names.1 ≡ codes "pass")
+        × (names.2 ≡ codes "pass")) }
+{
+    let class_name = Text::new(alloc, "PassComponent")?;
+    let name = Text::new(alloc, "pass")?;
+    Ok((class_name, name, Text::new(alloc, "pass")?))
+}
+
+// The component, as a DAG file has it.
+fn pass_component(alloc: Global, from: &str) -> Result<DagComponent, NamesError>
+    ensures { IfOk result (λ c. c ≡ component_of from.now) }
+{
+    let (class_name, name, config_file_path) = pass_names(alloc)?;
+    match pass_readers(alloc, from) {
+        Ok(readers) => Ok(DagComponent {
+            class_name,
+            name,
+            config_file_path,
+            readers,
+        }),
+        Err(error) => Err(error),
+    }
 }
 
 // It alone.
 #[tactic(auto, using(crate::proofs::PassTested::tested, crate::proofs::PassTested::queues))]
-fn pass_dag(alloc: Global, from: &str) -> Result<Dag, SetupError>
+fn pass_dag(alloc: Global, from: &str) -> Result<Dag, NamesError>
     requires { 1 ≤ length from.now }
     ensures components { IfOk result (λ dag. dag.components ≡ component_of from.now ∷ []) }
     ensures unknown { IfOk result (λ dag. dag.unknown ≡ []) }
-    ensures only_memory { IsOkUnless result SetupError.Memory }
 {
     let component = pass_component(alloc, from)?;
     Ok(Dag {
@@ -58,9 +75,8 @@ fn pass_dag(alloc: Global, from: &str) -> Result<Dag, SetupError>
 }
 
 // What a component file says of it.
-fn pass_config(alloc: Global, to: &str, message_type: Text) -> Result<Config, SetupError>
-    ensures is { IfOk result (λ c. c ≡ config_of to.now message_type) }
-    ensures only_memory { IsOkUnless result SetupError.Memory }
+fn pass_config(alloc: Global, to: &str, message_type: Text) -> Result<Config, NamesError>
+    ensures { IfOk result (λ c. c ≡ config_of to.now message_type) }
 {
     Ok(Config {
         kind: Kind::Pass,
@@ -76,9 +92,8 @@ fn pass_configs(
     from: &str,
     to: &str,
     recorded: &Record,
-) -> Result<Items<Config>, SetupError>
-    ensures is { IfOk result (λ c. c ≡ config_of to.now (type_read recorded.now from.now) ∷ []) }
-    ensures only_memory { IsOkUnless result SetupError.Memory }
+) -> Result<Items<Config>, NamesError>
+    ensures { IfOk result (λ c. c ≡ config_of to.now (type_read recorded.now from.now) ∷ []) }
 {
     let message_type = type_of(alloc, recorded, from)?;
     let config = pass_config(alloc, to, message_type)?;
@@ -100,9 +115,16 @@ pub(crate) fn pass_configuration(
     ensures placeable { IfOk result (λ c. IsPlaceable c.sched) }
     ensures only_memory { IsOkUnless result SetupError.Memory }
 {
-    let configs = pass_configs(alloc, from, to, recorded)?;
-    let dag = pass_dag(alloc, from)?;
     let sched = default_scheduler(alloc)?;
+    let Ok(dag) = pass_dag(alloc, from) else {
+        drop(sched);
+        return Err(SetupError::Memory);
+    };
+    let Ok(configs) = pass_configs(alloc, from, to, recorded) else {
+        drop(dag);
+        drop(sched);
+        return Err(SetupError::Memory);
+    };
     Ok(Configuration {
         dag,
         configs,

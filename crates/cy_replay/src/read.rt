@@ -6,7 +6,7 @@ ghost use Rattle.cy_replay.specs.Configuration.{dag_in, config_in, configs_in, s
 ghost use Rattle.cy_replay.specs.Configuration.{configuration_in, IsAsked};
 ghost use Rattle.cy_dag.specs.Wiring.{AreConfigs, IsOfClass};
 ghost use Rattle.cy_sched.specs.SchedFile.{IsPlaceable, default_sched};
-ghost use Rattle.cy_replay.specs.Steps.{dag_says, configured};
+ghost use Rattle.cy_replay.specs.Steps.{dag_says, configured, scheduled_in};
 
 use crate::error::{dag_fault, sched_fault};
 use crate::text::read_text;
@@ -109,6 +109,35 @@ fn read_scheduler<S: Store>(
     }
 }
 
+// Reads the scheduler file of a configuration, whose other files were read.
+fn with_scheduler<S: Store>(
+    alloc: Global,
+    store: &mut S,
+    dag: Dag,
+    configs: Items<Config>,
+    sched: Option<&str>,
+) -> Result<Configuration, SetupError>
+    requires { AreConfigs dag.components configs }
+    ensures comes { ComesTo configured (scheduled_in (dag_says dag) configs
+        (option_map (λ n. n.now) sched.entry))
+        (λ file. option_map (λ n. n.now) sched.entry ≡ Some file) (S.shows store.old)
+        (S.shows store.new) result }
+    ensures placeable { IfOk result (λ c. IsPlaceable c.sched) }
+{
+    match read_scheduler(alloc, store, sched) {
+        Ok(sched) => Ok(Configuration {
+            dag,
+            configs,
+            sched,
+        }),
+        Err(error) => {
+            drop(configs);
+            drop(dag);
+            Err(error)
+        }
+    }
+}
+
 /// Reads the configuration files of a replay: a DAG file, the component files that it names, in the
 /// order of the DAG, and a scheduler file, if one is given. The first thing in the way is answered.
 pub fn read_configuration<S: Store>(
@@ -124,11 +153,11 @@ pub fn read_configuration<S: Store>(
     ensures placeable { IfOk result (λ c. IsPlaceable c.sched) }
 {
     let dag = read_dag_file(alloc, store, dag)?;
-    let configs = read_configs(alloc, store, dag.components.as_slice())?;
-    let sched = read_scheduler(alloc, store, sched)?;
-    Ok(Configuration {
-        dag,
-        configs: Items::new(configs),
-        sched,
-    })
+    match read_configs(alloc, store, dag.components.as_slice()) {
+        Ok(configs) => with_scheduler(alloc, store, dag, Items::new(configs), sched),
+        Err(error) => {
+            drop(dag);
+            Err(error)
+        }
+    }
 }

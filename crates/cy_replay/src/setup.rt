@@ -5,10 +5,10 @@ ghost use Rattle.cy_replay.specs.Comes.{ComesTo, IsJudged};
 ghost use Rattle.cy_request.specs.Request.{HasReader, OfFiles, OfPass, request_of};
 ghost use Rattle.cy_replay.specs.Setup.{IsAsked, IsAskedBy, IsSetUp};
 ghost use Rattle.cy_replay.specs.Setup.{configured_in, judged_in, passed_in, replay_in, replayed};
-ghost use Rattle.cy_replay.specs.Judged.{judged_as, replay_of};
+ghost use Rattle.cy_replay.specs.Judged.{judged_as, judged_over, replay_of};
 ghost use Rattle.cy_replay.specs.Listing.{channels_of};
 ghost use Rattle.cy_replay.specs.Steps.{configured};
-ghost use Rattle.cy_replay.specs.Wiring.{IsWiredBy, wiring_in};
+ghost use Rattle.cy_replay.specs.Wiring.{IsWiredBy, wired_by, wired_of, wiring_in};
 
 use crate::counts::{counts_of, test_planned};
 use crate::listing::{channel_names, list_messages, read_record};
@@ -38,10 +38,9 @@ pub struct Replay {
     pub counts: Items<u32>,
 }
 
-// What is made of a configuration and a record: all that a replay has beside them.
+// What is judged of a configuration and a record over a wiring: all that a replay has beside them.
 #[derive(Drop)]
 struct Judged {
-    wiring: Wiring,
     placement: Placement,
     list: PlayList,
     counts: Items<u32>,
@@ -61,35 +60,69 @@ fn wire_recorded(
     wire_components(alloc, file, configuration, &channels)
 }
 
-// Judges what was read. A fault of the wiring is one of the file that is named for it.
+// Judges what was read, once its components are wired.
 fn judge_parts(
     alloc: Global,
-    file: &str,
     request: &Request,
     configuration: &Configuration,
     recorded: &Record,
+    wiring: &Wiring,
 ) -> Result<Judged, SetupError>
-    requires { IsPlaceable configuration.now.sched }
-    ensures judged { IsJudged (judged_as configuration.now recorded.now)
-        (judged_in file.now (request_of request.now) (configured configuration.now) recorded.now)
-        result }
+    requires placeable { IsPlaceable configuration.now.sched }
+    requires wired { wired_of (channels_of recorded.now) (configured configuration.now)
+        ≡ wired_by wiring.now }
+    ensures judged { IsJudged (judged_as configuration.now recorded.now wiring.now)
+        (judged_over (request_of request.now) (configured configuration.now) recorded.now
+        (wired_by wiring.now)) result }
     ensures set_up { IfOk result (λ j. IsSetUp request.now.filter.now
-        (replay_of configuration.now recorded.now j)) }
+        (replay_of configuration.now recorded.now wiring.now j)) }
 {
-    let wiring = wire_recorded(alloc, file, configuration, recorded)?;
-    let list = list_messages(alloc, request.input, request.filter, recorded, &wiring)?;
+    let list = list_messages(alloc, request.input, request.filter, recorded, wiring)?;
     let counts = counts_of(alloc, wiring.names.count(), list.tokens.as_slice())?;
-    test_planned(alloc, request.input, &wiring, &counts)?;
+    test_planned(alloc, request.input, wiring, &counts)?;
     let placement = place_components(alloc, configuration)?;
     Ok(Judged {
-        wiring,
         placement,
         list,
         counts: Items::new(counts),
     })
 }
 
-// Judges what was read, and makes what a run needs of it.
+// Judges what was read and wired, and makes what a run needs of it.
+fn judge_wired(
+    alloc: Global,
+    request: &Request,
+    configuration: Configuration,
+    recorded: Record,
+    wiring: Wiring,
+) -> Result<Replay, SetupError>
+    requires placeable { IsPlaceable configuration.sched }
+    requires wired { wired_of (channels_of recorded) (configured configuration)
+        ≡ wired_by wiring }
+    ensures judged { IsJudged replayed (judged_over (request_of request.now)
+        (configured configuration) recorded (wired_by wiring)) result }
+    ensures set_up { IfOk result (IsSetUp request.now.filter.now) }
+{
+    match judge_parts(alloc, request, &configuration, &recorded, &wiring) {
+        Ok(judged) => Ok(Replay {
+            configuration,
+            recorded,
+            wiring,
+            placement: judged.placement,
+            list: judged.list,
+            counts: judged.counts,
+        }),
+        Err(error) => {
+            drop(wiring);
+            drop(recorded);
+            drop(configuration);
+            Err(error)
+        }
+    }
+}
+
+// Judges what was read, and makes what a run needs of it. A fault of the wiring is one of the file
+// that is named for it.
 fn judge(
     alloc: Global,
     file: &str,
@@ -102,15 +135,14 @@ fn judge(
         (judged_in file.now (request_of request.now) (configured configuration) recorded) result }
     ensures set_up { IfOk result (IsSetUp request.now.filter.now) }
 {
-    let parts = judge_parts(alloc, file, request, &configuration, &recorded)?;
-    Ok(Replay {
-        configuration,
-        recorded,
-        wiring: parts.wiring,
-        placement: parts.placement,
-        list: parts.list,
-        counts: parts.counts,
-    })
+    match wire_recorded(alloc, file, &configuration, &recorded) {
+        Ok(wiring) => judge_wired(alloc, request, configuration, recorded, wiring),
+        Err(error) => {
+            drop(recorded);
+            drop(configuration);
+            Err(error)
+        }
+    }
 }
 
 // Sets up a replay through the components of configuration files.
@@ -129,8 +161,13 @@ fn set_up_files<S: Store>(
     ensures set_up { IfOk result (IsSetUp request.now.filter.now) }
 {
     let configuration = read_configuration(alloc, store, dag, sched)?;
-    let recorded = read_record(alloc, store, request.input)?;
-    judge(alloc, dag, request, configuration, recorded)
+    match read_record(alloc, store, request.input) {
+        Ok(recorded) => judge(alloc, dag, request, configuration, recorded),
+        Err(error) => {
+            drop(configuration);
+            Err(error)
+        }
+    }
 }
 
 // Sets up a replay through one component that passes messages on. No file names it, so a fault of
@@ -149,8 +186,13 @@ fn set_up_pass<S: Store>(
     ensures set_up { IfOk result (IsSetUp request.now.filter.now) }
 {
     let recorded = read_record(alloc, store, request.input)?;
-    let configuration = pass_configuration(alloc, from, to, &recorded)?;
-    judge(alloc, request.input, request, configuration, recorded)
+    match pass_configuration(alloc, from, to, &recorded) {
+        Ok(configuration) => judge(alloc, request.input, request, configuration, recorded),
+        Err(error) => {
+            drop(recorded);
+            Err(error)
+        }
+    }
 }
 
 /// Sets up a replay. It reads the DAG file, the component files that it names, in the order of the

@@ -11,7 +11,7 @@ use crate::error::dag_fault;
 use crate::{Configuration, SetupError};
 use cy_comp::Wiring;
 use cy_dag::{DagComponent, wire};
-use cy_msg::{Placement, Text};
+use cy_msg::{NamesError, Placement, Text};
 use cy_sched::place;
 use std::alloc::Global;
 
@@ -53,9 +53,8 @@ pub fn place_components(
 }
 
 // The names of components.
-fn names_of(alloc: Global, components: &[DagComponent]) -> Result<Vec<Text>, SetupError>
-    ensures names { IfOk result (λ names. names.items ≡ map (λ c. c.name) components.now) }
-    ensures only_memory { IsOkUnless result SetupError.Memory }
+fn names_of(alloc: Global, components: &[DagComponent]) -> Result<Vec<Text>, NamesError>
+    ensures { IfOk result (λ names. names.items ≡ map (λ c. c.name) components.now) }
 {
     let mut names = Vec::with_capacity(alloc, components.len())?;
     for component in components {

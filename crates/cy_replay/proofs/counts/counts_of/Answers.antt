@@ -7,5 +7,5 @@ overflow_add-index_mut c =
     let fits = count_fits c.args.channels c.loop-token.token-index c.args.tokens.now c.loop-token.counts.items _ c.index_mut.result.now c.loop-token.invariant (search rules) c.requires.few (c.requires.named c.loop-token.token-index _ (search rules)) c.index_mut.ensures.value in
     omega (arith, fits)
 
-pub returns-clause-counts : goal.returns-clause-counts
-returns-clause-counts c = all_counted c.args.channels c.loop-token.token-index c.args.tokens.now c.loop-token.counts.items c.requires.named c.loop-token.invariant (search rules)
+pub returns : goal.returns
+returns c = all_counted c.args.channels c.loop-token.token-index c.args.tokens.now c.loop-token.counts.items c.requires.named c.loop-token.invariant (search rules)

@@ -9,11 +9,10 @@ returns-in_err-configuration-clause-comes g c =
     let p = err_from_is_err_and c.from_residual.result c.from_residual.ensures.1 in
     rw (p.1, p.2) (configuration_stops c.args.dag.now (option_map (λ n. n.now) c.args.sched) (request_of c.args.request.now) _ _ _ c.in_err-configuration.ensures.comes)
 
-pub returns-in_err-recorded-clause-comes : goal.returns-in_err-recorded-clause-comes
-returns-in_err-recorded-clause-comes g c =
-    let p = err_from_is_err_and c.from_residual-in_err-recorded.result c.from_residual-in_err-recorded.ensures.1 in
-    rw (p.1, p.2) (record_stops c.args.dag.now (option_map (λ n. n.now) c.args.sched) (request_of c.args.request.now) c.in_ok-configuration.configuration _ _ _ _ c.in_ok-configuration.ensures.comes c.in_err-recorded.ensures)
+pub returns-in-Ok-clause-comes : goal.returns-in-Ok-clause-comes
+returns-in-Ok-clause-comes g c =
+    all_read c.args.dag.now (option_map (λ n. n.now) c.args.sched) (request_of c.args.request.now) c.in_ok-configuration.configuration c.in-Ok.recorded _ _ _ _ c.in_ok-configuration.ensures.comes c.in-Ok.ensures c.judge.ensures.judged
 
-pub returns-clause-comes : goal.returns-clause-comes
-returns-clause-comes g c =
-    all_read c.args.dag.now (option_map (λ n. n.now) c.args.sched) (request_of c.args.request.now) c.in_ok-configuration.configuration c.in_ok-recorded.recorded _ _ _ _ c.in_ok-configuration.ensures.comes c.in_ok-recorded.ensures c.judge.ensures.judged
+pub returns-in-Err-clause-comes : goal.returns-in-Err-clause-comes
+returns-in-Err-clause-comes g c =
+    record_stops c.args.dag.now (option_map (λ n. n.now) c.args.sched) (request_of c.args.request.now) c.in_ok-configuration.configuration _ _ _ c.in-Err.error c.in_ok-configuration.ensures.comes c.in-Err.ensures

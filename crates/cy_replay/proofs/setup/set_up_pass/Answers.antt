@@ -8,6 +8,10 @@ returns-in_err-recorded-clause-comes g c =
     let p = err_from_is_err_and c.from_residual.result c.from_residual.ensures.1 in
     rw (p.1, p.2) (pass_stops c.args.from.now c.args.to.now (request_of c.args.request.now) _ _ _ c.in_err-recorded.ensures)
 
-pub returns-clause-comes : goal.returns-clause-comes
-returns-clause-comes g c =
-    pass_read c.args.from.now c.args.to.now (request_of c.args.request.now) c.in_ok-configuration.configuration c.in_ok-recorded.recorded _ _ _ c.in_ok-recorded.ensures c.in_ok-configuration.ensures.is c.judge.ensures.judged
+pub returns-in-Ok-clause-comes : goal.returns-in-Ok-clause-comes
+returns-in-Ok-clause-comes g c =
+    pass_read c.args.from.now c.args.to.now (request_of c.args.request.now) c.in-Ok.configuration c.in_ok-recorded.recorded _ _ _ c.in_ok-recorded.ensures c.in-Ok.ensures.is c.judge.ensures.judged
+
+pub returns-in-Err-clause-comes : goal.returns-in-Err-clause-comes
+returns-in-Err-clause-comes g c =
+    pass_starves c.args.from.now c.args.to.now (request_of c.args.request.now) c.in_ok-recorded.recorded _ _ c.in-Err.error c.in_ok-recorded.ensures c.in-Err.ensures.only_memory
