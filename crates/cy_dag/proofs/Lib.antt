@@ -1,3 +1,4 @@
+pub mod ClassSteps
 pub mod DagSteps
 pub mod Found
 pub mod Loops

@@ -276,8 +276,8 @@ module _ (record_channels : List (List ℕ)) (cs : List DagComponent) (configs :
   }
 
 -- The same of what the parts of the code have made.
-pub made_wiring : (record_channels : List (List ℕ)) (cs : List DagComponent) (configs : List Config) (triggers : List (Option ℕ)) (names : List (List ℕ)) (plans : List Plan) → AreConfigs cs configs
-    → length cs ≤ 64 → components_refusal cs ≡ None → HaveQueues cs → writers_refusal configs ≡ None → triggers ≡ triggers_of cs configs → cycle_refusal triggers ≡ None
-    → names ≡ names_of record_channels (zip cs configs) → plans ≡ plans_of names (zip cs configs) → IsWiring names plans
-made_wiring record_channels cs configs triggers names plans fit few tested queues apart triggered none named planned =
-    rw (planned, named) (is_wiring record_channels cs configs fit few tested queues apart (ap cycle_refusal (sym triggered) ∙ none))
+pub made_wiring : (record_channels : List (List ℕ)) (cs lent : List DagComponent) (configs : List Config) (names : List (List ℕ)) (plans : List Plan) → lent ≡ cs → AreConfigs cs configs
+    → length cs ≤ 64 → components_refusal cs ≡ None → HaveQueues cs → writers_refusal configs ≡ None → cycle_refusal (triggers_of lent configs) ≡ None
+    → names ≡ names_of record_channels (zip lent configs) → plans ≡ plans_of names (zip lent configs) → IsWiring names plans
+made_wiring record_channels cs lent configs names plans same fit few tested queues apart none named planned =
+    rw (planned, named, same) (is_wiring record_channels cs configs fit few tested queues apart (ap (λ (x : List DagComponent). cycle_refusal (triggers_of x configs)) (sym same) ∙ none))

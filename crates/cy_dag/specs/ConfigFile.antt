@@ -66,6 +66,13 @@ kind_of Select file = kind.Select
 kind_of Hold file = kind.Hold (nat_abs (value_of (codes "delay") file))
 kind_of Take file = kind.Take (nat_abs (value_of (codes "n") file))
 
+-- The first cause for which the fields of a class are refused, where each is of its kind.
+abbrev pub values_refusal : ℕ → Class → Fields → Option DagError
+values_refusal component c file = first_of (
+    refuse_if (is_none (text_under (codes "out") file)) (Missing component (codes "out"))
+    ∷ kind_refusal component c file
+    ∷ [])
+
 -- The first cause for which the file of a component is refused.
 abbrev pub class_refusal : ℕ → Class → Fields → Option DagError
 class_refusal component c file = first_of (

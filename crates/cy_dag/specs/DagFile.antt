@@ -126,6 +126,13 @@ counts_refusal components timers = first_of (
     ∷ refuse_if (nat_lt 64 components) (TooMany (count_of components))
     ∷ [])
 
+-- The first cause for which a file is refused whose fields are of their kinds.
+abbrev pub fields_refusal : Fields → Option DagError
+fields_refusal file = first_of (
+    counts_refusal (component_count file) (timer_count file)
+    ∷ components_refusal (components_of file)
+    ∷ [])
+
 -- The first cause for which a file is refused.
 abbrev pub dag_refusal : Fields → Option DagError
 dag_refusal file = first_of (

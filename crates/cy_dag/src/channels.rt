@@ -1,14 +1,13 @@
 // The channels of a wiring, by name and by number.
-ghost use Rattle.std.specs.Prelude.{◌≡◌, ◌<◌, ◌+◌, ◌^◌, ◌++◌, length, map, IfOk, OnOk, IsOkUnless};
+ghost use Rattle.std.specs.Prelude.{◌≡◌, ◌<◌, ◌+◌, ◌^◌, ◌++◌, length, map, IfOk, OnOk};
 ghost use Rattle.std.specs.Prelude.{if◌then◌else◌};
 ghost use Rattle.std.specs.List.{flat_map, zip};
 ghost use Rattle.cy_dag.specs.Wiring.{channels_of, mentions_of, named, number_in};
 ghost use Rattle.cy_msg.specs.Once.{IsOnce};
-ghost use Rattle.cy_dag.specs.declared.error.DagError.TheVariants as dag_error;
 
-use crate::{Config, DagComponent, DagError, DagReader};
-use cy_msg::{Names, Text};
-use std::alloc::Global;
+use crate::{Config, DagComponent, DagReader};
+use cy_msg::{Names, NamesError, Text};
+use std::alloc::{AllocError, Global};
 use std::collections::HashSet;
 
 // All channels that are mentioned: those of the record, and then those of each component.
@@ -17,11 +16,10 @@ pub(crate) fn mentions<'a>(
     record_channels: &'a [Text],
     components: &'a [DagComponent],
     configs: &'a [Config],
-) -> Result<Vec<&'a str>, DagError>
+) -> Result<Vec<&'a str>, AllocError>
     requires { length configs.now ≡ length components.now }
-    ensures mentions { IfOk result (λ ms. map (λ m. m.now) ms.items
+    ensures { IfOk result (λ ms. map (λ m. m.now) ms.items
         ≡ mentions_of record_channels.now (zip components.now configs.now)) }
-    ensures only_memory { IsOkUnless result dag_error.Memory }
 {
     let mut mentions = Vec::new(alloc);
     push_record(&mut mentions, record_channels)?;
@@ -30,10 +28,9 @@ pub(crate) fn mentions<'a>(
 }
 
 // Adds the channels of a record.
-fn push_record<'a>(mentions: &mut Vec<&'a str>, channels: &'a [Text]) -> Result<(), DagError>
-    ensures pushed { OnOk result (map (λ m. m.now) mentions.new.items
+fn push_record<'a>(mentions: &mut Vec<&'a str>, channels: &'a [Text]) -> Result<(), AllocError>
+    ensures { OnOk result (map (λ m. m.now) mentions.new.items
         ≡ map (λ m. m.now) mentions.old.items ++ channels.now) }
-    ensures only_memory { IsOkUnless result dag_error.Memory }
 {
     for channel in channels {
         mentions.push(channel.as_str())?;
@@ -46,12 +43,11 @@ fn push_components<'a>(
     mentions: &mut Vec<&'a str>,
     components: &'a [DagComponent],
     configs: &'a [Config],
-) -> Result<(), DagError>
+) -> Result<(), AllocError>
     requires { length configs.now ≡ length components.now }
-    ensures pushed { OnOk result (map (λ m. m.now) mentions.new.items
+    ensures { OnOk result (map (λ m. m.now) mentions.new.items
         ≡ map (λ m. m.now) mentions.old.items
         ++ flat_map channels_of (zip components.now configs.now)) }
-    ensures only_memory { IsOkUnless result dag_error.Memory }
 {
     for (place, component) in components.iter().enumerate() {
         push_readers(mentions, component.readers.as_slice())?;
@@ -61,10 +57,9 @@ fn push_components<'a>(
 }
 
 // Adds the channels that are read.
-fn push_readers<'a>(mentions: &mut Vec<&'a str>, readers: &'a [DagReader]) -> Result<(), DagError>
-    ensures pushed { OnOk result (map (λ m. m.now) mentions.new.items
+fn push_readers<'a>(mentions: &mut Vec<&'a str>, readers: &'a [DagReader]) -> Result<(), AllocError>
+    ensures { OnOk result (map (λ m. m.now) mentions.new.items
         ≡ map (λ m. m.now) mentions.old.items ++ map (λ r. r.channel) readers.now) }
-    ensures only_memory { IsOkUnless result dag_error.Memory }
 {
     for reader in readers {
         mentions.push(reader.channel.as_str())?;
@@ -73,9 +68,8 @@ fn push_readers<'a>(mentions: &mut Vec<&'a str>, readers: &'a [DagReader]) -> Re
 }
 
 // How many different names are mentioned.
-pub(crate) fn count_different(alloc: Global, mentions: &[&str]) -> Result<usize, DagError>
-    ensures count { IfOk result (λ n. n ≡ length (named (map (λ m. m.now) mentions.now))) }
-    ensures only_memory { IsOkUnless result dag_error.Memory }
+pub(crate) fn count_different(alloc: Global, mentions: &[&str]) -> Result<usize, AllocError>
+    ensures { IfOk result (λ n. n ≡ length (named (map (λ m. m.now) mentions.now))) }
 {
     let mut seen = HashSet::new(alloc);
     let mut count = 0;
@@ -94,10 +88,9 @@ fn more(count: usize, is_new: bool) -> usize
 }
 
 // The names that are mentioned, each where it is first mentioned.
-pub(crate) fn names(alloc: Global, mentions: &[&str]) -> Result<Names, DagError>
+pub(crate) fn names(alloc: Global, mentions: &[&str]) -> Result<Names, NamesError>
     ensures names { IfOk result (λ ns. ns ≡ named (map (λ m. m.now) mentions.now)) }
     ensures once { IfOk result (λ ns. IsOnce ns) }
-    ensures only_memory { IsOkUnless result dag_error.Memory }
 {
     let mut names = Names::new(alloc);
     for mention in mentions {

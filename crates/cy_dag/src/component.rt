@@ -1,5 +1,5 @@
 // Reads and tests a component of a DAG file.
-ghost use Rattle.std.specs.Prelude.{◌≡◌, ◌≤◌, codes, length, map, IfOk, IfErr, IsOkUnless, OnOk};
+ghost use Rattle.std.specs.Prelude.{◌≡◌, ◌≤◌, codes, length, map, IfOk, IfErr, OnOk};
 ghost use Rattle.std.specs.Prelude.{option_map};
 ghost use Rattle.std.specs.List.{list_any, position};
 ghost use Rattle.std.specs.Str.{bytes_eq};
@@ -16,17 +16,25 @@ use crate::class::Class;
 use crate::read::count_of;
 use crate::{DagComponent, DagError, DagReader, MOST_READERS};
 use cy_config::{message_under, messages_under, text_under, u32_under};
-use cy_msg::{Items, Text};
+use cy_msg::{Items, NamesError, Text};
 use cy_text::Tree;
 use std::alloc::Global;
 
 // The component that a message describes.
-pub(crate) fn component(alloc: Global, fields: &Tree) -> Result<DagComponent, DagError>
-    ensures component { IfOk result (λ c. c ≡ component_of fields.now) }
-    ensures only_memory { IsOkUnless result dag_error.Memory }
+pub(crate) fn component(alloc: Global, fields: &Tree) -> Result<DagComponent, NamesError>
+    ensures { IfOk result (λ c. c ≡ component_of fields.now) }
 {
     let none = Tree::new(alloc);
-    let settings = settings(fields, &none);
+    let component = component_with(alloc, fields, settings(fields, &none));
+    drop(none);
+    component
+}
+
+// The same, with the `config` that the message has.
+fn component_with(alloc: Global, fields: &Tree, settings: &Tree) -> Result<DagComponent, NamesError>
+    requires { settings.now ≡ settings_of fields.now }
+    ensures { IfOk result (λ c. c ≡ component_of fields.now) }
+{
     Ok(DagComponent {
         class_name: text(alloc, fields, "class_name")?,
         name: text(alloc, settings, "name")?,
@@ -47,18 +55,16 @@ fn settings<'a>(component: &'a Tree, none: &'a Tree) -> &'a Tree
 }
 
 // The text under a name, empty where there is none.
-pub(crate) fn text(alloc: Global, fields: &Tree, name: &str) -> Result<Text, DagError>
-    ensures text { IfOk result (λ t. t ≡ text_in name.now fields.now) }
-    ensures only_memory { IsOkUnless result dag_error.Memory }
+pub(crate) fn text(alloc: Global, fields: &Tree, name: &str) -> Result<Text, NamesError>
+    ensures { IfOk result (λ t. t ≡ text_in name.now fields.now) }
 {
-    Ok(Text::new(alloc, text_under(fields, name).unwrap_or(""))?)
+    Text::new(alloc, text_under(fields, name).unwrap_or(""))
 }
 
 // The readers of a component.
-fn readers(alloc: Global, settings: &Tree) -> Result<Vec<DagReader>, DagError>
-    ensures readers { IfOk result (λ rs. rs.items
+fn readers(alloc: Global, settings: &Tree) -> Result<Vec<DagReader>, NamesError>
+    ensures { IfOk result (λ rs. rs.items
         ≡ map reader_of (messages_under (codes "readers") settings.now)) }
-    ensures only_memory { IsOkUnless result dag_error.Memory }
 {
     let mut readers = Vec::new(alloc);
     for fields in &messages_under(alloc, settings, "readers")? {
@@ -68,9 +74,8 @@ fn readers(alloc: Global, settings: &Tree) -> Result<Vec<DagReader>, DagError>
 }
 
 // A reader.
-fn reader(alloc: Global, fields: &Tree) -> Result<DagReader, DagError>
-    ensures reader { IfOk result (λ r. r ≡ reader_of fields.now) }
-    ensures only_memory { IsOkUnless result dag_error.Memory }
+fn reader(alloc: Global, fields: &Tree) -> Result<DagReader, NamesError>
+    ensures { IfOk result (λ r. r ≡ reader_of fields.now) }
 {
     Ok(DagReader {
         channel: text(alloc, fields, "channel")?,

@@ -1,8 +1,10 @@
 // Reads a component file.
-ghost use Rattle.std.specs.Prelude.{◌≡◌, ◌≤ℤ◌, IfOk, IfErr, Some, None};
+ghost use Rattle.std.specs.Prelude.{◌≡◌, ◌≤ℤ◌, codes, IfOk, IfErr, Some, None};
 ghost use Rattle.cy_dag.specs.Classes.{class_named};
 ghost use Rattle.cy_dag.specs.ConfigFile.{IsConfig, class_refusal, config_of, config_refusal};
 ghost use Rattle.cy_dag.specs.ConfigFile.{kind_of, kind_refusal, parameter_refusal, value_of};
+ghost use Rattle.cy_dag.specs.ConfigFile.{values_refusal};
+ghost use Rattle.cy_dag.specs.DagFile.{text_in};
 ghost use Rattle.cy_dag.specs.Refusals.{IsDue};
 ghost use Rattle.cy_dag.specs.Wiring.{IsKindOf, IsOfClass};
 ghost use Rattle.cy_dag.specs.declared.class.Class.TheVariants.{Filter};
@@ -60,16 +62,39 @@ fn read_config(alloc: Global, tree: &Tree, component: u32, class: Class) -> Resu
     ensures refused { IfErr result (IsDue (class_refusal component class tree.now)) }
 {
     let unknown = check(alloc, class, tree)?;
+    match values(alloc, tree, component, class) {
+        Ok((kind, out, out_type)) => Ok(Config {
+            kind,
+            out,
+            out_type,
+            unknown,
+        }),
+        Err(error) => {
+            drop(unknown);
+            Err(error)
+        }
+    }
+}
+
+// What it says but for unknown fields: the class with its parameters, the channel and its type.
+fn values(
+    alloc: Global,
+    tree: &Tree,
+    component: u32,
+    class: Class,
+) -> Result<(Kind, Text, Text), DagError>
+    ensures accepted { IfOk result (λ _. values_refusal component class tree.now ≡ None) }
+    ensures values { IfOk result (λ v. (v.0 ≡ kind_of class tree.now)
+        × (v.1 ≡ text_in (codes "out") tree.now) × (v.2 ≡ text_in (codes "out_type") tree.now)) }
+    ensures of_class { IfOk result (λ v. IsKindOf class v.0) }
+    ensures refused { IfErr result (IsDue (values_refusal component class tree.now)) }
+{
     if text_under(tree, "out").is_none() {
         return Err(missing(alloc, component, "out"));
     }
     let kind = kind(alloc, tree, component, class)?;
-    Ok(Config {
-        kind,
-        out: text(alloc, tree, "out")?,
-        out_type: text(alloc, tree, "out_type")?,
-        unknown,
-    })
+    let out = text(alloc, tree, "out")?;
+    Ok((kind, out, text(alloc, tree, "out_type")?))
 }
 
 // A class with the parameters that a file gives it.

@@ -1,5 +1,6 @@
 // What the reading of a DAG or a component file, and its wiring, may answer in place of a value.
-ghost use Rattle.std.specs.Prelude.{◌≡◌, ◌++◌, OnOk};
+ghost use Rattle.std.specs.Prelude.{◌≡◌, [], ◌∷◌, ◌++◌, OnOk};
+ghost use Rattle.cy_fault.specs.FaultText.{named_text, numbers_text};
 ghost use Rattle.cy_dag.specs.FaultText.{dag_text, is_dag_limit};
 ghost use Rattle.cy_dag.specs.Refusals.{refused_shape};
 ghost use Rattle.cy_dag.specs.declared.error.DagError.TheVariants as dag_error;
@@ -112,25 +113,23 @@ impl DagError {
         match self {
             Self::Shape { path } => push_named(to, "Shape", &[], path),
             Self::NoComponents => to.extend_from_slice(b"NoComponents"),
-            Self::Timers { count } => push_numbers(to, "Timers", &[*count]),
+            Self::Timers { count } => push_one(to, "Timers", *count),
             Self::TooMany { count } => push_limit(to, "TooMany", u64::from(*count)),
-            Self::Missing { component, field } => push_named(to, "Missing", &[*component], field),
-            Self::NameTwice { first, second } => push_numbers(to, "NameTwice", &[*first, *second]),
-            Self::UnknownClass { component } => push_numbers(to, "UnknownClass", &[*component]),
-            Self::NoReader { component } => push_numbers(to, "NoReader", &[*component]),
+            Self::Missing { component, field } => push_of(to, "Missing", *component, field),
+            Self::NameTwice { first, second } => push_two(to, "NameTwice", *first, *second),
+            Self::UnknownClass { component } => push_one(to, "UnknownClass", *component),
+            Self::NoReader { component } => push_one(to, "NoReader", *component),
             Self::TooManyReaders { component, count } => {
-                push_numbers(to, "TooManyReaders", &[*component, *count])
+                push_two(to, "TooManyReaders", *component, *count)
             }
             Self::ReaderTwice { component, channel } => {
-                push_named(to, "ReaderTwice", &[*component], channel)
+                push_of(to, "ReaderTwice", *component, channel)
             }
             Self::TooFewReaders { component, count } => {
-                push_numbers(to, "TooFewReaders", &[*component, *count])
+                push_two(to, "TooFewReaders", *component, *count)
             }
-            Self::NotWhole { component, field } => push_named(to, "NotWhole", &[*component], field),
-            Self::TwoWriters { first, second } => {
-                push_numbers(to, "TwoWriters", &[*first, *second])
-            }
+            Self::NotWhole { component, field } => push_of(to, "NotWhole", *component, field),
+            Self::TwoWriters { first, second } => push_two(to, "TwoWriters", *first, *second),
             Self::TriggerCycle { components } => {
                 push_numbers(to, "TriggerCycle", components.as_slice())
             }
@@ -150,6 +149,29 @@ impl DagError {
             DagError::TooMany { .. } | DagError::TooManyChannels { .. }
         )
     }
+}
+
+// Adds the name of a fault and its one number.
+fn push_one(to: &mut Vec<u8>, what: &str, number: u32) -> Result<(), AllocError>
+    ensures { OnOk result (to.new.items ≡ to.old.items ++ numbers_text what.now (number ∷ [])) }
+{
+    push_numbers(to, what, &[number])
+}
+
+// Adds the name of a fault and its two numbers.
+fn push_two(to: &mut Vec<u8>, what: &str, first: u32, second: u32) -> Result<(), AllocError>
+    ensures { OnOk result
+        (to.new.items ≡ to.old.items ++ numbers_text what.now (first ∷ second ∷ [])) }
+{
+    push_numbers(to, what, &[first, second])
+}
+
+// Adds the name of a fault, the number of its component, and a name there.
+fn push_of(to: &mut Vec<u8>, what: &str, component: u32, name: &Text) -> Result<(), AllocError>
+    ensures { OnOk result
+        (to.new.items ≡ to.old.items ++ named_text what.now (component ∷ []) name.now) }
+{
+    push_named(to, what, &[component], name)
 }
 
 impl From<AllocError> for DagError {

@@ -138,7 +138,8 @@ fn has_parameter(class: Class, name: &str) -> bool
 {
     match class {
         Class::Filter => name == "lo" || name == "hi",
-        Class::Window | Class::Take => name == "n",
+        Class::Window => name == "n",
+        Class::Take => name == "n",
         Class::Hold => name == "delay",
         _ => false,
     }

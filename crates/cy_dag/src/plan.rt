@@ -1,15 +1,14 @@
 // Components over numbered channels.
-ghost use Rattle.std.specs.Prelude.{◌≡◌, length, map, IfOk, IsOkUnless};
+ghost use Rattle.std.specs.Prelude.{◌≡◌, length, map, IfOk};
 ghost use Rattle.std.specs.List.{zip};
 ghost use Rattle.cy_dag.specs.Wiring.{number_in, plan_of, plans_of, queue_of_first};
 ghost use Rattle.cy_msg.specs.Once.{IsOnce};
-ghost use Rattle.cy_dag.specs.declared.error.DagError.TheVariants as dag_error;
 
 use crate::channels::number_in;
-use crate::{Config, DagComponent, DagError, DagReader};
+use crate::{Config, DagComponent, DagReader};
 use cy_comp::Plan;
-use cy_msg::{Items, Names, Text};
-use std::alloc::Global;
+use cy_msg::{Items, Names, NamesError, Text};
+use std::alloc::{AllocError, Global};
 
 // The components of a wiring, in the order of the DAG.
 pub(crate) fn plans(
@@ -17,12 +16,11 @@ pub(crate) fn plans(
     names: &Names,
     components: &[DagComponent],
     configs: &[Config],
-) -> Result<Vec<Plan>, DagError>
+) -> Result<Vec<Plan>, NamesError>
     requires each { length configs.now ≡ length components.now }
     requires once { IsOnce names.now }
-    ensures plans { IfOk result (λ ps. ps.items
+    ensures { IfOk result (λ ps. ps.items
         ≡ plans_of names.now (zip components.now configs.now)) }
-    ensures only_memory { IsOkUnless result dag_error.Memory }
 {
     let mut plans = Vec::new(alloc);
     for (place, component) in components.iter().enumerate() {
@@ -37,10 +35,9 @@ fn plan(
     names: &Names,
     component: &DagComponent,
     config: &Config,
-) -> Result<Plan, DagError>
+) -> Result<Plan, NamesError>
     requires { IsOnce names.now }
-    ensures plan { IfOk result (λ p. p ≡ plan_of names.now (component.now, config.now)) }
-    ensures only_memory { IsOkUnless result dag_error.Memory }
+    ensures { IfOk result (λ p. p ≡ plan_of names.now (component.now, config.now)) }
 {
     let readers = component.readers.as_slice();
     Ok(Plan {
@@ -54,11 +51,10 @@ fn plan(
 }
 
 // The numbers of the channels that are read.
-fn numbers(alloc: Global, names: &Names, readers: &[DagReader]) -> Result<Vec<u32>, DagError>
+fn numbers(alloc: Global, names: &Names, readers: &[DagReader]) -> Result<Vec<u32>, AllocError>
     requires { IsOnce names.now }
-    ensures numbers { IfOk result (λ ns. ns.items
+    ensures { IfOk result (λ ns. ns.items
         ≡ map (λ r. number_in names.now r.channel) readers.now) }
-    ensures only_memory { IsOkUnless result dag_error.Memory }
 {
     let mut numbers = Vec::new(alloc);
     for reader in readers {

@@ -1,11 +1,11 @@
 // Reads a DAG file.
-ghost use Rattle.std.specs.Prelude.{◌≡◌, ◌≤◌, length, map, IfOk, IfErr, IsOkUnless, OnOk};
+ghost use Rattle.std.specs.Prelude.{◌≡◌, ◌≤◌, length, map, IfOk, IfErr, OnOk};
 ghost use Rattle.std.specs.List.{flat_map};
 ghost use Rattle.cy_config.specs.Lookups.{messages_under};
 ghost use Rattle.cy_dag.specs.DagFile.{component_of, components_of, components_refusal, count_of};
-ghost use Rattle.cy_dag.specs.DagFile.{counts_refusal, dag_refusal, unknown_in_dag};
+ghost use Rattle.cy_dag.specs.DagFile.{counts_refusal, dag_refusal, fields_refusal};
+ghost use Rattle.cy_dag.specs.DagFile.{unknown_in_dag};
 ghost use Rattle.cy_dag.specs.Refusals.{IsDue};
-ghost use Rattle.cy_dag.specs.declared.error.DagError.TheVariants as dag_error;
 
 use crate::component::{component, test_component};
 use crate::format::DagMessage;
@@ -13,7 +13,7 @@ use crate::{Dag, DagComponent, DagError, MOST_COMPONENTS};
 use cy_config::{check, messages_under};
 use cy_msg::Items;
 use cy_text::Tree;
-use std::alloc::Global;
+use std::alloc::{AllocError, Global};
 
 /// The components that a DAG file describes. Its errors are tested in an order: of the whole file
 /// `Shape`, `NoComponents`, `Timers` and `TooMany`, and then of each component the others, and the
@@ -25,15 +25,30 @@ pub fn read_dag(alloc: Global, tree: &Tree) -> Result<Dag, DagError>
     ensures refused { IfErr result (IsDue (dag_refusal tree.now)) }
 {
     let unknown = check(alloc, DagMessage::File, tree)?;
+    match read_components(alloc, tree) {
+        Ok(components) => Ok(Dag {
+            components: Items::new(components),
+            unknown,
+        }),
+        Err(error) => {
+            drop(unknown);
+            Err(error)
+        }
+    }
+}
+
+// The components of a DAG file, where each field is of its kind.
+fn read_components(alloc: Global, tree: &Tree) -> Result<Vec<DagComponent>, DagError>
+    ensures components { IfOk result (λ cs. cs.items ≡ components_of tree.now) }
+    ensures few { IfOk result (λ cs. (1 ≤ length cs.items) × (length cs.items ≤ MOST_COMPONENTS)) }
+    ensures accepted { OnOk result (fields_refusal tree.now ≡ None) }
+    ensures refused { IfErr result (IsDue (fields_refusal tree.now)) }
+{
     let modules = messages_under(alloc, tree, "module_config")?;
     let found = in_modules(alloc, &modules, "components")?;
     let timers = in_modules(alloc, &modules, "timer_components")?.len();
     test_counts(found.len(), timers)?;
-    let components = tested_components(alloc, &found)?;
-    Ok(Dag {
-        components: Items::new(components),
-        unknown,
-    })
+    tested_components(alloc, &found)
 }
 
 // Whether there are as many components and timer components as there may be.
@@ -61,10 +76,9 @@ fn in_modules<'a>(
     alloc: Global,
     modules: &[&'a Tree],
     name: &str,
-) -> Result<Vec<&'a Tree>, DagError>
-    ensures messages { IfOk result (λ found. map (λ m. m.now) found.items
+) -> Result<Vec<&'a Tree>, AllocError>
+    ensures { IfOk result (λ found. map (λ m. m.now) found.items
         ≡ flat_map (messages_under name.now) (map (λ m. m.now) modules.now)) }
-    ensures only_memory { IsOkUnless result dag_error.Memory }
 {
     let mut found = Vec::new(alloc);
     for module in modules {
@@ -97,7 +111,10 @@ fn tested_components(alloc: Global, found: &[&Tree]) -> Result<Vec<DagComponent>
     let mut components = Vec::new(alloc);
     for fields in found {
         let next = component(alloc, fields)?;
-        test_component(alloc, &components, &next)?;
+        if let Err(error) = test_component(alloc, &components, &next) {
+            drop(next);
+            return Err(error);
+        }
         components.push(next)?;
     }
     Ok(components)

@@ -1,14 +1,13 @@
 // Tests who writes which channel, and who triggers whom.
-ghost use Rattle.std.specs.Prelude.{◌≡◌, ◌≤◌, ◌<◌, length, None, IfOk, IfErr, IsOkUnless};
+ghost use Rattle.std.specs.Prelude.{◌≡◌, ◌≤◌, ◌<◌, length, None, IfOk, IfErr};
 ghost use Rattle.std.specs.Prelude.{OnOk, IfSome, option_and_then};
 ghost use Rattle.cy_dag.specs.Refusals.{IsDue};
 ghost use Rattle.cy_dag.specs.Triggers.{after, cycle_refusal, earlier_writer, is_at, met};
 ghost use Rattle.cy_dag.specs.Triggers.{trigger_in, trigger_of, triggers_of, way_back};
 ghost use Rattle.cy_dag.specs.Triggers.{writer_named, writers_refusal};
-ghost use Rattle.cy_dag.specs.declared.error.DagError.TheVariants as dag_error;
 
 use crate::{Config, Cycle, DagComponent, DagError};
-use std::alloc::Global;
+use std::alloc::{AllocError, Global};
 
 // Whether each component writes a channel of its own.
 #[tactic(auto, unfolding(crate::specs::Triggers::writers_refusal))]
@@ -43,15 +42,31 @@ fn writer_named(configs: &[Config], channel: &str) -> Option<usize>
     configs.iter().position(|c| c.out.as_str() == channel)
 }
 
-// Which component triggers each.
-pub(crate) fn triggers_of(
+// Whether no components trigger one another in a circle.
+pub(crate) fn test_cycles(
     alloc: Global,
     components: &[DagComponent],
     configs: &[Config],
-) -> Result<Vec<Option<u32>>, DagError>
+) -> Result<(), DagError>
+    requires components { length components.now ≤ 64 }
+    requires configs { length configs.now ≤ 64 }
+    ensures accepted { OnOk result
+        (cycle_refusal (triggers_of components.now configs.now) ≡ None) }
+    ensures refused { IfErr result
+        (IsDue (cycle_refusal (triggers_of components.now configs.now))) }
+{
+    let triggers = triggers_of(alloc, components, configs)?;
+    test_triggers(alloc, &triggers)
+}
+
+// Which component triggers each.
+fn triggers_of(
+    alloc: Global,
+    components: &[DagComponent],
+    configs: &[Config],
+) -> Result<Vec<Option<u32>>, AllocError>
     requires { length configs.now ≤ 64 }
-    ensures triggers { IfOk result (λ ts. ts.items ≡ triggers_of components.now configs.now) }
-    ensures only_memory { IsOkUnless result dag_error.Memory }
+    ensures { IfOk result (λ ts. ts.items ≡ triggers_of components.now configs.now) }
 {
     let mut triggers = Vec::new(alloc);
     for component in components {
@@ -72,7 +87,7 @@ fn trigger_of(configs: &[Config], component: &DagComponent) -> Option<u32>
 
 // Whether following triggers never comes back to a component.
 #[tactic(auto, unfolding(crate::specs::Triggers::cycle_refusal))]
-pub(crate) fn test_triggers(alloc: Global, triggers: &[Option<u32>]) -> Result<(), DagError>
+fn test_triggers(alloc: Global, triggers: &[Option<u32>]) -> Result<(), DagError>
     requires { length triggers.now ≤ 64 }
     ensures accepted { OnOk result (cycle_refusal triggers.now ≡ None) }
     ensures refused { IfErr result (IsDue (cycle_refusal triggers.now)) }
@@ -110,9 +125,8 @@ fn met(
     triggers: &[Option<u32>],
     start: u32,
     count: usize,
-) -> Result<Vec<u32>, DagError>
-    ensures met { IfOk result (λ cs. cs.items ≡ met triggers.now start count) }
-    ensures only_memory { IsOkUnless result dag_error.Memory }
+) -> Result<Vec<u32>, AllocError>
+    ensures { IfOk result (λ cs. cs.items ≡ met triggers.now start count) }
 {
     let mut components = Vec::new(alloc);
     let mut at = Some(start);

@@ -1,15 +1,18 @@
 // Wires the components of a DAG.
-ghost use Rattle.std.specs.Prelude.{◌≡◌, ◌≤◌, length, None, OnOk, IfOk, IfErr};
+ghost use Rattle.std.specs.Prelude.{◌≡◌, length, None, OnOk, IfOk, IfErr};
+ghost use Rattle.std.specs.List.{zip};
 ghost use Rattle.cy_dag.specs.Refusals.{IsDue};
-ghost use Rattle.cy_dag.specs.Wiring.{AreConfigs, IsWired, channels_refusal, wire_refusal};
+ghost use Rattle.cy_dag.specs.Wiring.{AreConfigs, IsWired, channels_refusal, names_of};
+ghost use Rattle.cy_dag.specs.Wiring.{wire_refusal};
+ghost use Rattle.cy_msg.specs.Once.{IsOnce};
 
 use crate::channels::{count_different, mentions, names};
 use crate::plan::plans;
 use crate::read::count_of;
-use crate::triggers::{test_triggers, test_writers, triggers_of};
-use crate::{Config, Dag, DagError};
+use crate::triggers::{test_cycles, test_writers};
+use crate::{Config, Dag, DagComponent, DagError};
 use cy_comp::Wiring;
-use cy_msg::{Items, MOST_NAMES, Text};
+use cy_msg::{Items, MOST_NAMES, Names, Text};
 use std::alloc::Global;
 
 /// The wiring of a DAG's components, with the file of each, over the channels of a record. The
@@ -32,12 +35,34 @@ pub fn wire(
 {
     let components = dag.components.as_slice();
     test_writers(configs)?;
-    test_triggers(alloc, &triggers_of(alloc, components, configs)?)?;
+    test_cycles(alloc, components, configs)?;
+    let names = channel_names(alloc, record_channels, components, configs)?;
+    match plans(alloc, &names, components, configs) {
+        Ok(plans) => Ok(Wiring::new(names, Items::new(plans))),
+        Err(_) => {
+            drop(names);
+            Err(DagError::Memory)
+        }
+    }
+}
+
+// The names of all channels, where a wiring has names for so many.
+fn channel_names(
+    alloc: Global,
+    record_channels: &[Text],
+    components: &[DagComponent],
+    configs: &[Config],
+) -> Result<Names, DagError>
+    requires { length configs.now ≡ length components.now }
+    ensures accepted { IfOk result (λ ns. (channels_refusal (length ns) ≡ None)
+        × (ns ≡ names_of record_channels.now (zip components.now configs.now))) }
+    ensures once { IfOk result (λ ns. IsOnce ns) }
+    ensures refused { IfErr result (IsDue (channels_refusal
+        (length (names_of record_channels.now (zip components.now configs.now))))) }
+{
     let mentions = mentions(alloc, record_channels, components, configs)?;
     test_count(count_different(alloc, &mentions)?)?;
-    let names = names(alloc, &mentions)?;
-    let plans = plans(alloc, &names, components, configs)?;
-    Ok(Wiring::new(names, Items::new(plans)))
+    Ok(names(alloc, &mentions)?)
 }
 
 // Whether a wiring has names for so many channels.

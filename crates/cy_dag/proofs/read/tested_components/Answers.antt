@@ -1,21 +1,19 @@
-use Rattle.std.proofs.lemmas.Result.{err_from_is_err_and}
 use Rattle.cy_dag.specs.DagFile.{component_of}
 use Rattle.cy_dag.proofs.Loops.{mapped_more}
 use Rattle.cy_dag.proofs.Tested.{accepted_one, refused_one, all_accepted, all_made}
 use Rattle.cy_dag.proofs.read.tested_components.Goals as goal
 
-pub returns-in_err-test_component-clause-refused : goal.returns-in_err-test_component-clause-refused
-returns-in_err-test_component-clause-refused c =
-    let p = err_from_is_err_and c.from_residual-in_err-test_component.result c.from_residual-in_err-test_component.ensures.1 in
-    rw (p.1, p.2) (refused_one c.args.found.now c.loop-fields.fields-index c.fields-item.result c.loop-fields.components.items c.deref.result.now c.in_ok-next.next c.in_err-test_component.field-0.0
-    c.loop-fields-test.true c.fields-item.is c.in_ok-next.ensures.component c.loop-fields.invariant.behind c.deref.ensures.value c.in_err-test_component.ensures.refused)
+pub returns-in-Err-clause-refused : goal.returns-in-Err-clause-refused
+returns-in-Err-clause-refused c =
+    refused_one c.args.found.now c.loop-fields.fields-index c.fields-item.result c.loop-fields.components.items c.deref.result.now c.in_ok-next.next c.in-Err.error
+    c.loop-fields-test.true c.fields-item.is c.in_ok-next.ensures c.loop-fields.invariant.behind c.deref.ensures.value c.in-Err.ensures.refused
 
 pub loop-fields-preserved : goal.loop-fields-preserved
 loop-fields-preserved c = record {
   made = mapped_more component_of c.args.found.now c.loop-fields.fields-index c.fields-item.result c.loop-fields.components.items _ c.in_ok-next.next
-      c.loop-fields-test.true c.fields-item.is c.loop-fields.invariant.made c.in_ok-next.ensures.component c.in_ok-push.ensures.items;
+      c.loop-fields-test.true c.fields-item.is c.loop-fields.invariant.made c.in_ok-next.ensures c.in_ok-push.ensures.items;
   behind = accepted_one c.args.found.now c.loop-fields.fields-index c.fields-item.result c.loop-fields.components.items c.deref.result.now _ c.in_ok-next.next
-      c.loop-fields-test.true c.fields-item.is c.in_ok-next.ensures.component c.loop-fields.invariant.behind c.deref.ensures.value c.in_ok-test_component.ensures.accepted c.in_ok-push.ensures.items;
+      c.loop-fields-test.true c.fields-item.is c.in_ok-next.ensures c.loop-fields.invariant.behind c.deref.ensures.value c.in_default.ensures.accepted c.in_ok-push.ensures.items;
 }
 
 pub returns-clause-components : goal.returns-clause-components

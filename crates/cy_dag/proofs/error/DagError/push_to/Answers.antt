@@ -4,40 +4,40 @@ pub returns-in-Shape : goal.returns-in-Shape
 returns-in-Shape c = rw c.in-Shape.is c.push_named.ensures
 
 pub returns-in-Timers : goal.returns-in-Timers
-returns-in-Timers c = rw c.in-Timers.is c.push_numbers.ensures
+returns-in-Timers c = rw c.in-Timers.is c.push_one.ensures
 
 pub returns-in-TooMany : goal.returns-in-TooMany
 returns-in-TooMany c = rw c.in-TooMany.is (rw c.from.ensures at c.push_limit.ensures)
 
 pub returns-in-Missing : goal.returns-in-Missing
-returns-in-Missing c = rw c.in-Missing.is c.push_named-in-Missing.ensures
+returns-in-Missing c = rw c.in-Missing.is c.push_of.ensures
 
 pub returns-in-NameTwice : goal.returns-in-NameTwice
-returns-in-NameTwice c = rw c.in-NameTwice.is c.push_numbers-in-NameTwice.ensures
+returns-in-NameTwice c = rw c.in-NameTwice.is c.push_two.ensures
 
 pub returns-in-UnknownClass : goal.returns-in-UnknownClass
-returns-in-UnknownClass c = rw c.in-UnknownClass.is c.push_numbers-in-UnknownClass.ensures
+returns-in-UnknownClass c = rw c.in-UnknownClass.is c.push_one-in-UnknownClass.ensures
 
 pub returns-in-NoReader : goal.returns-in-NoReader
-returns-in-NoReader c = rw c.in-NoReader.is c.push_numbers-in-NoReader.ensures
+returns-in-NoReader c = rw c.in-NoReader.is c.push_one-in-NoReader.ensures
 
 pub returns-in-TooManyReaders : goal.returns-in-TooManyReaders
-returns-in-TooManyReaders c = rw c.in-TooManyReaders.is c.push_numbers-in-TooManyReaders.ensures
+returns-in-TooManyReaders c = rw c.in-TooManyReaders.is c.push_two-in-TooManyReaders.ensures
 
 pub returns-in-ReaderTwice : goal.returns-in-ReaderTwice
-returns-in-ReaderTwice c = rw c.in-ReaderTwice.is c.push_named-in-ReaderTwice.ensures
+returns-in-ReaderTwice c = rw c.in-ReaderTwice.is c.push_of-in-ReaderTwice.ensures
 
 pub returns-in-TooFewReaders : goal.returns-in-TooFewReaders
-returns-in-TooFewReaders c = rw c.in-TooFewReaders.is c.push_numbers-in-TooFewReaders.ensures
+returns-in-TooFewReaders c = rw c.in-TooFewReaders.is c.push_two-in-TooFewReaders.ensures
 
 pub returns-in-NotWhole : goal.returns-in-NotWhole
-returns-in-NotWhole c = rw c.in-NotWhole.is c.push_named-in-NotWhole.ensures
+returns-in-NotWhole c = rw c.in-NotWhole.is c.push_of-in-NotWhole.ensures
 
 pub returns-in-TwoWriters : goal.returns-in-TwoWriters
-returns-in-TwoWriters c = rw c.in-TwoWriters.is c.push_numbers-in-TwoWriters.ensures
+returns-in-TwoWriters c = rw c.in-TwoWriters.is c.push_two-in-TwoWriters.ensures
 
 pub returns-in-TriggerCycle : goal.returns-in-TriggerCycle
-returns-in-TriggerCycle c = rw c.in-TriggerCycle.is (rw c.as_slice.ensures at c.push_numbers-in-TriggerCycle.ensures)
+returns-in-TriggerCycle c = rw c.in-TriggerCycle.is (rw c.as_slice.ensures at c.push_numbers.ensures)
 
 pub returns-in-TooManyChannels : goal.returns-in-TooManyChannels
 returns-in-TooManyChannels c = rw c.in-TooManyChannels.is (rw c.from-in-TooManyChannels.ensures at c.push_limit-in-TooManyChannels.ensures)
