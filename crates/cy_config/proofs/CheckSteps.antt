@@ -100,7 +100,7 @@ under_more name es k e there here =
     rw (one_more es k e there here) (under_step (bytes_eq e.name name) (all_under name (fields_of (take k es))) (held_of e.value))
 
 -- A field that the table has is none that it doesn't have.
-pub under_other : {M : Type 0} (table : Table M) (m : M) (name : List ℕ) (f : Field M) (es : List Entry) (k : ℕ) (e : Entry) → k < length es → e ≡ get_or es k e
+under_other : {M : Type 0} (table : Table M) (m : M) (name : List ℕ) (f : Field M) (es : List Entry) (k : ℕ) (e : Entry) → k < length es → e ≡ get_or es k e
     → table m e.name ≡ None → table m name ≡ Some f
     → length (all_under name (fields_of (take (k + 1) es))) ≡ length (all_under name (fields_of (take k es)))
 under_other table m name f es k e there here none some =
@@ -109,6 +109,10 @@ under_other table m name f es k e there here none some =
     (λ same. absurd (none-some f (sym none ∙ ap (table m) ((bytes_eq-Decides e.name name).0 same) ∙ some)))
     (λ differs. differs) in
     rw (under_more name es k e there here, differs) (add-zero _)
+
+pub count_stays : {M : Type 0} (table : Table M) (m : M) (name : List ℕ) (f : Field M) (es : List Entry) (k : ℕ) (e : Entry) (n : ℕ) → k < length es → e ≡ get_or es k e
+    → table m e.name ≡ None → table m name ≡ Some f → n ≡ length (all_under name (fields_of (take k es))) → n ≡ length (all_under name (fields_of (take (k + 1) es)))
+count_stays table m name f es k e n there here none some before = before ∙ sym (under_other table m name f es k e there here none some)
 
 most_one : (b : Bool) → (if b then 1 else 0) ≤ 1
 most_one true = omega arith

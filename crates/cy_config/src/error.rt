@@ -2,21 +2,18 @@
 ghost use Rattle.std.specs.Prelude.{◌≡◌};
 ghost use Rattle.cy_config.specs.declared.error.ConfigError.TheVariants as config_error;
 
-use cy_msg::{NamesError, Text};
+use cy_msg::Text;
 use std::alloc::{AllocError, AllocFailed};
-use thiserror::Error;
 
 /// What [`check`](crate::check) may answer in place of a value.
-#[derive(Debug, Drop, Error)]
+#[derive(Drop)]
 pub enum ConfigError {
     /// A field's value isn't of its kind.
-    #[error("a field's value is not of its kind")]
     Shape {
         /// The field, as `module_config[0].components[1].config.name`.
         path: Text,
     },
     /// There is no memory.
-    #[error("out of memory")]
     Memory,
 }
 

@@ -47,7 +47,7 @@ pub trait Described: Copy {
 }
 
 // A message with known fields: which message it is, and what stands in it.
-#[derive(Clone, Copy)]
+#[derive(Drop)]
 pub(crate) struct Inside<'a, M> {
     pub(crate) message: M,
     pub(crate) fields: &'a Tree,
