@@ -128,7 +128,14 @@ processors_of groups = sum_by (λ g. g.processors) groups
 abbrev pub too_many : ℕ → Option SchedError
 too_many count = if nat_lt 64 count then Some (TooManyProcessors count) else None
 
--- Why groups are refused, and why a choreography is.
+-- Why groups are refused that are there.
+abbrev pub groups_refusal : List Group → Option SchedError
+groups_refusal groups = first_of (
+    option_map (λ name. GroupTwice name) (first_repeated (map (λ g. g.name) groups))
+    ∷ too_many (processors_of groups)
+    ∷ [])
+
+-- Why those of a file are, and why a choreography is.
 abbrev pub classic_refusal : Fields → Option SchedError
 classic_refusal conf = first_of (
     (if no_group conf then Some NoGroup else None)

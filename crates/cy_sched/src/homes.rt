@@ -1,22 +1,20 @@
 // Which home a scheduler gives each component.
-ghost use Rattle.std.specs.Prelude.{◌≡◌, ◌≤◌, length, map, Some, None, IfOk, IsOkUnless};
+ghost use Rattle.std.specs.Prelude.{◌≡◌, ◌≤◌, length, map, Some, None, IfOk};
 ghost use Rattle.std.specs.Prelude.{if◌then◌else◌, option_map};
 ghost use Rattle.cy_sched.specs.Placing.{choreography_home, classic_home, home_at, home_of};
 ghost use Rattle.cy_sched.specs.Placing.{homes_of, in_group, is_named, last_priority};
-ghost use Rattle.cy_sched.specs.declared.error.SchedError.TheVariants as sched_error;
 
 use crate::home::Home;
-use crate::{Group, PinTask, Sched, SchedError, Task};
+use crate::{Group, PinTask, Sched, Task};
 use cy_msg::Text;
-use std::alloc::Global;
+use std::alloc::{AllocError, Global};
 
 // The greatest priority in a group.
 const MOST_PRIORITY: u32 = 19;
 
 // The homes of components with these names.
-pub(crate) fn homes(alloc: Global, sched: &Sched, names: &[Text]) -> Result<Vec<Home>, SchedError>
-    ensures homes { IfOk result (λ hs. hs.items ≡ homes_of sched.now names.now) }
-    ensures only_memory { IsOkUnless result sched_error.Memory }
+pub(crate) fn homes(alloc: Global, sched: &Sched, names: &[Text]) -> Result<Vec<Home>, AllocError>
+    ensures { IfOk result (λ hs. hs.items ≡ homes_of sched.now names.now) }
 {
     let mut homes = Vec::new(alloc);
     for name in names {

@@ -14,8 +14,8 @@ ghost use Rattle.cy_sched.specs.declared.error.SchedError.TheVariants as sched_e
 use crate::home::Home;
 use crate::homes::homes;
 use crate::{Group, Sched, SchedError};
-use cy_msg::{ContextPlan, Items, Placement, Text};
-use std::alloc::Global;
+use cy_msg::{ContextPlan, Items, NamesError, Placement, Text};
+use std::alloc::{AllocError, Global};
 use std::cmp::Reverse;
 
 /// Where a scheduler places the components with these names, which are their numbers from 0: its
@@ -35,11 +35,10 @@ pub fn place(alloc: Global, sched: &Sched, names: &[Text]) -> Result<Placement, 
 }
 
 // The contexts of a scheduler, with the components whose homes they are.
-fn contexts(alloc: Global, sched: &Sched, homes: &[Home]) -> Result<Vec<ContextPlan>, SchedError>
+fn contexts(alloc: Global, sched: &Sched, homes: &[Home]) -> Result<Vec<ContextPlan>, NamesError>
     requires { length homes.now ≤ 64 }
     ensures heads { IfOk result (λ cs. map head_of cs.items ≡ heads_of sched.now) }
     ensures orders { IfOk result (λ cs. HaveOrders homes.now cs.items) }
-    ensures only_memory { IsOkUnless result sched_error.Memory }
 {
     match sched {
         Sched::Classic { groups, .. } => group_contexts(alloc, groups.as_slice(), homes),
@@ -57,11 +56,10 @@ fn choreography_contexts(
     processors: u32,
     pool: u32,
     homes: &[Home],
-) -> Result<Vec<ContextPlan>, SchedError>
+) -> Result<Vec<ContextPlan>, NamesError>
     requires { length homes.now ≤ 64 }
     ensures heads { IfOk result (λ cs. map head_of cs.items ≡ choreography_heads processors pool) }
     ensures orders { IfOk result (λ cs. HaveOrders homes.now cs.items) }
-    ensures only_memory { IsOkUnless result sched_error.Memory }
 {
     let mut contexts = pinned_contexts(alloc, processors, homes)?;
     contexts.push(ContextPlan {
@@ -78,11 +76,10 @@ fn group_contexts(
     alloc: Global,
     groups: &[Group],
     homes: &[Home],
-) -> Result<Vec<ContextPlan>, SchedError>
+) -> Result<Vec<ContextPlan>, NamesError>
     requires { length homes.now ≤ 64 }
     ensures heads { IfOk result (λ cs. map head_of cs.items ≡ map group_head groups.now) }
     ensures orders { IfOk result (λ cs. HaveOrders homes.now cs.items) }
-    ensures only_memory { IsOkUnless result sched_error.Memory }
 {
     let mut contexts = Vec::new(alloc);
     for (place, group) in groups.iter().enumerate() {
@@ -101,12 +98,11 @@ fn pinned_contexts(
     alloc: Global,
     processors: u32,
     homes: &[Home],
-) -> Result<Vec<ContextPlan>, SchedError>
+) -> Result<Vec<ContextPlan>, NamesError>
     requires { length homes.now ≤ 64 }
     ensures heads { IfOk result (λ cs. map head_of cs.items
         ≡ map pinned_head (numbers_below processors)) }
     ensures orders { IfOk result (λ cs. HaveOrders homes.now cs.items) }
-    ensures only_memory { IsOkUnless result sched_error.Memory }
 {
     let mut contexts = Vec::new(alloc);
     for processor in 0..processors {
@@ -125,10 +121,9 @@ fn pinned_contexts(
 type Rank = (Reverse<u32>, u32);
 
 // The order in which the components of a context are scanned.
-fn order(alloc: Global, homes: &[Home], context: usize) -> Result<Vec<u32>, SchedError>
+fn order(alloc: Global, homes: &[Home], context: usize) -> Result<Vec<u32>, AllocError>
     requires { length homes.now ≤ 64 }
-    ensures order { IfOk result (λ cs. IsOrder homes.now context cs.items) }
-    ensures only_memory { IsOkUnless result sched_error.Memory }
+    ensures { IfOk result (λ cs. IsOrder homes.now context cs.items) }
 {
     let mut ranks = ranks(alloc, homes, context)?;
     ranks.sort()?;
@@ -136,11 +131,10 @@ fn order(alloc: Global, homes: &[Home], context: usize) -> Result<Vec<u32>, Sche
 }
 
 // The ranks of a context's components.
-fn ranks(alloc: Global, homes: &[Home], context: usize) -> Result<Vec<Rank>, SchedError>
+fn ranks(alloc: Global, homes: &[Home], context: usize) -> Result<Vec<Rank>, AllocError>
     requires { length homes.now ≤ 64 }
     ensures members { IfOk result (λ rs. map (λ r. r.1) rs.items ≡ members_of homes.now context) }
     ensures ranked { IfOk result (λ rs. HaveRanks homes.now rs.items) }
-    ensures only_memory { IsOkUnless result sched_error.Memory }
 {
     let mut ranks = Vec::new(alloc);
     for component in 0..homes.len() {
@@ -155,13 +149,12 @@ fn push_member(
     homes: &[Home],
     component: usize,
     context: usize,
-) -> Result<(), SchedError>
+) -> Result<(), AllocError>
     requires few { length homes.now ≤ 64 }
     requires there { component < length homes.now }
     ensures members { OnOk result (map (λ r. r.1) ranks.new.items
         ≡ map (λ r. r.1) ranks.old.items ++ filter (is_member homes.now context) (component ∷ [])) }
     ensures ranked { HaveRanks homes.now ranks.old.items → HaveRanks homes.now ranks.new.items }
-    ensures only_memory { IsOkUnless result sched_error.Memory }
 {
     let home = homes[component];
     if home.context != context {
@@ -180,9 +173,8 @@ fn rank(priority: u32, component: u32) -> Rank
 }
 
 // The components of ranks.
-fn numbers(alloc: Global, ranks: &[Rank]) -> Result<Vec<u32>, SchedError>
-    ensures numbers { IfOk result (λ cs. cs.items ≡ map (λ r. r.1) ranks.now) }
-    ensures only_memory { IsOkUnless result sched_error.Memory }
+fn numbers(alloc: Global, ranks: &[Rank]) -> Result<Vec<u32>, AllocError>
+    ensures { IfOk result (λ cs. cs.items ≡ map (λ r. r.1) ranks.now) }
 {
     let mut numbers = Vec::new(alloc);
     for rank in ranks {

@@ -11,4 +11,4 @@ returns-clause-heads c =
 pub returns-clause-orders : goal.returns-clause-orders
 returns-clause-orders c =
     pushed_orders c.args.homes.now c.in_ok-contexts.contexts.items c.push.new.self.items (map pinned_head (numbers_below c.args.processors)) _ c.args.processors c.in_ok-contexts.ensures.heads
-    (pinned_long c.args.processors) c.in_ok-contexts.ensures.orders (rw c.new-2.ensures c.in_ok-order.ensures.order) c.in_ok-push.ensures.items
+    (pinned_long c.args.processors) c.in_ok-contexts.ensures.orders (rw c.new-2.ensures c.in_ok-order.ensures) c.in_ok-push.ensures.items

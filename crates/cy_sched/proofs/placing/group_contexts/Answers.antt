@@ -14,5 +14,5 @@ loop-place-preserved c =
       heads = pushed_heads c.loop-place.contexts.items c.push.new.self.items heads _ (group_head g) c.loop-place.invariant.heads (ap (λ (n : List ℕ). (n, false, g.processors)) name) c.in_ok-push.ensures.items
           ∙ sym (groups_more groups i g c.loop-place-test.true c.index-groups-place.is);
       orders = pushed_orders c.args.homes.now c.loop-place.contexts.items c.push.new.self.items heads _ i c.loop-place.invariant.heads (groups_long groups i c.loop-place-test.true)
-          c.loop-place.invariant.orders (rw c.new-in-loop-place.ensures c.in_ok-order.ensures.order) c.in_ok-push.ensures.items;
+          c.loop-place.invariant.orders (rw c.new-in-loop-place.ensures c.in_ok-order.ensures) c.in_ok-push.ensures.items;
     }

@@ -12,5 +12,5 @@ loop-processor-preserved c =
       heads = pushed_heads c.loop-processor.contexts.items c.push.new.self.items heads _ (pinned_head n) c.loop-processor.invariant.heads (ap (λ (x : List ℕ). (x, true, 1)) name) c.in_ok-push.ensures.items
           ∙ sym (numbers_more n);
       orders = pushed_orders c.args.homes.now c.loop-processor.contexts.items c.push.new.self.items heads _ n c.loop-processor.invariant.heads (pinned_long n) c.loop-processor.invariant.orders
-          (rw c.new.ensures c.in_ok-order.ensures.order) c.in_ok-push.ensures.items;
+          (rw c.new.ensures c.in_ok-order.ensures) c.in_ok-push.ensures.items;
     }

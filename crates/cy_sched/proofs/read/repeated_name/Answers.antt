@@ -5,8 +5,8 @@ use Rattle.std.specs.HashSet.{contains_by}
 use Rattle.cy_sched.proofs.Repeats.{kept_more, behind_step, was_kept, was_new, found_where, later_where}
 use Rattle.cy_sched.proofs.read.repeated_name.Goals as goal
 
-pub returns-then-not-branch-clause-name : goal.returns-then-not-branch-clause-name
-returns-then-not-branch-clause-name c =
+pub returns-then-not-branch : goal.returns-then-not-branch
+returns-then-not-branch c =
     let names = map (λ g. g.name) (take c.loop-group.group-index c.args.groups.now) in
     let step = behind_step c.args.groups.now c.loop-group.group-index c.group-item.result c.loop-group-test.true c.group-item.is in
     let seen = sym (c.loop-group.invariant.kept c.as_str-name.result.now) ∙ was_kept _ _ c.in_ok-insert.ensures.added c.if-not-branch.true in

@@ -5,6 +5,6 @@ use Rattle.cy_sched.proofs.read.tasks.Goals as goal
 pub loop-fields-preserved : goal.loop-fields-preserved
 loop-fields-preserved c = record {
   made = mapped_more task_of c.deref-fields-items.result.now c.loop-fields.fields-index c.fields-item.result c.loop-fields.tasks.items _ c.in_ok-task.field-0
-      c.loop-fields-test.true c.fields-item.is c.loop-fields.invariant.made c.in_ok-task.ensures.task c.in_ok-push.ensures.items;
+      c.loop-fields-test.true c.fields-item.is c.loop-fields.invariant.made c.in_ok-task.ensures c.in_ok-push.ensures.items;
   shown = c.loop-fields.invariant.shown;
 }
