@@ -1,11 +1,10 @@
-use Rattle.std.proofs.Common.{rules, ◌≡◌, ◌<◌, ◌==◌, ◌∙◌, ℕ, List, [], true, length, map, ap, sym, subst, slice_get}
-use Rattle.std.specs.List.{list_any}
+use Rattle.std.proofs.Common.{◌<◌, ◌∙◌, ℕ, List, [], length, map, ap, sym, subst, slice_get}
 use Rattle.std.proofs.lemmas.Option.{none-some}
 use Rattle.cy_section.specs.declared.types.Channel.{Channel}
 use Rattle.cy_writer.specs.Messages.{Message}
 use Rattle.cy_writer.specs.Record.{channels_shown, HaveChannels}
 use Rattle.cy_writer.specs.Stands.{HaveOwnNames}
-use Rattle.cy_recording.specs.Recording.{source_of, channel_of, numbers_after}
+use Rattle.cy_recording.specs.Recording.{source_of, channel_of}
 use Rattle.cy_recording.specs.RecordSteps.{ArePlaced, all_given}
 use Rattle.cy_recording.proofs.ChannelTable.{order_once, order_has, numbers_after-all}
 use Rattle.cy_recording.proofs.TapeRecord.{own_names, have_channels, recorded}

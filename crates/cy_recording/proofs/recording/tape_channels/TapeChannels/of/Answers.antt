@@ -1,4 +1,4 @@
-use Rattle.std.proofs.Common.{◌∙◌, ap, sym, ℕ, List, [], get_or, rules, ◌≡◌, ◌<◌, length, Some, slice_get, arith}
+use Rattle.std.proofs.Common.{◌∙◌, ap, sym, ℕ, List, [], get_or, rules, ◌≡◌, ◌<◌, length, arith}
 use Rattle.std.proofs.lemmas.Option.{slice_get-get_or}
 use Rattle.cy_recording.specs.Recording.{with_number}
 use Rattle.cy_recording.proofs.ChannelTable.{order_more, order_filled, no_token}

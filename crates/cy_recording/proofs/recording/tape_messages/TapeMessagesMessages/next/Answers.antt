@@ -1,4 +1,3 @@
-use Rattle.std.proofs.Common.{List, ℕ}
 use Rattle.cy_recording.specs.Recording.{source_of}
 use Rattle.cy_recording.proofs.TapeRecord.{first_placed, first_origin, rest_placed, rest_writable}
 use Rattle.cy_recording.proofs.recording.tape_messages.TapeMessagesMessages.next.Goals as goal
