@@ -1,5 +1,6 @@
 -- The first refusal of a wiring, test by test.
-use Rattle.std.proofs.Common.{ℕ, Bor, ◌≡◌, Option, None, List, length, map, ap, sym, subst, ◌∙◌}
+use Rattle.std.proofs.Common.{ℕ, Bor, ◌≡◌, Option, None, Result, List, length, map, ap, sym, subst, ◌∙◌}
+use Rattle.std.specs.Prelude.{IfOk, IfErr}
 use Rattle.std.specs.List.{zip}
 use Rattle.cy_dag.specs.Refusals.{IsDue}
 use Rattle.cy_dag.specs.Triggers.{cycle_refusal, triggers_of, writers_refusal}
@@ -10,17 +11,22 @@ use Rattle.cy_dag.specs.declared.error.DagError.{DagError}
 use Rattle.cy_dag.proofs.DagSteps.{first_due, none_due, second_due, third_due}
 
 -- So many names are mentioned.
-pub counted : (all : List (List ℕ)) (ms lent : List (Bor (List ℕ))) (n : ℕ) → map (λ m. m.now) ms ≡ all → lent ≡ ms → n ≡ length (named (map (λ m. m.now) lent)) → n ≡ length (named all)
-counted all ms lent n are same is = is ∙ ap (λ (xs : List (Bor (List ℕ))). length (named (map (λ (m : Bor (List ℕ)). m.now) xs))) same ∙ ap (λ (xs : List (List ℕ)). length (named xs)) are
-
 pub count_due : (all : List (List ℕ)) (n : ℕ) (e : DagError) → n ≡ length (named all) → IsDue (channels_refusal n) e → IsDue (channels_refusal (length (named all))) e
 count_due all n e is due = subst (λ (x : ℕ). IsDue (channels_refusal x) e) is due
 
-pub names_accepted : (all : List (List ℕ)) (ms lent : List (Bor (List ℕ))) (n : ℕ) (ns : List (List ℕ)) → map (λ m. m.now) ms ≡ all → lent ≡ ms → n ≡ length (named all) → channels_refusal n ≡ None
-    → ns ≡ named (map (λ m. m.now) lent) → (channels_refusal (length ns) ≡ None) × (ns ≡ named all)
-names_accepted all ms lent n ns are same count few is =
-    let whole : ns ≡ named all = is ∙ ap (λ (xs : List (Bor (List ℕ))). named (map (λ (m : Bor (List ℕ)). m.now) xs)) same ∙ ap named are in
-    (ap (λ (xs : List (List ℕ)). channels_refusal (length xs)) whole ∙ ap channels_refusal (sym count) ∙ few, whole)
+pub few_named : (all ns : List (List ℕ)) (n : ℕ) → n ≡ length (named all) → channels_refusal n ≡ None → ns ≡ named all → (channels_refusal (length ns) ≡ None) × (ns ≡ named all)
+few_named all ns n count few is = (ap (λ (xs : List (List ℕ)). channels_refusal (length xs)) is ∙ ap channels_refusal (sym count) ∙ few, is)
+
+-- The names of all mentions are those of the list that is lent.
+module _ (all : List (List ℕ)) (ms lent : List (Bor (List ℕ))) (are : map (λ m. m.now) ms ≡ all) (same : lent ≡ ms) (r : Result (List (List ℕ)) DagError) where
+  shown : map (λ m. m.now) lent ≡ all
+  shown = ap (λ (xs : List (Bor (List ℕ))). map (λ (m : Bor (List ℕ)). m.now) xs) same ∙ are
+
+  pub names_accepted : IfOk r (λ ns. (channels_refusal (length ns) ≡ None) × (ns ≡ named (map (λ m. m.now) lent))) → IfOk r (λ ns. (channels_refusal (length ns) ≡ None) × (ns ≡ named all))
+  names_accepted is = subst (λ (xs : List (List ℕ)). IfOk r (λ ns. (channels_refusal (length ns) ≡ None) × (ns ≡ named xs))) shown is
+
+  pub names_refused : IfErr r (IsDue (channels_refusal (length (named (map (λ m. m.now) lent))))) → IfErr r (IsDue (channels_refusal (length (named all))))
+  names_refused due = subst (λ (xs : List (List ℕ)). IfErr r (IsDue (channels_refusal (length (named xs))))) shown due
 
 module _ (channels : List (List ℕ)) (cs : List DagComponent) (configs : List Config) where
   abbrev triggers : Option DagError

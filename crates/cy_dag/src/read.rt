@@ -1,8 +1,9 @@
 // Reads a DAG file.
-ghost use Rattle.std.specs.Prelude.{◌≡◌, ◌≤◌, length, map, IfOk, IfErr, OnOk};
+ghost use Rattle.std.specs.Prelude.{◌≡◌, ◌≤◌, ◌++◌, ◌∷◌, [], length, map, IfOk, IfErr, OnOk};
 ghost use Rattle.std.specs.List.{flat_map};
 ghost use Rattle.cy_config.specs.Lookups.{messages_under};
-ghost use Rattle.cy_dag.specs.DagFile.{component_of, components_of, components_refusal, count_of};
+ghost use Rattle.cy_dag.specs.DagFile.{component_of, component_refusal, components_of};
+ghost use Rattle.cy_dag.specs.DagFile.{components_refusal, count_of};
 ghost use Rattle.cy_dag.specs.DagFile.{counts_refusal, dag_refusal, fields_refusal};
 ghost use Rattle.cy_dag.specs.DagFile.{unknown_in_dag};
 ghost use Rattle.cy_dag.specs.Refusals.{IsDue};
@@ -110,12 +111,30 @@ fn tested_components(alloc: Global, found: &[&Tree]) -> Result<Vec<DagComponent>
 {
     let mut components = Vec::new(alloc);
     for fields in found {
-        let next = component(alloc, fields)?;
-        if let Err(error) = test_component(alloc, &components, &next) {
-            drop(next);
-            return Err(error);
-        }
-        components.push(next)?;
+        push_tested(alloc, &mut components, fields)?;
     }
     Ok(components)
+}
+
+// Adds the component that a message describes, where it is accepted behind those that are there.
+fn push_tested(
+    alloc: Global,
+    components: &mut Vec<DagComponent>,
+    fields: &Tree,
+) -> Result<(), DagError>
+    requires { length components.old.items ≤ 64 }
+    ensures accepted { OnOk result
+        (component_refusal components.old.items (component_of fields.now) ≡ None) }
+    ensures pushed { OnOk result
+        (components.new.items ≡ components.old.items ++ component_of fields.now ∷ []) }
+    ensures refused { IfErr result
+        (IsDue (component_refusal components.old.items (component_of fields.now))) }
+{
+    let next = component(alloc, fields)?;
+    if let Err(error) = test_component(alloc, components, &next) {
+        drop(next);
+        return Err(error);
+    }
+    components.push(next)?;
+    Ok(())
 }

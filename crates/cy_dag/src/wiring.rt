@@ -1,8 +1,8 @@
 // Wires the components of a DAG.
-ghost use Rattle.std.specs.Prelude.{◌≡◌, length, None, OnOk, IfOk, IfErr};
+ghost use Rattle.std.specs.Prelude.{◌≡◌, length, map, None, OnOk, IfOk, IfErr};
 ghost use Rattle.std.specs.List.{zip};
 ghost use Rattle.cy_dag.specs.Refusals.{IsDue};
-ghost use Rattle.cy_dag.specs.Wiring.{AreConfigs, IsWired, channels_refusal, names_of};
+ghost use Rattle.cy_dag.specs.Wiring.{AreConfigs, IsWired, channels_refusal, named, names_of};
 ghost use Rattle.cy_dag.specs.Wiring.{wire_refusal};
 ghost use Rattle.cy_msg.specs.Once.{IsOnce};
 
@@ -61,8 +61,19 @@ fn channel_names(
         (length (names_of record_channels.now (zip components.now configs.now))))) }
 {
     let mentions = mentions(alloc, record_channels, components, configs)?;
-    test_count(count_different(alloc, &mentions)?)?;
-    Ok(names(alloc, &mentions)?)
+    tested_names(alloc, &mentions)
+}
+
+// The names that are mentioned, where a wiring has names for so many.
+fn tested_names(alloc: Global, mentions: &[&str]) -> Result<Names, DagError>
+    ensures accepted { IfOk result (λ ns. (channels_refusal (length ns) ≡ None)
+        × (ns ≡ named (map (λ m. m.now) mentions.now))) }
+    ensures once { IfOk result (λ ns. IsOnce ns) }
+    ensures refused { IfErr result
+        (IsDue (channels_refusal (length (named (map (λ m. m.now) mentions.now))))) }
+{
+    test_count(count_different(alloc, mentions)?)?;
+    Ok(names(alloc, mentions)?)
 }
 
 // Whether a wiring has names for so many channels.
