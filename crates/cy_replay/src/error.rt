@@ -140,10 +140,7 @@ pub(crate) fn refused(alloc: Global, file: &str, fault: Fault) -> SetupError
 {
     match Text::new(alloc, file) {
         Ok(file) => SetupError::Refused(Refusal { file, fault }),
-        Err(_) => {
-            drop(fault);
-            SetupError::Memory
-        }
+        Err(_) => SetupError::Memory,
     }
 }
 

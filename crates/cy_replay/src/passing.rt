@@ -1,5 +1,5 @@
 // The component that passes messages on, without configuration files.
-ghost use Rattle.std.specs.Prelude.{◌≡◌, ◌≤◌, [], ◌∷◌, codes, length, IfOk, IsOkUnless};
+ghost use Rattle.std.specs.Prelude.{◌≡◌, ◌≤◌, [], ◌∷◌, length, IfOk, IsOkUnless};
 ghost use Rattle.cy_sched.specs.SchedFile.{IsPlaceable};
 ghost use Rattle.cy_replay.specs.Passing.{pass_component as component_of, pass_config as config_of};
 ghost use Rattle.cy_replay.specs.Passing.{PassIsWired, passing, type_read};
@@ -23,41 +23,20 @@ fn type_of(alloc: Global, recorded: &Record, channel: &str) -> Result<Text, Name
     }
 }
 
-// What the component reads.
-fn pass_readers(alloc: Global, from: &str) -> Result<Items<DagReader>, NamesError>
-    ensures { IfOk result (λ readers. readers ≡ (component_of from.now).readers) }
+// The component, as a DAG file has it.
+fn pass_component(alloc: Global, from: &str) -> Result<DagComponent, NamesError>
+    ensures { IfOk result (λ c. c ≡ component_of from.now) }
 {
     let reader = DagReader {
         channel: Text::new(alloc, from)?,
         queue: 1,
     };
-    Ok(Items::new(vec![in alloc; reader]?))
-}
-
-// The name of its class, its own, and that of its file.
-fn pass_names(alloc: Global) -> Result<(Text, Text, Text), NamesError>
-    ensures { IfOk result (λ names. (names.0 ≡ codes "PassComponent") × (names.1 ≡ codes "pass")
-        × (names.2 ≡ codes "pass")) }
-{
-    let class_name = Text::new(alloc, "PassComponent")?;
-    let name = Text::new(alloc, "pass")?;
-    Ok((class_name, name, Text::new(alloc, "pass")?))
-}
-
-// The component, as a DAG file has it.
-fn pass_component(alloc: Global, from: &str) -> Result<DagComponent, NamesError>
-    ensures { IfOk result (λ c. c ≡ component_of from.now) }
-{
-    let (class_name, name, config_file_path) = pass_names(alloc)?;
-    match pass_readers(alloc, from) {
-        Ok(readers) => Ok(DagComponent {
-            class_name,
-            name,
-            config_file_path,
-            readers,
-        }),
-        Err(error) => Err(error),
-    }
+    Ok(DagComponent {
+        class_name: Text::new(alloc, "PassComponent")?,
+        name: Text::new(alloc, "pass")?,
+        config_file_path: Text::new(alloc, "pass")?,
+        readers: Items::new(vec![in alloc; reader]?),
+    })
 }
 
 // It alone.

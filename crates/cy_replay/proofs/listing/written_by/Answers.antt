@@ -1,4 +1,5 @@
-use Rattle.std.proofs.Common.{refl}
+use Rattle.std.proofs.Common.{map, ap, refl, ◌∙◌}
+use Rattle.std.proofs.lemmas.List.{take_all}
 use Rattle.cy_comp.specs.declared.plan.Plan.{Plan}
 use Rattle.cy_dag.proofs.Loops.{pushed_more}
 use Rattle.cy_replay.proofs.listing.written_by.Goals as goal
@@ -7,3 +8,8 @@ pub loop-plan-preserved : goal.loop-plan-preserved
 loop-plan-preserved c =
     pushed_more (λ (p : Plan). p.out) c.as_slice-plans.result.now c.loop-plan.plan-index c.plan-item.result c.loop-plan.numbers.items c.push.new.self.items _
     c.loop-plan-test.true c.plan-item.is c.loop-plan.invariant refl c.in_ok-push.ensures.items
+
+pub returns : goal.returns
+returns c =
+    c.new.ensures ∙ c.loop-plan.invariant ∙ ap (map (λ (p : Plan). p.out)) (take_all c.loop-plan.plan-index c.as_slice-plans.result.now c.loop-plan-test.false)
+    ∙ ap (map (λ (p : Plan). p.out)) c.as_slice-plans.ensures
