@@ -17,7 +17,7 @@ pub enum SectionKind {
 }
 
 /// The head of a section.
-#[derive(Clone, Copy, Debug, PartialEq, Eq)]
+#[derive(Clone, Copy)]
 pub struct Head {
     pub kind: SectionKind,
     /// The bytes of the section's body.
@@ -25,7 +25,7 @@ pub struct Head {
 }
 
 /// The header of a record. Times and intervals are in nanoseconds, sizes and places in bytes.
-#[derive(Clone, Copy, Debug, PartialEq, Eq)]
+#[derive(Clone, Copy)]
 pub struct Header {
     pub major_version: u32,
     pub minor_version: u32,
@@ -51,7 +51,7 @@ pub struct Header {
 }
 
 /// The header of a chunk.
-#[derive(Clone, Copy, Debug, PartialEq, Eq)]
+#[derive(Clone, Copy)]
 pub struct ChunkHeader {
     /// The least time in the chunk.
     pub begin_time: u64,

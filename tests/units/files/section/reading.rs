@@ -2,8 +2,8 @@
 use cy_msg::{Bytes, Items, Text};
 use cy_piece::{Piece, put_chunk_body, put_header};
 use cy_section::{
-    BodyMessage, ChunkBody, ChunkHeader, Head, Header, MessageReader, SectionError, SectionKind,
-    read_channel, read_chunk_body, read_chunk_header, read_head, read_header, read_index,
+    BodyMessage, ChunkBody, Header, MessageReader, SectionError, SectionKind, read_channel,
+    read_chunk_body, read_chunk_header, read_head, read_header, read_index,
 };
 use std::test::Fail;
 
@@ -12,17 +12,11 @@ fn reads_heads_and_looks_at_no_padding(rt: HostRuntime) {
     for (bytes, want) in [
         (
             b"\x04\x00\x00\x00\xff\xff\xff\xff\x09\x00\x00\x00\x00\x00\x00\x00".as_slice(),
-            Ok(Head {
-                kind: SectionKind::Channel,
-                size: 9,
-            }),
+            Ok((SectionKind::Channel, 9)),
         ),
         (
             b"\x03\x00\x00\x00\x00\x00\x00\x00\xff\xff\xff\xff\xff\xff\xff\x7f".as_slice(),
-            Ok(Head {
-                kind: SectionKind::Index,
-                size: 9_223_372_036_854_775_807,
-            }),
+            Ok((SectionKind::Index, 9_223_372_036_854_775_807)),
         ),
         (
             b"\x09\x00\x00\x00\x00\x00\x00\x00\xff\xff\xff\xff\xff\xff\xff\xff".as_slice(),
@@ -36,8 +30,30 @@ fn reads_heads_and_looks_at_no_padding(rt: HostRuntime) {
             }),
         ),
     ] {
-        assert_eq!(rt; read_head(bytes, 2064), want);
+        let answer = read_head(bytes, 2064).map(|head| (head.kind, head.size));
+        assert_eq!(rt; answer, want);
     }
+}
+
+// What a header says, in the order of its fields.
+fn numbers_of(header: &Header) -> [u64; 15] {
+    [
+        u64::from(header.major_version),
+        u64::from(header.minor_version),
+        u64::from(header.compress),
+        header.chunk_interval,
+        header.segment_interval,
+        header.index_position,
+        header.chunk_number,
+        header.channel_number,
+        header.begin_time,
+        header.end_time,
+        header.message_number,
+        header.size,
+        u64::from(header.is_complete),
+        header.chunk_raw_size,
+        header.segment_raw_size,
+    ]
 }
 
 #[test]
@@ -64,33 +80,26 @@ fn reads_a_header_in_any_order_and_its_last_values(rt: HostRuntime) -> Result<()
         chunk_raw_size: 0,
         segment_raw_size: 0,
     };
-    assert_eq!(rt; read_header(body, 16), Ok(want));
-    assert_eq!(rt;
-        read_header(b"\x08\x01\x0b", 16),
-        Err(SectionError::Wire { at: 18 })
-    );
+    assert_eq!(rt; numbers_of(&read_header(body, 16)?), numbers_of(&want));
+    let fault = read_header(b"\x08\x01\x0b", 16).err();
+    assert_eq!(rt; fault, Some(SectionError::Wire { at: 18 }));
     let mut piece = Piece::new(rt.alloc());
     put_header(&mut piece, &want)?;
-    assert_eq!(rt; read_header(&piece.bytes()[16..46], 16), Ok(want));
+    let header = read_header(&piece.bytes()[16..46], 16)?;
+    assert_eq!(rt; numbers_of(&header), numbers_of(&want));
     Ok(())
 }
 
 #[test]
-fn reads_a_chunk_header(rt: HostRuntime) {
-    let want = ChunkHeader {
-        begin_time: 100,
-        end_time: 300,
-        message_number: 2,
-        raw_size: 0,
-    };
-    assert_eq!(rt;
-        read_chunk_header(b"\x18\x02\x10\xac\x02\x08\x64", 2131),
-        Ok(want)
-    );
-    assert_eq!(rt;
-        read_chunk_header(b"\x18", 2131),
-        Err(SectionError::Wire { at: 2132 })
-    );
+fn reads_a_chunk_header(rt: HostRuntime) -> Result<(), Fail> {
+    let header = read_chunk_header(b"\x18\x02\x10\xac\x02\x08\x64", 2131)?;
+    assert_eq!(rt; header.begin_time, 100);
+    assert_eq!(rt; header.end_time, 300);
+    assert_eq!(rt; header.message_number, 2);
+    assert_eq!(rt; header.raw_size, 0);
+    let fault = read_chunk_header(b"\x18", 2131).err();
+    assert_eq!(rt; fault, Some(SectionError::Wire { at: 2132 }));
+    Ok(())
 }
 
 #[test]
