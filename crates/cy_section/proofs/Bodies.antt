@@ -27,14 +27,15 @@ unfolding messages_of
 messages_of-fault fault = refl
 
 -- the last bytes, seen without where they lie
-seen_or : (new old : Option Span) → option_map seen_span (option_or new old) ≡ option_or (option_map seen_span new) (option_map seen_span old)
+pub seen_or : (new old : Option Span) → option_map seen_span (option_or new old) ≡ option_or (option_map seen_span new) (option_map seen_span old)
 seen_or None old = refl
 seen_or (Some x) old = refl
 
-pub last_span-seen : (n : ℕ) (front : List WireField) (field : WireField) (new old : Option Span) → option_map seen_span new ≡ span_in n field → option_map seen_span old ≡ last_span n front
-    → option_map seen_span (option_or new old) ≡ last_span n (front ++ field ∷ [])
-last_span-seen n front field new old e f =
-    seen_or new old ∙ ap (λ (o : Option WireSpan). option_or o (option_map seen_span old)) e ∙ ap (option_or (span_in n field)) f ∙ sym (last_span-more n front field)
+pub ruleset spans = (seen_or)
+
+pub last_span-taken : (n : ℕ) (front : List WireField) (field : WireField) (old : Option WireSpan) → old ≡ last_span n front → (new : Option WireSpan) → new ≡ option_or (span_in n field) old
+    → new ≡ last_span n (front ++ field ∷ [])
+last_span-taken n front field old so_far new is = is ∙ ap (option_or (span_in n field)) so_far ∙ sym (last_span-more n front field)
 
 or_given : {A : Type 0} (new old : Option A) (given : A) → unwrap_or (option_or new old) given ≡ unwrap_or new (unwrap_or old given)
 or_given None old given = refl

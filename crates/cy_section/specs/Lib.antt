@@ -5,4 +5,5 @@ pub mod Head
 pub mod Reading
 pub mod Messages
 pub mod Channels
+pub mod Entries
 pub mod FaultText

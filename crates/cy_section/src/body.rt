@@ -1,5 +1,6 @@
 // Reads the messages of a chunk's body.
-ghost use Rattle.std.specs.Prelude.{◌≡◌, ◌+◌, ◌<◌, ◌^◌, length, unwrap_or, IfOk, IsOkUnless, []};
+ghost use Rattle.std.specs.Prelude.{◌≡◌, ◌+◌, ◌<◌, ◌^◌, length, unwrap_or, IfOk, OnOk, IsOkUnless};
+ghost use Rattle.std.specs.Prelude.{◌++◌, ◌∷◌, []};
 ghost use Rattle.cy_msg.specs.Answer.{Answers, AnswersOr};
 ghost use Rattle.cy_wire.specs.Field.{fields_of, seen as seen_field};
 ghost use Rattle.cy_wire.specs.Message.{seen_span, span_in, number_in};
@@ -150,6 +151,20 @@ fn own(alloc: Global, message: &MessageView<'_>) -> Result<BodyMessage, SectionE
     })
 }
 
+// Keeps a message behind others, in memory of its own.
+fn keep(
+    alloc: Global,
+    messages: &mut Vec<BodyMessage>,
+    message: &MessageView<'_>,
+) -> Result<(), SectionError>
+    ensures kept { OnOk result (messages.new.items
+        ≡ messages.old.items ++ (seen message.now).message ∷ []) }
+    ensures only_memory { IsOkUnless result SectionError.Memory }
+{
+    messages.push(own(alloc, message)?)?;
+    Ok(())
+}
+
 // The messages of a chunk's body, in memory of their own.
 #[tactic(auto, unfolding(crate::specs::Reading::chunk_body_at))]
 fn messages_of(alloc: Global, body: &[u8], at: u64) -> Result<Vec<BodyMessage>, SectionError>
@@ -159,7 +174,7 @@ fn messages_of(alloc: Global, body: &[u8], at: u64) -> Result<Vec<BodyMessage>, 
     let mut reader = MessageReader::new(body, at);
     let mut messages = Vec::new(alloc);
     while let Some(message) = reader.next_message()? {
-        messages.push(own(alloc, &message)?)?;
+        keep(alloc, &mut messages, &message)?;
     }
     Ok(messages)
 }

@@ -1,9 +1,9 @@
 // Reads the sections of a few numbers and texts: the header, a chunk's header, a channel.
-ghost use Rattle.std.specs.Prelude.{◌≡◌, ◌+◌, ◌%◌, ◌<◌, ◌^◌, ℕ, length, slice_index, EachIndex};
-ghost use Rattle.std.specs.Prelude.{IfOk, IfErr, IsOkUnless, []};
+ghost use Rattle.std.specs.Prelude.{◌≡◌, ◌+◌, ◌%◌, ◌<◌, ◌^◌, length, unwrap_or};
+ghost use Rattle.std.specs.Prelude.{IfOk, IsOkUnless, []};
 ghost use Rattle.cy_msg.specs.Answer.{Answers, AnswersOr};
 ghost use Rattle.cy_wire.specs.Field.{fields_of, seen};
-ghost use Rattle.cy_wire.specs.Message.{u64_of, seen_span};
+ghost use Rattle.cy_wire.specs.Message.{seen_span, span_in};
 ghost use Rattle.cy_section.specs.Reading.{ReadsNumbers, KeepsNumber, text_of};
 ghost use Rattle.cy_section.specs.Reading.{header_at, chunk_header_at, channel_at};
 ghost use Rattle.cy_section.specs.Reading.{channel_of, channel_in};
@@ -139,6 +139,24 @@ fn view_of<'a>(
     })
 }
 
+// The bytes of a field, where it has this number, in place of those before it.
+fn newer<'a>(field: &Field<'a>, number: u32, before: Span<'a>) -> Span<'a>
+    ensures { seen_span result ≡ unwrap_or (span_in number (seen field.now)) (seen_span before.entry) }
+{
+    match field.span(number) {
+        Some(span) => span,
+        None => before,
+    }
+}
+
+// The fields of a channel, of each the last one that was read so far.
+#[derive(Clone, Copy)]
+struct Parts<'a> {
+    name: Span<'a>,
+    message_type: Span<'a>,
+    proto_desc: Span<'a>,
+}
+
 // The channel in some bytes, whose fields begin with a number.
 #[tactic(auto, unfolding(crate::specs::Reading::channel_in))]
 pub(crate) fn channel_of<'a>(message: Span<'a>, first: u32) -> Result<ChannelView<'a>, SectionError>
@@ -147,19 +165,19 @@ pub(crate) fn channel_of<'a>(message: Span<'a>, first: u32) -> Result<ChannelVie
         (fields_of message.entry.start message.entry.bytes.now)) }
 {
     let mut fields = Reader::new(message.bytes, message.start);
-    let mut name = None;
-    let mut message_type = None;
-    let mut proto_desc = None;
+    let mut parts = Parts {
+        name: no_bytes(),
+        message_type: no_bytes(),
+        proto_desc: no_bytes(),
+    };
     while let Some(field) = fields.next_field()? {
-        name = field.span(first).or(name);
-        message_type = field.span(first + 1).or(message_type);
-        proto_desc = field.span(first + 2).or(proto_desc);
+        parts = Parts {
+            name: newer(&field, first, parts.name),
+            message_type: newer(&field, first + 1, parts.message_type),
+            proto_desc: newer(&field, first + 2, parts.proto_desc),
+        };
     }
-    view_of(
-        name.unwrap_or(no_bytes()),
-        message_type.unwrap_or(no_bytes()),
-        proto_desc.unwrap_or(no_bytes()),
-    )
+    view_of(parts.name, parts.message_type, parts.proto_desc)
 }
 
 // A copy of a text, and of bytes.
@@ -177,6 +195,18 @@ pub(crate) fn bytes_copy(alloc: Global, bytes: &[u8]) -> Result<Bytes, SectionEr
     Ok(Bytes::from_vec(bytes.to_vec(alloc)?))
 }
 
+// A channel in memory of its own.
+pub(crate) fn owned(alloc: Global, channel: &ChannelView<'_>) -> Result<Channel, SectionError>
+    ensures copy { IfOk result (λ c. c ≡ seen_channel channel.now) }
+    ensures only_memory { IsOkUnless result SectionError.Memory }
+{
+    Ok(Channel {
+        name: text_copy(alloc, channel.name)?,
+        message_type: text_copy(alloc, channel.message_type)?,
+        proto_desc: bytes_copy(alloc, channel.proto_desc)?,
+    })
+}
+
 /// The channel whose body stands at a place of the file, in memory of its own.
 #[tactic(auto, unfolding(crate::specs::Reading::channel_at))]
 pub fn read_channel(alloc: Global, body: &[u8], at: u64) -> Result<Channel, SectionError>
@@ -188,9 +218,5 @@ pub fn read_channel(alloc: Global, body: &[u8], at: u64) -> Result<Channel, Sect
         bytes: body,
     };
     let channel = channel_of(span, 1)?;
-    Ok(Channel {
-        name: text_copy(alloc, channel.name)?,
-        message_type: text_copy(alloc, channel.message_type)?,
-        proto_desc: bytes_copy(alloc, channel.proto_desc)?,
-    })
+    owned(alloc, &channel)
 }

@@ -14,5 +14,5 @@ loop-messages-preserved c =
       front ++ message ∷ [],
       message_read front c.loop-messages.reader c.next_message.new.self (messages_of (fields_of c.args.at c.args.body.now)) message c.loop-messages.invariant.1 left,
       sym (ap (λ (l : Messages). l.fault) left) ∙ c.loop-messages.invariant.2,
-      rw (c.in_ok-push.ensures.items, c.in_ok-own.ensures.copy, c.loop-messages.invariant.3) (sym (map_push (λ m. m.message) front message)),
+      rw (c.in_ok-keep.ensures.kept, c.loop-messages.invariant.3) (sym (map_push (λ m. m.message) front message)),
     )

@@ -10,19 +10,20 @@ returns-in_err-field c =
     let p = err_from_is_err_and c.from_residual.result c.from_residual.ensures.1 in
     rw (p.1, p.2) (inr (entries_fault c.loop-entries.entries.items c.loop-entries.reader c.in_err-field.field-0.0 _ c.loop-entries.invariant c.in_err-field.ensures.field.0))
 
-pub returns-in_err-entry_of : goal.returns-in_err-entry_of
-returns-in_err-entry_of c =
-    let p = err_from_is_err_and c.from_residual-in_err-entry_of.result c.from_residual-in_err-entry_of.ensures.1 in
+pub returns-in_err-keep_entry : goal.returns-in_err-keep_entry
+returns-in_err-keep_entry c =
+    let p = err_from_is_err_and c.from_residual-in_err-keep_entry.result c.from_residual-in_err-keep_entry.ensures.1 in
     let left = rw c.in-Some.is at c.in_ok-field.ensures.field in
-    rw (p.1, p.2) (elim c.in_err-entry_of.ensures [
+    rw (p.1, p.2) (elim c.in_err-keep_entry.ensures [
       | inl memory ↦ inl memory
       | inr wrong ↦ inr (entry_wrong c.loop-entries.entries.items c.loop-entries.reader (seen c.in-Some.field) c.next_field.new.self (seen_span c.in-Some-span.span) _ _ c.loop-entries.invariant left (sym c.in-Some-span.ensures) wrong)
     ])
 
-pub loop-entries-preserved-in_ok-push : goal.loop-entries-preserved-in_ok-push
-loop-entries-preserved-in_ok-push c =
+pub loop-entries-preserved-in-Continue-branch-3 : goal.loop-entries-preserved-in-Continue-branch-3
+loop-entries-preserved-in-Continue-branch-3 c =
     let left = rw c.in-Some.is at c.in_ok-field.ensures.field in
-    rw c.in_ok-push.ensures.items (entry_read c.loop-entries.entries.items c.loop-entries.reader (seen c.in-Some.field) c.next_field.new.self (seen_span c.in-Some-span.span) _ _ c.loop-entries.invariant left (sym c.in-Some-span.ensures) c.in_ok-entry_of.ensures)
+    let kept = c.in_ok-keep_entry.ensures in
+    rw kept.2 (entry_read c.loop-entries.entries.items c.loop-entries.reader (seen c.in-Some.field) c.next_field.new.self (seen_span c.in-Some-span.span) kept.0 _ c.loop-entries.invariant left (sym c.in-Some-span.ensures) kept.1)
 
 pub loop-entries-preserved : goal.loop-entries-preserved
 loop-entries-preserved c =

@@ -1,13 +1,19 @@
-use Rattle.std.proofs.Common.{◌+◌, ◌++◌, [], ◌∷◌, refl}
+use Rattle.std.proofs.Common.{◌+◌, ◌++◌, [], ◌∷◌}
 use Rattle.cy_wire.specs.Field.{seen, fields_of}
-use Rattle.cy_wire.specs.Message.{last_number, last_span}
+use Rattle.cy_wire.specs.Message.{last_span}
 use Rattle.cy_wire.proofs.Lasts.{none_before, one_more}
-use Rattle.cy_section.proofs.Bodies.{last_span-seen}
+use Rattle.cy_section.proofs.Bodies.{span_of-taken}
 use Rattle.cy_section.proofs.read.channel_of.Goals as goal
 
 pub loop-field-init : goal.loop-field-init
-unfolding last_number last_span
-loop-field-init c = ([], rw c.new-fields.ensures (none_before (fields_of c.args.message.start c.args.message.bytes.now)), refl, refl, refl)
+unfolding last_span
+loop-field-init c = (
+  [],
+  rw c.new-fields.ensures (none_before (fields_of c.args.message.start c.args.message.bytes.now)),
+  c.no_bytes.ensures,
+  c.no_bytes-2.ensures,
+  c.no_bytes-3.ensures,
+)
 
 pub loop-field-preserved : goal.loop-field-preserved
 loop-field-preserved c =
@@ -15,7 +21,7 @@ loop-field-preserved c =
     let field = seen c.in-Some.field in (
       front ++ field ∷ [],
       one_more front c.loop-field.fields c.next_field.new.self _ field c.loop-field.invariant.1 (rw c.in-Some.is at c.in_ok-field.ensures.field),
-      rw c.or-name.ensures (last_span-seen c.args.first front field c.span.result c.loop-field.name c.span.ensures c.loop-field.invariant.2),
-      rw c.or-message_type.ensures (last_span-seen (c.args.first + 1) front field c.span-in-Some.result c.loop-field.message_type c.span-in-Some.ensures c.loop-field.invariant.3),
-      rw c.or-proto_desc.ensures (last_span-seen (c.args.first + 2) front field c.span-in-Some-2.result c.loop-field.proto_desc c.span-in-Some-2.ensures c.loop-field.invariant.4),
+      span_of-taken c.args.first front field _ c.loop-field.invariant.2 _ c.newer.ensures,
+      span_of-taken (c.args.first + 1) front field _ c.loop-field.invariant.3 _ c.newer-in-Some.ensures,
+      span_of-taken (c.args.first + 2) front field _ c.loop-field.invariant.4 _ c.newer-in-Some-2.ensures,
     )
