@@ -13,6 +13,7 @@ use Rattle.std.proofs.lemmas.List.Quantifiers.{position-Some}
 use Rattle.std.proofs.lemmas.Slice.Eq.{bytes_eq-Decides}
 use Rattle.cy_reader.specs.declared.known.Known.{Known}
 use Rattle.cy_reader.specs.Record.{number_of, named_only}
+use Rattle.cy_reader.specs.Loading.{KeepsNumber}
 use Rattle.cy_reader.proofs.Sums.{position-added}
 
 -- an item behind others that doesn't pass
@@ -39,16 +40,18 @@ by_name true name q list known is e none =
 by_name false name q list known is e none =
     sym (position-skipped (λ k. bytes_eq k.channel.name q) list known (ap (λ (n : List ℕ). bytes_eq n q) is ∙ e))
 
+-- the number of a name was kept
+pub number-kept : {Y S : Type 0} (old new : HashMap (String Y) ℕ S) (name : List ℕ) (key : String Y) (number : ℕ) → string_bytes key ≡ name → UpdatesBy string_eq (string_eq key) old new (Some number)
+    → KeepsNumber name number old new
+number-kept old new name key number is updates q =
+    hash_map_updates_text (string_bytes key) old new (Some number) updates q ∙ ap (λ (n : List ℕ). cond (bytes_eq n q) (Some number) (get_by_text old q)) is
+
 -- a channel of a new name was added
-pub tied-added : {Y S : Type 0} (old new : HashMap (String Y) ℕ S) (list : List Known) (known : Known) (key : String Y) (number : ℕ) → ((q : List ℕ) → get_by_text old q ≡ number_of q list)
-    → number_of known.channel.name list ≡ None → string_bytes key ≡ known.channel.name → number ≡ length list → UpdatesBy string_eq (string_eq key) old new (Some number)
-    → (q : List ℕ) → get_by_text new q ≡ number_of q (list ++ known ∷ [])
-tied-added old new list known key number tied fresh is count updates q =
-    let name = string_bytes key in
-    hash_map_updates_text name old new (Some number) updates q
-    ∙ ap (λ (n : ℕ). cond (bytes_eq name q) (Some n) (get_by_text old q)) count
-    ∙ ap (cond (bytes_eq name q) (Some (length list))) (tied q)
-    ∙ by_name (bytes_eq name q) name q list known (sym is) refl (ap (λ (n : List ℕ). number_of n list) is ∙ fresh)
+pub tied-added : {Y S : Type 0} (old new : HashMap (String Y) ℕ S) (list : List Known) (known : Known) → ((q : List ℕ) → get_by_text old q ≡ number_of q list)
+    → number_of known.channel.name list ≡ None → KeepsNumber known.channel.name (length list) old new → (q : List ℕ) → get_by_text new q ≡ number_of q (list ++ known ∷ [])
+tied-added old new list known tied fresh keeps q =
+    let name = known.channel.name in
+    keeps q ∙ ap (cond (bytes_eq name q) (Some (length list))) (tied q) ∙ by_name (bytes_eq name q) name q list known refl refl fresh
 
 -- a channel was put in the place of one of its name
 pub number_of-replaced : (q : List ℕ) (list : List Known) (place : ℕ) (known : Known) → number_of known.channel.name list ≡ Some place

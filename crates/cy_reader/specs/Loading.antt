@@ -1,7 +1,8 @@
 -- What the program keeps of a file while it reads it.
 use Rattle.std.specs.Prelude.{◌≡◌, ◌⊎◌, ℕ, ◌≤◌, ◌<◌, ◌^◌, All, List, length, take, drop, map}
-use Rattle.std.specs.Prelude.{sum_by, Option, Some, None, Result, Ok, Err}
-use Rattle.std.specs.HashMap.{get_by_text}
+use Rattle.std.specs.Prelude.{sum_by, if◌then◌else◌, String, Option, Some, None, Result, Ok, Err}
+use Rattle.std.specs.HashMap.{HashMap, get_by_text}
+use Rattle.std.specs.Str.{bytes_eq}
 use Rattle.cy_section.specs.declared.error.SectionError.{SectionError}
 use Rattle.cy_section.specs.declared.body.MessageView.{MessageView}
 use Rattle.cy_reader.specs.declared.error.LoadError.{LoadError}
@@ -23,6 +24,12 @@ pub record AreSmall (channels : List Known) : Type 0 where
 abbrev pub IsTied : Channels → Type 0
 IsTied channels = (name : List ℕ) → get_by_text channels.numbers name
     ≡ number_of name channels.list.items
+
+-- The number of a name is kept beside those of others.
+abbrev pub KeepsNumber : {Y S : Type 0} → List ℕ → ℕ → HashMap (String Y) ℕ S
+    → HashMap (String Y) ℕ S → Type 0
+KeepsNumber name number old new = (other : List ℕ) → get_by_text new other
+    ≡ (if bytes_eq name other then Some number else get_by_text old other)
 
 -- The channels once one more was met: within their limits, with a number for each name, and none is
 -- lost.

@@ -1,10 +1,9 @@
 // The channels that are met, within the limits.
-ghost use Rattle.std.specs.Prelude.{◌≡◌, ◌≢◌, ◌≤◌, ◌<◌, ◌+◌, ◌++◌, ◌∷◌, [], ◌^◌, length, set};
-ghost use Rattle.std.specs.Prelude.{sum_by, slice_get, IfOk, IfErr, OnOk, IsOkUnless, Some, None};
-ghost use Rattle.std.specs.Prelude.{Ok, true};
+ghost use Rattle.std.specs.Prelude.{◌≡◌, ◌≢◌, ◌≤◌, ◌<◌, ◌⊎◌, ◌++◌, ◌∷◌, [], ◌^◌, length, set};
+ghost use Rattle.std.specs.Prelude.{sum_by, IfOk, IfErr, OnOk, IsOkUnless, Some, None, Err, true};
 ghost use Rattle.cy_reader.specs.Record.{size_of, number_of, within_limits, named_only};
 ghost use Rattle.cy_reader.specs.Record.{channel_given, name_mentioned};
-ghost use Rattle.cy_reader.specs.Loading.{AreSmall, IsTied, Grows, Mentions, Leads};
+ghost use Rattle.cy_reader.specs.Loading.{AreSmall, IsTied, KeepsNumber, Grows, Mentions, Leads};
 
 use crate::LoadError;
 use crate::known::Known;
@@ -90,8 +89,63 @@ fn number_of(channels: &Channels, name: &str) -> Option<u32>
     channels.numbers.get(name).copied()
 }
 
-// Adds a channel of a new name, within the limits.
+// The limit that a channel passes with others, if it does.
 #[tactic(auto, using(crate::proofs::Sums::sums))]
+fn look_at_limits(channels: &[Known], known: &Known) -> Result<(), LoadError>
+    requires small { AreSmall channels.now }
+    requires size { size_of known.now < 2 ^ 62 }
+    ensures fits { OnOk result (AreSmall (channels.now ++ known.now ∷ [])) }
+    ensures limit { IfErr result (λ e. within_limits (channels.now ++ known.now ∷ []) ≡ Err e) }
+    ensures not_store { IfErr result (λ e. e ≢ LoadError.Store) }
+{
+    if channels.len() == MOST_CHANNELS {
+        return Err(LoadError::TooManyChannels);
+    }
+    let count = total_of(channels) + size_of(known);
+    if count > LARGEST_CHANNELS {
+        return Err(LoadError::ChannelsTooLarge { count });
+    }
+    Ok(())
+}
+
+// Keeps the number of a name.
+fn keep_number(
+    alloc: Global,
+    numbers: &mut HashMap<String, u32>,
+    name: &str,
+    number: u32,
+) -> Result<(), LoadError>
+    ensures kept { OnOk result (KeepsNumber name.now number numbers.old numbers.new) }
+    ensures only_memory { IsOkUnless result LoadError.Memory }
+{
+    let name = String::from_str(alloc, name)?;
+    numbers.insert(name, number)?;
+    Ok(())
+}
+
+// Makes sure that a channel of a new name may be added, and keeps its number.
+fn make_room(alloc: Global, channels: &mut Channels, known: &Known) -> Result<(), LoadError>
+    requires small { AreSmall channels.old.list.items }
+    requires size { size_of known.now < 2 ^ 62 }
+    ensures list { channels.new.list ≡ channels.old.list }
+    ensures limit { IfErr result (λ e. (e ≡ LoadError.Memory)
+        ⊎ (within_limits (channels.old.list.items ++ known.now ∷ []) ≡ Err e)) }
+    ensures fits { OnOk result (AreSmall (channels.old.list.items ++ known.now ∷ [])) }
+    ensures kept { OnOk result (KeepsNumber known.now.channel.name
+        (length channels.old.list.items) channels.old.numbers channels.new.numbers) }
+    ensures not_store { IfErr result (λ e. e ≢ LoadError.Store) }
+{
+    look_at_limits(channels.list.as_slice(), known)?;
+    let number = channels.list.len() as u32;
+    keep_number(
+        alloc,
+        &mut channels.numbers,
+        known.channel.name.as_str(),
+        number,
+    )
+}
+
+// Adds a channel of a new name, within the limits.
 fn add(alloc: Global, channels: &mut Channels, known: Known) -> Result<(), LoadError>
     requires small { AreSmall channels.old.list.items }
     requires tied { IsTied channels.old }
@@ -102,18 +156,16 @@ fn add(alloc: Global, channels: &mut Channels, known: Known) -> Result<(), LoadE
     ensures kept { OnOk result (Grows channels.old channels.new) }
     ensures not_store { IfErr result (λ e. e ≢ LoadError.Store) }
 {
-    if channels.list.len() == MOST_CHANNELS {
-        return Err(LoadError::TooManyChannels);
+    match make_room(alloc, channels, &known) {
+        Ok(()) => {
+            channels.list.push(known)?;
+            Ok(())
+        }
+        Err(error) => {
+            drop(known);
+            Err(error)
+        }
     }
-    let count = total_of(channels.list.as_slice()) + size_of(&known);
-    if count > LARGEST_CHANNELS {
-        return Err(LoadError::ChannelsTooLarge { count });
-    }
-    let number = channels.list.len() as u32;
-    let name = String::from_str(alloc, known.channel.name.as_str())?;
-    channels.numbers.insert(name, number)?;
-    channels.list.push(known)?;
-    Ok(())
 }
 
 // Puts a channel in the place of one of its name that only messages named.
@@ -132,13 +184,38 @@ fn replace(channels: &mut Channels, number: u32, known: Known) -> Result<(), Loa
     let rest = total_of(channels.list.as_slice()) - size_of(&channels.list[place]);
     let count = rest + size_of(&known);
     if count > LARGEST_CHANNELS {
+        drop(known);
         return Err(LoadError::ChannelsTooLarge { count });
     }
     channels.list[place] = known;
     Ok(())
 }
 
-// Keeps the channel of a section: of two sections with one name the first counts.
+// Keeps the channel of a section, where one of its name is kept: of two sections with one name the
+// first counts.
+fn give_again(channels: &mut Channels, number: u32, channel: Channel) -> Result<(), LoadError>
+    requires small { AreSmall channels.old.list.items }
+    requires tied { IsTied channels.old }
+    requires size { size_of record { channel = channel; has_section = true } < 2 ^ 62 }
+    requires short { length channel.name ≤ 4096 }
+    requires there { number_of channel.name channels.old.list.items ≡ Some number }
+    ensures list { Leads result channels.new.list.items
+        (channel_given channel channels.old.list.items) }
+    ensures kept { OnOk result (Grows channels.old channels.new) }
+    ensures not_store { IfErr result (λ e. e ≢ LoadError.Store) }
+{
+    if channels.list[number as usize].has_section {
+        drop(channel);
+        return Ok(());
+    }
+    let known = Known {
+        channel,
+        has_section: true,
+    };
+    replace(channels, number, known)
+}
+
+// Keeps the channel of a section.
 #[tactic(auto, unfolding(crate::specs::Record::channel_given))]
 pub(crate) fn give(
     alloc: Global,
@@ -155,17 +232,18 @@ pub(crate) fn give(
 {
     let count = channel.name.as_str().len() as u64;
     if count > LONGEST_NAME {
+        drop(channel);
         return Err(LoadError::NameTooLong { count });
     }
-    let number = number_of(channels, channel.name.as_str());
-    let known = Known {
-        channel,
-        has_section: true,
-    };
-    match number {
-        None => add(alloc, channels, known),
-        Some(place) if channels.list[place as usize].has_section => Ok(()),
-        Some(place) => replace(channels, place, known),
+    match number_of(channels, channel.name.as_str()) {
+        Some(number) => give_again(channels, number, channel),
+        None => {
+            let known = Known {
+                channel,
+                has_section: true,
+            };
+            add(alloc, channels, known)
+        }
     }
 }
 

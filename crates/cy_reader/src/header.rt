@@ -1,8 +1,8 @@
 // Reads the header of a record's file.
-ghost use Rattle.std.specs.Prelude.{◌≡◌, ◌<◌, ◌≤◌, ◌+◌, length, take, drop, IfOk, IfErr, ◌≢◌};
+ghost use Rattle.std.specs.Prelude.{◌≤◌, ◌+◌, length, IfOk, IfErr, ◌≢◌};
 ghost use Rattle.cy_msg.specs.Answer.{Answers};
 ghost use Rattle.cy_reader.specs.Kept.{HasLength};
-ghost use Rattle.cy_reader.specs.Record.{fields_header, file_header};
+ghost use Rattle.cy_reader.specs.Record.{fields_header, sized_header, file_header, header_end};
 
 use crate::LoadError;
 use byteorder::{ByteOrder, LittleEndian};
@@ -26,6 +26,22 @@ fn uncompressed_header(file: &[u8], size: usize) -> Result<Header, LoadError>
     Ok(header)
 }
 
+// The header of a file, of which its head says that its fields take so many bytes.
+fn sized_header(file: &[u8], size: u64) -> Result<Header, LoadError>
+    ensures header { Answers (λ header. header) result (sized_header file.now size) }
+    ensures long { IfOk result (λ _. header_end ≤ length file.now) }
+    ensures not_store { IfErr result (λ e. e ≢ LoadError.Store) }
+{
+    if size > (HEADER_SIZE - HEAD_SIZE) as u64 {
+        let value = size.cast_signed();
+        return Err(LoadError::Section(SectionError::Size { at: 0, value }));
+    }
+    if file.len() < HEADER_SIZE {
+        return Err(LoadError::Section(SectionError::Cut { at: 0 }));
+    }
+    uncompressed_header(file, size as usize)
+}
+
 // The header of a file, which is a record's: of a size that is read, and not compressed.
 #[tactic(auto, unfolding(crate::specs::Record::file_header))]
 pub(crate) fn file_header(file: &[u8]) -> Result<Header, LoadError>
@@ -40,13 +56,5 @@ pub(crate) fn file_header(file: &[u8]) -> Result<Header, LoadError>
     if file.len() < HEAD_SIZE || LittleEndian::read_u32(file) != 0 {
         return Err(LoadError::NotRecord);
     }
-    let size = LittleEndian::read_u64(&file[8..]);
-    if size > (HEADER_SIZE - HEAD_SIZE) as u64 {
-        let value = size.cast_signed();
-        return Err(LoadError::Section(SectionError::Size { at: 0, value }));
-    }
-    if file.len() < HEADER_SIZE {
-        return Err(LoadError::Section(SectionError::Cut { at: 0 }));
-    }
-    uncompressed_header(file, size as usize)
+    sized_header(file, LittleEndian::read_u64(&file[8..]))
 }

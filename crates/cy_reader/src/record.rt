@@ -1,5 +1,5 @@
 // A record that was read.
-ghost use Rattle.std.specs.Prelude.{◌≡◌, ◌<◌, ◌+◌, ◌++◌, length, take, drop, slice_get};
+ghost use Rattle.std.specs.Prelude.{◌≡◌, ◌<◌, ◌+◌, ◌++◌, length, slice_get};
 ghost use Rattle.std.specs.Prelude.{IfSome, Some, OnOk};
 ghost use Rattle.std.specs.Prelude.{◌≢◌, IfOk, IfErr, IsOkUnless};
 ghost use Rattle.cy_msg.specs.Answer.{AnswersOr};
@@ -184,6 +184,20 @@ impl Record {
         info::push_index_differences(to, &facts.index, &facts.places)
     }
 
+    // The same, as a text of its own.
+    fn text(&self, alloc: Global, facts: &Facts) -> Result<Bytes, LoadError>
+        requires { AreFacts self.now facts.now }
+        ensures text { IfOk result (λ text. text ≡ info_text self.now) }
+        ensures only_memory { IsOkUnless result LoadError.Memory }
+    {
+        let mut to = Vec::new(alloc);
+        match self.push_info(&mut to, facts) {
+            Ok(()) => Ok(Bytes::from_vec(to)),
+            // A write to a `Vec` fails for want of memory alone.
+            Err(_) => Err(LoadError::Memory),
+        }
+    }
+
     /// What the record is, in lines: its file, its header, the counted channels, chunks and
     /// messages, the least and greatest time, its index, each channel with its number of messages,
     /// and then each field of a complete header and each entry of a readable index that differs
@@ -193,11 +207,8 @@ impl Record {
         ensures only_memory { IsOkUnless result LoadError.Memory }
     {
         let facts = self.facts(alloc)?;
-        let mut to = Vec::new(alloc);
-        match self.push_info(&mut to, &facts) {
-            Ok(()) => Ok(Bytes::from_vec(to)),
-            // A write to a `Vec` fails for want of memory alone.
-            Err(_) => Err(LoadError::Memory),
-        }
+        let text = self.text(alloc, &facts);
+        drop(facts);
+        text
     }
 }

@@ -1,6 +1,7 @@
 // Finds the sections of a record's file.
-ghost use Rattle.std.specs.Prelude.{◌≡◌, ◌≤◌, ◌<◌, ◌^◌, ◌+◌, length, IfOk, IfSome};
-ghost use Rattle.cy_reader.specs.Sections.{sized_section, section_at, longest_section};
+ghost use Rattle.std.specs.Prelude.{◌≡◌, ◌≤◌, ◌+◌, length, drop, IfOk, IfSome};
+ghost use Rattle.cy_section.specs.Head.{head_at};
+ghost use Rattle.cy_reader.specs.Sections.{sized_section, with_head, section_at};
 ghost use Rattle.cy_reader.specs.Found.{GivesSection};
 ghost use Rattle.cy_reader.specs.Stands.{Stands};
 
@@ -48,6 +49,21 @@ fn sized_section(
     }))
 }
 
+// The section whose head stands at a place of the file, none where it is an index's.
+fn headed_section(file: &[u8], at: usize) -> Result<Option<SectionView<'_>>, SectionError>
+    requires { at + 16 ≤ length file.now }
+    ensures section { GivesSection result
+        (with_head file.now at (head_at at (drop at file.now))) }
+    ensures stands { IfOk result (λ found. IfSome found (λ s. (s.body_at ≡ at + 16)
+        × Stands file.now s.body_at s.body.now)) }
+{
+    let head = read_head(&file[at..], at as u64)?;
+    match head.kind {
+        SectionKind::Index => Ok(None),
+        _ => sized_section(file, at, head),
+    }
+}
+
 // What stands at a place of the file: a section, or none at the file's end and at an index.
 #[tactic(auto, unfolding(crate::specs::Sections::section_at))]
 pub(crate) fn section_at(file: &[u8], at: usize) -> Result<Option<SectionView<'_>>, SectionError>
@@ -70,9 +86,5 @@ pub(crate) fn section_at(file: &[u8], at: usize) -> Result<Option<SectionView<'_
             value: 0,
         });
     }
-    let head = read_head(rest, place)?;
-    match head.kind {
-        SectionKind::Index => Ok(None),
-        _ => sized_section(file, at, head),
-    }
+    headed_section(file, at)
 }
