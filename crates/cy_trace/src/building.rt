@@ -2,6 +2,7 @@
 ghost use Rattle.std.specs.Prelude.{◌≡◌, ◌++◌, ◌∷◌, [], Some};
 ghost use Rattle.cy_trace.specs.LineReading.{Gives};
 ghost use Rattle.cy_trace.specs.LineOrder.{finish, next, step, trace_with, with_components};
+ghost use Rattle.cy_trace.specs.declared.building.Building.TheVariants as building;
 
 use crate::fault::Fault;
 use crate::line::{Line, line_of};
@@ -68,6 +69,40 @@ impl Prefix {
         })
     }
 
+    // The lines with one more message of the tape.
+    fn taped(self, tape: Items<TapeEntry>, entry: TapeEntry) -> Result<Building, Fault>
+        ensures { Gives result (Some (building.Taped self (tape ++ entry ∷ []))) }
+    {
+        match with(tape, entry) {
+            Ok(tape) => Ok(Building::Taped(self, tape)),
+            Err(fault) => {
+                drop(self);
+                Err(fault)
+            }
+        }
+    }
+
+    // The lines with one more call of a component.
+    fn called(
+        self,
+        name: Text,
+        roles: Items<u8>,
+        calls: Items<TraceCall>,
+        call: TraceCall,
+    ) -> Result<Building, Fault>
+        ensures { Gives result (Some (building.Called self name roles (calls ++ call ∷ []))) }
+    {
+        match with(calls, call) {
+            Ok(calls) => Ok(Building::Called(self, name, roles, calls)),
+            Err(fault) => {
+                drop(roles);
+                drop(name);
+                drop(self);
+                Err(fault)
+            }
+        }
+    }
+
     // The trace with this tape.
     fn finish(self, tape: Items<TapeEntry>) -> Trace
         ensures { result ≡ trace_with self tape }
@@ -86,44 +121,131 @@ impl Prefix {
     }
 }
 
+// What a line is behind each of those before it. Where it may not come next, all is given back by
+// calls: at the end of a scope each part would be taken on its own.
+
+#[tactic(auto, unfolding(crate::specs::LineOrder::step))]
+fn behind_none(line: Line) -> Result<Building, Fault>
+    ensures { Gives result (step building.Start line) }
+{
+    match line {
+        Line::Title => Ok(Building::Titled),
+        line => {
+            drop(line);
+            Err(Fault::Bad)
+        }
+    }
+}
+
+#[tactic(auto, unfolding(crate::specs::LineOrder::step))]
+fn behind_title(alloc: Global, line: Line) -> Result<Building, Fault>
+    ensures { Gives result (step building.Titled line) }
+{
+    match line {
+        Line::Played(played, shadowed) => Ok(Building::Between(Prefix {
+            played,
+            shadowed,
+            components: none(alloc),
+        })),
+        line => {
+            drop(line);
+            Err(Fault::Bad)
+        }
+    }
+}
+
+#[tactic(auto, unfolding(crate::specs::LineOrder::step))]
+fn behind_component(alloc: Global, prefix: Prefix, line: Line) -> Result<Building, Fault>
+    ensures { Gives result (step (building.Between prefix) line) }
+{
+    match line {
+        Line::Component(name) => Ok(Building::Named(prefix, name)),
+        Line::Tape(entry) => prefix.taped(none(alloc), entry),
+        line => {
+            drop(prefix);
+            drop(line);
+            Err(Fault::Bad)
+        }
+    }
+}
+
+#[tactic(auto, unfolding(crate::specs::LineOrder::step))]
+fn behind_name(alloc: Global, prefix: Prefix, name: Text, line: Line) -> Result<Building, Fault>
+    ensures { Gives result (step (building.Named prefix name) line) }
+{
+    match line {
+        Line::Roles(roles) => Ok(Building::Called(prefix, name, roles, none(alloc))),
+        line => {
+            drop(prefix);
+            drop(name);
+            drop(line);
+            Err(Fault::Bad)
+        }
+    }
+}
+
+#[tactic(auto, unfolding(crate::specs::LineOrder::step))]
+fn behind_call(
+    prefix: Prefix,
+    name: Text,
+    roles: Items<u8>,
+    calls: Items<TraceCall>,
+    line: Line,
+) -> Result<Building, Fault>
+    ensures { Gives result (step (building.Called prefix name roles calls) line) }
+{
+    match line {
+        Line::Call(call) => prefix.called(name, roles, calls, call),
+        Line::End(finished, next) => {
+            let component = TraceComponent {
+                name,
+                roles,
+                calls,
+                finished,
+                next,
+            };
+            Ok(Building::Between(prefix.with(component)?))
+        }
+        line => {
+            drop(prefix);
+            drop(name);
+            drop(roles);
+            drop(calls);
+            drop(line);
+            Err(Fault::Bad)
+        }
+    }
+}
+
+#[tactic(auto, unfolding(crate::specs::LineOrder::step))]
+fn behind_message(prefix: Prefix, tape: Items<TapeEntry>, line: Line) -> Result<Building, Fault>
+    ensures { Gives result (step (building.Taped prefix tape) line) }
+{
+    match line {
+        Line::Tape(entry) => prefix.taped(tape, entry),
+        line => {
+            drop(prefix);
+            drop(tape);
+            drop(line);
+            Err(Fault::Bad)
+        }
+    }
+}
+
 impl Building {
     // The same with one more line, where it may come next.
-    #[tactic(auto, unfolding(crate::specs::LineOrder::step))]
     fn step(self, alloc: Global, line: Line) -> Result<Building, Fault>
         ensures { Gives result (step self line) }
     {
-        match (self, line) {
-            (Building::Start, Line::Title) => Ok(Building::Titled),
-            (Building::Titled, Line::Played(played, shadowed)) => Ok(Building::Between(Prefix {
-                played,
-                shadowed,
-                components: none(alloc),
-            })),
-            (Building::Between(prefix), Line::Component(name)) => Ok(Building::Named(prefix, name)),
-            (Building::Named(prefix, name), Line::Roles(roles)) => {
-                Ok(Building::Called(prefix, name, roles, none(alloc)))
+        match self {
+            Building::Start => behind_none(line),
+            Building::Titled => behind_title(alloc, line),
+            Building::Between(prefix) => behind_component(alloc, prefix, line),
+            Building::Named(prefix, name) => behind_name(alloc, prefix, name, line),
+            Building::Called(prefix, name, roles, calls) => {
+                behind_call(prefix, name, roles, calls, line)
             }
-            (Building::Called(prefix, name, roles, calls), Line::Call(call)) => {
-                let calls = with(calls, call)?;
-                Ok(Building::Called(prefix, name, roles, calls))
-            }
-            (Building::Called(prefix, name, roles, calls), Line::End(finished, next)) => {
-                let component = TraceComponent {
-                    name,
-                    roles,
-                    calls,
-                    finished,
-                    next,
-                };
-                Ok(Building::Between(prefix.with(component)?))
-            }
-            (Building::Between(prefix), Line::Tape(entry)) => {
-                Ok(Building::Taped(prefix, with(none(alloc), entry)?))
-            }
-            (Building::Taped(prefix, tape), Line::Tape(entry)) => {
-                Ok(Building::Taped(prefix, with(tape, entry)?))
-            }
-            _ => Err(Fault::Bad),
+            Building::Taped(prefix, tape) => behind_message(prefix, tape, line),
         }
     }
 
@@ -132,8 +254,13 @@ impl Building {
     pub(crate) fn next(self, alloc: Global, bytes: &[u8]) -> Result<Building, Fault>
         ensures { Gives result (next self bytes.now) }
     {
-        let line = line_of(alloc, bytes)?;
-        self.step(alloc, line)
+        match line_of(alloc, bytes) {
+            Ok(line) => self.step(alloc, line),
+            Err(fault) => {
+                drop(self);
+                Err(fault)
+            }
+        }
     }
 
     /// The trace, where its last line may have been read.
@@ -144,7 +271,10 @@ impl Building {
         match self {
             Building::Between(prefix) => Some(prefix.finish(none(alloc))),
             Building::Taped(prefix, tape) => Some(prefix.finish(tape)),
-            _ => None,
+            building => {
+                drop(building);
+                None
+            }
         }
     }
 }

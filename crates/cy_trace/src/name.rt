@@ -85,14 +85,14 @@ fn is_quoted(alloc: Global, bytes: &[u8], text: &[u8]) -> Result<bool, AllocErro
     Ok(bytes == again.as_slice())
 }
 
-/// The name that the bytes are in quotes, as a trace has names.
+// The name that some bytes are in quotes, of which this stands between the quotes.
 #[tactic(auto, using(crate::proofs::ReadingSteps::name_is, crate::proofs::ReadingSteps::name_other, crate::proofs::ReadingSteps::name_no_text))]
-pub(crate) fn name(alloc: Global, bytes: &[u8]) -> Result<Text, Fault>
+fn name_in(alloc: Global, bytes: &[u8], text: &[u8]) -> Result<Text, Fault>
+    requires { text.now ≡ unquoted bytes.now }
     ensures { Gives result (name bytes.now) }
 {
-    let text = unquoted(alloc, bytes)?;
-    let is_same = is_quoted(alloc, bytes, &text)?;
-    let Ok(text) = str::from_utf8(&text) else {
+    let is_same = is_quoted(alloc, bytes, text)?;
+    let Ok(text) = str::from_utf8(text) else {
         return Err(Fault::Bad);
     };
     if is_same {
@@ -100,4 +100,14 @@ pub(crate) fn name(alloc: Global, bytes: &[u8]) -> Result<Text, Fault>
     } else {
         Err(Fault::Bad)
     }
+}
+
+/// The name that the bytes are in quotes, as a trace has names.
+pub(crate) fn name(alloc: Global, bytes: &[u8]) -> Result<Text, Fault>
+    ensures { Gives result (name bytes.now) }
+{
+    let text = unquoted(alloc, bytes)?;
+    let name = name_in(alloc, bytes, &text);
+    drop(text);
+    name
 }

@@ -32,6 +32,7 @@ pub fn read_trace(alloc: Global, bytes: &[u8]) -> Result<Trace, TraceError>
     let mut line = 1;
     while !rest.is_empty() {
         let Some((text, more)) = cut(rest, b'\n') else {
+            drop(building);
             return Err(TraceError::Bad { line });
         };
         building = match building.next(alloc, text) {
