@@ -1,6 +1,8 @@
 // A table is made of a world, and gives a world back.
-ghost use Rattle.std.specs.Prelude.{◌≡◌, ◌≤◌, ◌∷◌, length, vec_capacity, IfOk};
+ghost use Rattle.std.specs.Prelude.{◌≡◌, ◌≤◌, ◌+◌, ◌++◌, ◌∷◌, [], length, vec_len, vec_capacity};
+ghost use Rattle.std.specs.Prelude.{IfOk, OnOk};
 ghost use Rattle.cy_table.specs.declared.part.Part.TheVariants as part;
+ghost use Rattle.wake_core.specs.declared.entries.TheConstants.{MOST_PLANNED};
 ghost use Rattle.wake_core.specs.Parts.{AreFit, shown_by};
 ghost use Rattle.cy_table.specs.Layout.{yes_or_no};
 ghost use Rattle.cy_table.specs.Ends.{AreWords, HaveFewCalls, laid};
@@ -166,6 +168,38 @@ fn word_of(yes: bool) -> u64
     u64::from(yes)
 }
 
+// Lays the routine and the visitor of a component behind the slots of others.
+fn lay(
+    alloc: Global,
+    slots: &mut Vec<Part>,
+    routine: Routine,
+    visitor: Visitor,
+) -> Result<(), TableError>
+    requires calls { length routine.calls ≤ MOST_PLANNED }
+    requires room { vec_len slots.old + 2 ≤ vec_capacity slots.old }
+    ensures laid { OnOk result (slots.new.items
+        ≡ (slots.old.items ++ part.Routine routine ∷ []) ++ part.Visitor visitor ∷ []) }
+    ensures room { vec_capacity slots.new ≡ vec_capacity slots.old }
+{
+    let counted = match CountedRoutine::new(alloc, routine) {
+        Ok(counted) => counted,
+        Err(error) => {
+            drop(visitor);
+            return Err(error);
+        }
+    };
+    let boxed = match BoxedVisitor::new(alloc, visitor) {
+        Ok(boxed) => boxed,
+        Err(error) => {
+            drop(counted);
+            return Err(error);
+        }
+    };
+    slots.push_reserved(Part::Routine(counted));
+    slots.push_reserved(Part::Visitor(boxed));
+    Ok(())
+}
+
 // The slots: the tape, and of each component its routine and its visitor.
 fn slots_of(
     alloc: Global,
@@ -185,10 +219,7 @@ fn slots_of(
         let Some(visitor) = visitors.next() else {
             unreachable!()
         };
-        let counted = CountedRoutine::new(alloc, routine)?;
-        let boxed = BoxedVisitor::new(alloc, visitor)?;
-        slots.push_reserved(Part::Routine(counted));
-        slots.push_reserved(Part::Visitor(boxed));
+        lay(alloc, &mut slots, routine, visitor)?;
     }
     Ok(slots)
 }
