@@ -1,11 +1,10 @@
 -- What is read of a file where a section's head may stand, row by row.
-use Rattle.std.proofs.Common.{◌≡◌, ℕ, ◌+◌, ◌-◌, ◌^◌, ◌<◌, ◌≤◌, List, length, take, drop, refl, ap, ◌∙◌, arith, lit<, lit≤, Some, None, Ok, Err, nat_lt, ◌==◌, if◌then◌else◌}
+use Rattle.std.proofs.Common.{◌≡◌, ℕ, ◌+◌, ◌^◌, ◌<◌, ◌≤◌, List, length, take, drop, refl, ap, ◌∙◌, arith, lit<, lit≤, Some, None, Ok, Err, nat_lt, ◌==◌, if◌then◌else◌}
 use Rattle.std.proofs.lemmas.Bool.{eq-eqb, ne_eqb, le-ltb, lt-ltb, le-leb, lt-leb}
 use Rattle.std.specs.Int.{w64, cast_signed}
 use Rattle.byteorder.specs.Endian.{little_number}
 use Rattle.cy_section.specs.declared.error.SectionError.TheVariants.{Cut, Kind, Size, TooLong}
 use Rattle.cy_section.specs.declared.types.SectionKind.{SectionKind}
-use Rattle.cy_section.specs.declared.types.SectionKind.TheVariants as kind
 use Rattle.cy_section.specs.Head.{head_at, kind_of}
 use Rattle.cy_section.specs.Section.{kind_number}
 use Rattle.cy_reader.specs.Sections.{longest_section, under_head, with_head, section_at}

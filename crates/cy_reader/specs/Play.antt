@@ -1,7 +1,7 @@
 -- Which messages of a record are played, and in which order.
-use Rattle.std.specs.Prelude.{◌≡◌, ◌⊎◌, ℕ, ◌+◌, ◌<◌, ◌≤◌, nat_le, ◌==◌, Bool, true, not, ◌&&◌}
+use Rattle.std.specs.Prelude.{◌≡◌, ◌⊎◌, ℕ, ◌+◌, ◌<◌, ◌≤◌, ◌==◌, Bool, not, ◌&&◌}
 use Rattle.std.specs.Prelude.{List, [], ◌∷◌, ◌++◌, length, filter, slice_index_or, zero, suc, All}
-use Rattle.std.specs.Prelude.{Option, Some, None, unwrap_or, Result, IfOk, OnOk, IfErr}
+use Rattle.std.specs.Prelude.{Some, unwrap_or, Result, IfOk, OnOk, IfErr}
 use Rattle.std.specs.List.{Contains, position, list_any}
 use Rattle.std.specs.List.Sorted.{IsPermutation, IsSortedByKey, IsStableByKey}
 use Rattle.std.specs.Ordering.{nat_cmp}

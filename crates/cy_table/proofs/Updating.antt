@@ -1,5 +1,5 @@
 -- What the steps of an update may do, by their laws.
-use Rattle.std.proofs.Common.{ℕ, ◌+◌, ◌*◌, ◌==◌, ◌≡◌, ◌≢◌, ◌&&◌, not, cond, Bool, true, false, refl, sym, ◌∙◌, ap, subst, inr, List, Some, slice_index, arith}
+use Rattle.std.proofs.Common.{ℕ, ◌+◌, ◌*◌, ◌==◌, ◌≡◌, ◌≢◌, ◌&&◌, not, cond, Bool, true, false, refl, sym, ◌∙◌, ap, subst, inr, Some, slice_index, arith}
 use Rattle.std.proofs.lemmas.Bool.Decides.{nat_tests}
 use mathlib.Core.Option as maybe
 use mathlib.Core.Option.{some}
@@ -8,7 +8,6 @@ use Rattle.atomic_table.specs.Table.{State as Table, Allows, stepped, step, keep
 use Rattle.cy_comp.specs.declared.state.State.{State}
 use Rattle.cy_comp.specs.declared.state.State.TheVariants.{Ready, DataWait, Sleep, Finished}
 use Rattle.cy_comp.specs.Routine.{RoutineView}
-use Rattle.wake_core.specs.declared.route.Route.{Route}
 use Rattle.wake_core.specs.declared.phase.Phase.TheVariants.{Woken, Known}
 use Rattle.wake_core.specs.Plain.{Plain}
 use Rattle.wake_core.specs.Events.{IsDue, is_waiting, phase_after_spend}

@@ -16,7 +16,7 @@ use Rattle.cy_comp.specs.Calls.{cursor_after, outs}
 use Rattle.cy_comp.specs.Routine.{RoutineView, MayTake}
 use Rattle.wake_core.specs.declared.entries.TheConstants.{MOST_PLANNED}
 use Rattle.wake_core.specs.declared.phase.Phase.TheVariants.{Asked}
-use Rattle.wake_core.specs.Plain.{Plain, blank, to_play_from}
+use Rattle.wake_core.specs.Plain.{Plain, to_play_from}
 use Rattle.wake_core.specs.Events.{Acquires, Spends, Readies, Asks, Fills, Looks, Clears}
 use Rattle.wake_core.specs.Events.{Yields, Releases, Ticks, Closes, Tapes, Sends}
 use Rattle.wake_core.specs.Events.{Fetches}
