@@ -141,7 +141,8 @@ fn view_of<'a>(
 
 // The bytes of a field, where it has this number, in place of those before it.
 fn newer<'a>(field: &Field<'a>, number: u32, before: Span<'a>) -> Span<'a>
-    ensures { seen_span result ≡ unwrap_or (span_in number (seen field.now)) (seen_span before.entry) }
+    ensures { seen_span result
+        ≡ unwrap_or (span_in number (seen field.now)) (seen_span before.entry) }
 {
     match field.span(number) {
         Some(span) => span,
