@@ -4,13 +4,12 @@ use Rattle.cy_msg.specs.Placement.{scan_of}
 use Rattle.cy_request.specs.declared.filter.Filter.{Filter}
 use Rattle.cy_comp.specs.declared.plan.Plan.{Plan}
 use Rattle.wake_core.specs.Bounds.{PlaceLaws}
-use Rattle.wake_core.specs.LawfulRun.{LawfulRun, Quiet}
+use Rattle.wake_core.specs.LawfulRun.{LawfulRun}
 use Rattle.wake_core.specs.Plain.{Plain, opening_world}
 use Rattle.wake_core.specs.Planned.{planned}
 use Rattle.wake_core.specs.Rest.{run_shown}
 use Rattle.wake_core.specs.Run.{Run, routes_of}
 use Rattle.wake_core.specs.Serial.{SerialRun}
-use Rattle.wake_core.specs.Sound.{NotRunning}
 use Rattle.wake_core.specs.WorldCalls.{IsTooMany}
 use Rattle.wake_core.specs.declared.entries.TheConstants.{MOST_PLANNED}
 use Rattle.wake_core.specs.declared.route.Route.{Route}
@@ -71,10 +70,6 @@ has_run serial f x first new places stand s opens run lawful stays reads =
       };
       read_back = reads (planned_as x new lawful.wired counts s.limited);
     }
-
--- nobody runs a component at the end of a run
-pub none_running : (w : Plain) (c : ℕ) → Quiet w → NotRunning w.hands c
-none_running w c quiet p runs = let free : w.hands p ≡ None = quiet.free p in cc
 
 -- the calls so far, and those of the components that follow
 pub record CallsSoFar (run : Run) (plans : List Plan) (component count : ℕ) : Type 0 where

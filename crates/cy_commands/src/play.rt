@@ -31,13 +31,13 @@ use crate::failure::{Failure, File};
 use crate::line::Line;
 use crate::status::Status;
 use crate::summary::done_line;
-use cy_comp::{Call, Plan, Wiring};
+use cy_comp::{Plan, Wiring};
 use cy_msg::{Bytes, Items, Text};
 use cy_recording::{Played, played_places_are_there, write_record};
 use cy_replay::{Replay, SetupError, set_up};
 use cy_request::{Filter, Request};
 use cy_store::Store;
-use cy_trace::{TraceError, trace_is_read_back, trace_text};
+use cy_trace::{TraceError, calls_of, trace_is_read_back, trace_text};
 use cy_words::Play;
 use cy_writer::{WriteError, write_file};
 use std::alloc::{AllocError, Global};
@@ -160,16 +160,6 @@ pub fn played_world(alloc: Global, play: &Play, replay: &Replay) -> Result<World
     laws::places();
     trace_is_read_back(&world, &replay.wiring, replay.list.shadowed);
     Ok(world)
-}
-
-// The calls of a component of a world whose run has come to its end.
-fn calls_of(world: &World, component: u32) -> &[Call]
-    requires quiet { Quiet (plain_of world.now) }
-    requires known { component < length (plain_of world.now).routes }
-    ensures { result.now ≡ (plain_of world.now).calls component }
-{
-    world.sound();
-    world.routine(component).calls()
 }
 
 // How many calls there were.

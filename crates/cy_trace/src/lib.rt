@@ -25,6 +25,6 @@ pub use laws::{
     first_bad_is_one, lines_read_back, runs_are_read_back, runs_are_traces, texts_tell_traces,
 };
 pub use read::read_trace;
-pub use text::trace_text;
+pub use text::{calls_of, trace_text};
 pub use trace::{TapeEntry, Trace, TraceCall, TraceComponent, TraceOutput};
 pub use typed::trace_is_read_back;
