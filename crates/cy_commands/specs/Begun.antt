@@ -13,14 +13,15 @@ use Rattle.cy_commands.specs.Line.{bytes_of_line}
 use Rattle.cy_commands.specs.PlayEnds.{SetsUp}
 
 -- The words ask for a play, and its files come to this replay.
-pub record IsBegun (command : Option Command) (old new : StoreView) (w : PlayWords) (x : Replay) : Type 0
-  where
-    pub asked : command ≡ Some (Play w)
-    pub came : SetsUp w old new (Ok x)
+pub record IsBegun (command : Option Command) (old new : StoreView) (w : PlayWords) (x : Replay)
+    : Type 0 where
+  pub asked : command ≡ Some (Play w)
+  pub came : SetsUp w old new (Ok x)
 
 -- What the words ask for has ended, and this is due; or it is a play that is set up.
 abbrev pub HasBegun : Option Command → StoreView → StoreView → Begun → Type 0
-HasBegun command old new (begun.Ended due) = IsDue command old new due.status (bytes_of_line due.line)
+HasBegun command old new (begun.Ended due) =
+    IsDue command old new due.status (bytes_of_line due.line)
 HasBegun command old new (begun.SetUp play x) = IsBegun command old new (play_words_of play) x
 
 -- A replay is set up as its play says.
