@@ -1,10 +1,9 @@
-//! The commands of the program `cyber` on one thread: what each makes of the files that it reads,
-//! and which status is due then.
+//! The commands of the program `cyber`: what each makes of the files that it reads, and which
+//! status is due then. A play on threads begins and ends here too; how it runs is in `cyber_cli`.
 //!
 //! `specs/Due` says which status is due, `specs/Outcome` what the files are to each command: by
 //! `specs/PlayWork`, `specs/MakeWork`, `specs/Check` and `specs/Info`. Which words ask for which
-//! command says `cy_words`; a play on threads stands in `cyber_cli`, and so does how a status is
-//! told.
+//! command says `cy_words`, how a status is told `cyber_cli`.
 #![tactic(auto)]
 
 mod alone;

@@ -26,7 +26,8 @@ use std::thread::Threads;
 use wake_core::{World, finish, laws, serial};
 
 /// Plays a list in a world that was made for it and in which nothing has happened, and resumes
-/// components on this thread, in the order of the scan. It takes no memory.
+/// components on this thread, in the order of the scan. It takes no memory. It is for programs that
+/// set up a world of their own.
 pub fn run_serial(mut world: World, list: &PlayList, placement: &Placement) -> World
     requires { MayPlay (plain_of world) list.now.tokens (scan_of placement.now.contexts) }
     ensures run { SerialRun (plain_of world).routes (scan_of placement.now.contexts)

@@ -101,8 +101,8 @@ fn push_numbered(
     )
 }
 
-/// The calls of a component of a world whose run has come to its end: where nobody holds a croutine,
-/// none is still to be stepped.
+/// The calls of a component of a world whose run has come to its end. Nobody holds a croutine
+/// there, so none of them is still to be stepped.
 pub fn calls_of(world: &World, component: u32) -> &[Call]
     requires quiet { Quiet (plain_of world.now) }
     requires known { component < length (plain_of world.now).routes }
