@@ -1,4 +1,5 @@
 pub mod CheckSteps
 pub mod EntrySteps
+pub mod Loops
 pub mod Sizes
 pub mod TallySteps

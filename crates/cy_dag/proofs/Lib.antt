@@ -1,7 +1,6 @@
 pub mod ClassSteps
 pub mod DagSteps
 pub mod Found
-pub mod Loops
 pub mod NameSteps
 pub mod PairSteps
 pub mod Queues

@@ -46,15 +46,15 @@ abbrev pub chunk_bodies : List PlacedHead → ℕ
 chunk_bodies heads = length (filter (λ h. kind_number h.kind == kind_number kind.ChunkBody) heads)
 
 -- The place of the index's head, 0 where there is no index.
-abbrev pub place_of : Option PlacedIndex → ℕ
-place_of None = 0
-place_of (Some i) = i.at
+abbrev pub index_place : Option PlacedIndex → ℕ
+index_place None = 0
+index_place (Some i) = i.at
 
 -- What is counted of a record: the numbers that the header of a complete one has. It has this
 -- index and these heads, so many channels, messages of these times, and so many bytes.
 abbrev pub counted : Option PlacedIndex → List PlacedHead → ℕ → List ℕ → ℕ → Counted
 counted index heads channels times size = record {
-  index_position = place_of index;
+  index_position = index_place index;
   chunk_number = chunk_bodies heads;
   channel_number = channels;
   begin_time = least times;

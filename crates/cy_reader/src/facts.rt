@@ -4,7 +4,7 @@ ghost use Rattle.std.specs.Prelude.{IsOkUnless};
 ghost use Rattle.std.specs.Prelude.{slice_index_or as get_or};
 ghost use Rattle.std.specs.Option.{option_map};
 ghost use Rattle.cy_reader.specs.Kept.{seen_index};
-ghost use Rattle.cy_reader.specs.Info.{least, greatest, chunk_bodies, place_of, counted};
+ghost use Rattle.cy_reader.specs.Info.{least, greatest, chunk_bodies, index_place, counted};
 ghost use Rattle.cy_reader.specs.Info.{index_found};
 ghost use Rattle.cy_reader.specs.Facts.{AreCounts, ArePlaces};
 
@@ -93,8 +93,8 @@ fn chunk_bodies(heads: &[PlacedHead]) -> u64
 }
 
 // The place of an index's head, 0 where there is none.
-fn place_of(index: Option<IndexView<'_>>) -> u64
-    ensures { result ≡ place_of (option_map seen_index index.entry) }
+fn index_place(index: Option<IndexView<'_>>) -> u64
+    ensures { result ≡ index_place (option_map seen_index index.entry) }
 {
     match index {
         Some(index) => index.at,
@@ -114,7 +114,7 @@ pub(crate) fn count_parts(
         (map (λ m. m.time) messages.now) size }
 {
     Counted {
-        index_position: place_of(index),
+        index_position: index_place(index),
         chunk_number: chunk_bodies(heads),
         channel_number: channels as u64,
         begin_time: least_time(messages),

@@ -1,6 +1,5 @@
 pub mod Contexts
 pub mod Counts
-pub mod Loops
 pub mod Refused
 pub mod Repeats
 pub mod Scans

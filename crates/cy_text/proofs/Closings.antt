@@ -3,7 +3,7 @@ use Rattle.std.proofs.Common.{ℕ, suc, ◌≡◌, ◌≤◌, nat_lt, length, Li
 use Rattle.std.proofs.lemmas.Bool.Decides.{nat_tests}
 use Rattle.cy_text.specs.Fields.{Fields, Held, Nothing, Whole, Quote, Message}
 use Rattle.cy_text.specs.Strings.{and_then}
-use Rattle.cy_text.specs.Form.{Building, Reading, reading, begun, step, placed, opened, closed, same_bracket, at_field, at_message, at_value, after_name, after_colon, at_item, at_first_item, after_item, after_sign, after_value, after_string, unread}
+use Rattle.cy_text.specs.Form.{Building, Reading, reading, begun, after_token, placed, opened, closed, same_bracket, at_field, at_message, at_value, after_name, after_colon, at_item, at_first_item, after_item, after_sign, after_value, after_string, unread}
 use Rattle.cy_text.specs.Grammar.{on, none, IsFields, IsTextPrefix}
 use Rattle.cy_text.specs.declared.token.Bracket.{Bracket}
 use Rattle.cy_text.specs.declared.token.Bracket.TheVariants.{Brace, Angle}
@@ -152,8 +152,8 @@ module _ (b : Building) (s : Span) where
   string_room slot bytes end (token.Quote other) h = h
   string_room slot bytes end t h = behind_room slot.name slot.start end (Quote bytes) slot.place t h
 
-  room_step : (next : Expected) (t : Token) → HasRoom (reading b next) → Roomy (step (reading b next) (on s t))
-  unfolding step
+  room_step : (next : Expected) (t : Token) → HasRoom (reading b next) → Roomy (after_token (reading b next) (on s t))
+  unfolding after_token
   room_step (expect.Field x) t h = field_room b s x t h
   room_step (expect.AfterName slot) t h = name_room b s slot t h
   room_step (expect.AfterColon slot) t h = colon_room b s slot t h
@@ -172,7 +172,7 @@ pub record Stands (r : Reading) (ts : List Lexeme) : Type 0 where
 pub nothing_stands : Stands unread []
 nothing_stands = record { prefix = none; ran = refl; room = omega arith }
 
-pub step_stands : (r n : Reading) (ts : List Lexeme) (l : Lexeme) → Stands r ts → step r l ≡ Ok n → Stands n (ts ++ l ∷ [])
+pub step_stands : (r n : Reading) (ts : List Lexeme) (l : Lexeme) → Stands r ts → after_token r l ≡ Ok n → Stands n (ts ++ l ∷ [])
 step_stands r n ts l h e = record {
   prefix = step_prefix r ts l n h.prefix e;
   ran = run_behind unread r ts (l ∷ []) h.ran ∙ rw e refl;
@@ -183,7 +183,7 @@ pub run_stands : (us : List Lexeme) (r n : Reading) (ts : List Lexeme) → Stand
 run_stands [] r n ts h e =
     let same : r ≡ n = cc in
     subst (λ (m : Reading). Stands m (ts ++ [])) same (subst (λ us. Stands r us) (sym (append-nil ts)) h)
-run_stands (u ∷ us) r n ts h e = elim (step r u) as (λ o. step r u ≡ o → and_then o (λ m. run m us) ≡ Ok n → Stands n (ts ++ u ∷ us)) [
+run_stands (u ∷ us) r n ts h e = elim (after_token r u) as (λ o. after_token r u ≡ o → and_then o (λ m. run m us) ≡ Ok n → Stands n (ts ++ u ∷ us)) [
   | Ok m ↦ λ s d. subst (λ vs. Stands n vs) (append_assoc ts (u ∷ []) us) (run_stands us m n (ts ++ u ∷ []) (step_stands r m ts u h s) d)
   | Err f ↦ λ s d. absurd (cc)
 ] refl e
@@ -198,7 +198,7 @@ record Closing (r : Reading) : Type 0 where
 abbrev nowhere : Span
 nowhere = record { start = 0; end = 0 }
 
-closing_by : (r n : Reading) (t : Token) → step r (on nowhere t) ≡ Ok n → Closing n → Closing r
+closing_by : (r n : Reading) (t : Token) → after_token r (on nowhere t) ≡ Ok n → Closing n → Closing r
 closing_by r n t e c = record { tokens = on nowhere t ∷ c.tokens; fields = c.fields; after_field = c.after_field; ran = rw e c.ran }
 
 abbrev Closes : List Frame → Type 0
@@ -206,7 +206,7 @@ Closes frames = (fields : Fields) (x : Bool) → Closing (in_fields frames field
 
 module _ (frames : List Frame) (close : Closes frames) where
   close_list : (fields : Fields) (slot : Slot) → Closing (reading (record { frames = frames; fields = fields }) (expect.AfterItem slot))
-  unfolding step after_item
+  unfolding after_token after_item
   close_list fields slot = closing_by _ (in_fields frames fields true) token.ListClose refl (close fields true)
 
   close_placed : (before : Fields) (name : List ℕ) (start : ℕ) (p : Place) (end : ℕ) (held : Held) → Closing (placed (record { frames = frames; fields = before }) (record { name = name; start = start; place = p }) end held)
@@ -226,18 +226,18 @@ module _ (b : Building) where
   close_field = close_frames b.frames
 
   close_value : (slot : Slot) → Closing (reading b (expect.AfterColon slot))
-  unfolding step after_colon at_value
+  unfolding after_token after_colon at_value
   close_value slot = closing_by _ (placed b (begun slot 0) 0 (Whole false 0)) (token.Whole 0) refl (close_placed b.frames close_field b.fields slot.name _ slot.place 0 _)
 
   close_name : (slot : Slot) → Closing (reading b (expect.AfterName slot))
-  unfolding step after_name
+  unfolding after_token after_name
   close_name slot = closing_by _ (reading b (expect.AfterColon slot)) token.Colon refl (close_value slot)
 
   close_first : (slot : Slot) → Closing (reading b (expect.FirstItem slot))
-  unfolding step at_first_item
+  unfolding after_token at_first_item
   close_first slot = closing_by _ (in_fields b.frames b.fields true) token.ListClose refl (close_field b.fields true)
 
-  close_message : (slot : Slot) → length b.frames ≤ 63 → step (reading b (expect.Item slot)) (on nowhere (token.Open Brace)) ≡ opened b (begun slot 0) Brace 0 → Closing (reading b (expect.Item slot))
+  close_message : (slot : Slot) → length b.frames ≤ 63 → after_token (reading b (expect.Item slot)) (on nowhere (token.Open Brace)) ≡ opened b (begun slot 0) Brace 0 → Closing (reading b (expect.Item slot))
   unfolding opened
   close_message slot h e =
       let room : nat_lt (length b.frames) 64 ≡ true = grind (arith, nat_tests) in
@@ -245,17 +245,17 @@ module _ (b : Building) where
       closing_by _ (in_fields (frame ∷ b.frames) Nothing false) (token.Open Brace) (e ∙ rw room refl) (close_frames (frame ∷ b.frames) Nothing false)
 
   close_item : (name : List ℕ) (start : ℕ) (p : Place) → length b.frames ≤ limit p → Closing (reading b (expect.Item (record { name = name; start = start; place = p })))
-  unfolding step at_item at_value at_message
+  unfolding after_token at_item at_value at_message
   close_item name start place.Field h = closing_by _ _ (token.Whole 0) refl (close_placed b.frames close_field b.fields name start place.Field 0 (Whole false 0))
   close_item name start place.Item h = closing_by _ _ (token.Whole 0) refl (close_placed b.frames close_field b.fields name 0 place.Item 0 (Whole false 0))
   close_item name start place.MessageItem h = close_message _ h refl
 
   close_sign : (slot : Slot) → Closing (reading b (expect.Signed slot))
-  unfolding step after_sign
+  unfolding after_token after_sign
   close_sign slot = closing_by _ _ (token.Whole 0) refl (close_placed b.frames close_field b.fields slot.name slot.start slot.place 0 (Whole true 0))
 
   close_string : (name : List ℕ) (start : ℕ) (p : Place) (bytes : List ℕ) (end : ℕ) → Closing (reading b (expect.Strings (record { name = name; start = start; place = p }) bytes end))
-  unfolding step after_string after_value placed at_field after_item
+  unfolding after_token after_string after_value placed at_field after_item
   close_string name start place.Field bytes end = closing_by _ (in_fields b.frames _ false) token.Comma refl (close_field _ false)
   close_string name start place.Item bytes end = closing_by _ (in_fields b.frames _ true) token.ListClose refl (close_field _ true)
   close_string name start place.MessageItem bytes end = closing_by _ (in_fields b.frames _ true) token.ListClose refl (close_field _ true)

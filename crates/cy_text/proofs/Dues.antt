@@ -2,7 +2,7 @@
 use Rattle.std.proofs.Common.{ℕ, ◌≡◌, List, [], ◌∷◌, ◌++◌, Bool, Result, Ok, Err, refl, ap, sym, subst, ◌∙◌, append_assoc}
 use Rattle.cy_text.specs.Fields.{Held}
 use Rattle.cy_text.specs.Strings.{and_then}
-use Rattle.cy_text.specs.Form.{Building, Reading, reading, step, placed, at_field, at_message, at_value, after_name, after_colon, at_item, at_first_item, after_item, after_sign, after_value, after_string, unread}
+use Rattle.cy_text.specs.Form.{Building, Reading, reading, after_token, placed, at_field, at_message, at_value, after_name, after_colon, at_item, at_first_item, after_item, after_sign, after_value, after_string, unread}
 use Rattle.cy_text.specs.Grammar.{on, IsFields, IsPrefix, IsTextPrefix}
 use Rattle.cy_text.specs.Kinds.{MessageMayFollow, Due, a_name, a_value, a_message, a_list_mark, IsDue, is_name, is_value, is_message, is_list_mark}
 use Rattle.cy_text.specs.declared.token.Bracket.{Bracket}
@@ -76,46 +76,46 @@ module _ (r : Reading) where
   Told a_list_mark = ((s : Span) → Goes (run r (on s token.Comma ∷ []))) × NameFails × NumberFails × MessageFails
 
 colon_fails : (b : Building) (text : List ℕ) (start : ℕ) (p : Place) (end : ℕ) (held : Held) (c : Span) → Fails (run (placed b (record { name = text; start = start; place = p }) end held) (on c token.Colon ∷ []))
-unfolding placed step at_field after_item
+unfolding placed after_token at_field after_item
 colon_fails b text start place.Field end held c = tt
 colon_fails b text start place.Item end held c = tt
 colon_fails b text start place.MessageItem end held c = tt
 
 module _ (b : Building) where
   field_told : (x : Bool) → Told (reading b (expect.Field x)) a_name
-  unfolding step at_field after_name
+  unfolding after_token at_field after_name
   field_told x = (λ s. tt, λ size s. tt, λ mark s. tt)
 
   name_told : (slot : Slot) → Told (reading b (expect.AfterName slot)) a_message
-  unfolding step after_name at_message
+  unfolding after_token after_name at_message
   name_told slot = (λ text s c. tt, λ size s. tt, λ s. tt)
 
   colon_told : (slot : Slot) → Told (reading b (expect.AfterColon slot)) a_value
-  unfolding step after_colon at_value
+  unfolding after_token after_colon at_value
   colon_told slot = (λ s. tt, λ text s c. colon_fails b slot.name _ slot.place s.end _ c, λ s. tt)
 
   item_told : (text : List ℕ) (start : ℕ) (p : Place) → Told (reading b (expect.Item (record { name = text; start = start; place = p }))) (item_due p)
-  unfolding step at_item at_value at_message
+  unfolding after_token at_item at_value at_message
   item_told text start place.Field = (λ s. tt, λ word s c. colon_fails b text start place.Field s.end _ c, λ s. tt)
   item_told text start place.Item = (λ s. tt, λ word s c. colon_fails b text s.start place.Item s.end _ c, λ s. tt)
   item_told text start place.MessageItem = (λ word s c. tt, λ size s. tt, λ s. tt)
 
   first_told : (text : List ℕ) (start : ℕ) (p : Place) → Told (reading b (expect.FirstItem (record { name = text; start = start; place = p }))) (item_due p)
-  unfolding step at_first_item at_item at_value at_message
+  unfolding after_token at_first_item at_item at_value at_message
   first_told text start place.Field = (λ s. tt, λ word s c. colon_fails b text start place.Field s.end _ c, λ s. tt)
   first_told text start place.Item = (λ s. tt, λ word s c. colon_fails b text s.start place.Item s.end _ c, λ s. tt)
   first_told text start place.MessageItem = (λ word s c. tt, λ size s. tt, λ s. tt)
 
   list_told : (slot : Slot) → Told (reading b (expect.AfterItem slot)) a_list_mark
-  unfolding step after_item
+  unfolding after_token after_item
   list_told slot = (λ s. tt, λ text s c. tt, λ size s. tt, λ mark s. tt)
 
   sign_told : (slot : Slot) → Told (reading b (expect.Signed slot)) a_value
-  unfolding step after_sign
+  unfolding after_token after_sign
   sign_told slot = (λ s. tt, λ text s c. colon_fails b slot.name slot.start slot.place s.end _ c, λ s. tt)
 
   string_told : (text : List ℕ) (start : ℕ) (p : Place) (bytes : List ℕ) (end : ℕ) → Told (reading b (expect.Strings (record { name = text; start = start; place = p }) bytes end)) (due_behind p)
-  unfolding step after_string after_value placed at_field after_name after_item
+  unfolding after_token after_string after_value placed at_field after_name after_item
   string_told text start place.Field bytes end = (λ s. tt, λ size s. tt, λ mark s. tt)
   string_told text start place.Item bytes end = (λ s. tt, λ word s c. tt, λ size s. tt, λ mark s. tt)
   string_told text start place.MessageItem bytes end = (λ s. tt, λ word s c. tt, λ size s. tt, λ mark s. tt)
@@ -156,7 +156,7 @@ module _ (r : Reading) (ts : List Lexeme) (h : Stands r ts) where
       let all : IsFields (ts ++ (us ++ p.rest)) p.fields = rw append_assoc at p.form in
       no_way (fields_read all []).leads (subst Fails (sym (run_behind unread r ts (us ++ p.rest) h.ran ∙ run_append r us p.rest)) (fails_more (run r us) p.rest f))
 
-  pub misplaced : (l : Lexeme) (its : BadKind) (at : ℕ) → step r l ≡ Err (Bad its at) → IsPrefix (ts ++ l ∷ []) → ⊥
+  pub misplaced : (l : Lexeme) (its : BadKind) (at : ℕ) → after_token r l ≡ Err (Bad its at) → IsPrefix (ts ++ l ∷ []) → ⊥
   misplaced l its at e = may_not (l ∷ []) (subst Fails (sym (ap (λ (o : Result Reading Fault). and_then o (λ n. run n [])) e)) tt)
 
   -- Tokens that are read may.

@@ -4,7 +4,7 @@ use Rattle.cy_msg.specs.Answer.{AnswersOr}
 use Rattle.cy_text.specs.Fields.{Fields, Held, Nothing, Quote, Message}
 use Rattle.cy_text.specs.Strings.{and_then}
 use Rattle.cy_text.specs.Tokens.{Tokens, Next, End, Faulty, tokens_of}
-use Rattle.cy_text.specs.Form.{Building, Reading, reading, begun, step, placed, opened, closed, same_bracket, at_field, at_message, at_value, after_name, after_colon, at_item, at_first_item, after_item, after_sign, after_value, after_string, all_closed, ends_value, finish, read, read_text, unread}
+use Rattle.cy_text.specs.Form.{Building, Reading, reading, begun, after_token, placed, opened, closed, same_bracket, at_field, at_message, at_value, after_name, after_colon, at_item, at_first_item, after_item, after_sign, after_value, after_string, all_closed, ends_value, finish, read, read_text, unread}
 use Rattle.cy_text.specs.Grammar.{on, followed, depth_of, IsFields, IsPrefix, IsTextPrefix, none}
 use Rattle.cy_text.specs.Grammar as grammar
 use Rattle.cy_text.specs.Kinds.{MessageMayFollow, Due, a_name, a_value, a_message, a_list_mark, IsDue, kind_of, kind_at_end, IsKindOf, IsKindAtEnd}
@@ -192,8 +192,8 @@ module _ (b : Building) (ts : List Lexeme) (s : Span) where
   string_refusal slot bytes end (token.Quote other) = tt
   string_refusal slot bytes end t = behind_refusal slot.name slot.start end (Quote bytes) slot.place t
 
-  step_refusal : (next : Expected) (t : Token) → PrefixOf b next ts → Refusal b ts (due_at next) t s (step (reading b next) (on s t))
-  unfolding step
+  step_refusal : (next : Expected) (t : Token) → PrefixOf b next ts → Refusal b ts (due_at next) t s (after_token (reading b next) (on s t))
+  unfolding after_token
   step_refusal (expect.Field x) t h = field_refusal b ts s x t
   step_refusal (expect.AfterName slot) t h = name_refusal b ts s slot t h
   step_refusal (expect.AfterColon slot) t h = colon_refusal b ts s slot t h
@@ -235,14 +235,14 @@ module _ (at : ℕ) where
   end_refusal b next = (refl, refl)
 
 -- A token that fails where it stands does so whatever follows it.
-fails_on : (r : Reading) (ts : List Lexeme) (l : Lexeme) (more : List Lexeme) (fault : Fault) → run unread ts ≡ Ok r → step r l ≡ Err fault → run unread (ts ++ l ∷ more) ≡ Err fault
+fails_on : (r : Reading) (ts : List Lexeme) (l : Lexeme) (more : List Lexeme) (fault : Fault) → run unread ts ≡ Ok r → after_token r l ≡ Err fault → run unread (ts ++ l ∷ more) ≡ Err fault
 fails_on r ts l more fault ran e = run_behind unread r ts (l ∷ more) ran ∙ ap (λ (o : Result Reading Fault). and_then o (λ n. run n more)) e
 
 must_be_deep : {r s : Reading} {ts : List Lexeme} {d e at : ℕ} → Leads r ts s d e → run r ts ≡ Err (TooDeep at) → 64 < e
 must_be_deep (there n ran settles below) f = absurd (cc)
 must_be_deep (deep at failed above) f = above
 
-deep_in_all : (r : Reading) (ts : List Lexeme) (l : Lexeme) (at : ℕ) → run unread ts ≡ Ok r → step r l ≡ Err (TooDeep at) → (more : List Lexeme) (fields : Fields) → IsFields (ts ++ l ∷ more) fields → 64 < depth_of fields
+deep_in_all : (r : Reading) (ts : List Lexeme) (l : Lexeme) (at : ℕ) → run unread ts ≡ Ok r → after_token r l ≡ Err (TooDeep at) → (more : List Lexeme) (fields : Fields) → IsFields (ts ++ l ∷ more) fields → 64 < depth_of fields
 deep_in_all r ts l at ran e more fields f =
     let above : 64 < length {A = Frame} [] + depth_of fields = must_be_deep (fields_read f []).leads (fails_on r ts l more (TooDeep at) ran e) in
     omega (arith, above)
@@ -255,7 +255,7 @@ ends_here r fields x at fault (there n ran settles below) f e =
 ends_here r fields x at fault (deep place failed above) f e = cc
 
 -- A token that fails for its depth makes no text of the form.
-no_text : (r : Reading) (ts : List Lexeme) (l : Lexeme) (at : ℕ) → run unread ts ≡ Ok r → step r l ≡ Err (TooDeep at) → IsTextPrefix (ts ++ l ∷ []) → ⊥
+no_text : (r : Reading) (ts : List Lexeme) (l : Lexeme) (at : ℕ) → run unread ts ≡ Ok r → after_token r l ≡ Err (TooDeep at) → IsTextPrefix (ts ++ l ∷ []) → ⊥
 no_text r ts l at ran e p =
     let deep_fields : 64 < depth_of p.fields = deep_in_all r ts l at ran e p.rest p.fields (rw append_assoc at p.form) in
     omega (arith, deep_fields, p.depth)
@@ -264,7 +264,7 @@ module _ (r : Reading) (ts : List Lexeme) (h : Stands r ts) where
   due : IsDue ts (due_at r.next)
   due = is_due r ts h (may_open r.building ts r.next h.prefix)
 
-  refusal : (l : Lexeme) → Refusal r.building ts (due_at r.next) l.token l.span (step r l)
+  refusal : (l : Lexeme) → Refusal r.building ts (due_at r.next) l.token l.span (after_token r l)
   refusal l = step_refusal r.building ts l.span r.next l.token h.prefix
 
   -- where a kind is what is due's, it is the one of the fault
@@ -275,7 +275,7 @@ module _ (r : Reading) (ts : List Lexeme) (h : Stands r ts) where
   same_end its other e k = e ∙ ap kind_at_end (sym (one_due r ts h k.due k.is)) ∙ sym k.kind
 
 module _ (whole_text : Tokens) where
-  refused_at : (r : Reading) (ts : List Lexeme) (l : Lexeme) (more : Tokens) (fault : Fault) → whole_text ≡ followed ts (Next l more) → Stands r ts → step r l ≡ Err fault
+  refused_at : (r : Reading) (ts : List Lexeme) (l : Lexeme) (more : Tokens) (fault : Fault) → whole_text ≡ followed ts (Next l more) → Stands r ts → after_token r l ≡ Err fault
       → Refusal r.building ts (due_at r.next) l.token l.span (Err fault) → IsFirstFault whole_text fault
   refused_at r ts l more (Bad kind at) same h e place =
       subst (λ (n : ℕ). IsFirstFault whole_text (Bad kind n)) (sym place.0) (out_of_place ts l more kind same (stands_prefix r ts h) (misplaced r ts h l kind at e)
@@ -291,7 +291,7 @@ module _ (whole_text : Tokens) where
 
   first_fault : (tokens : Tokens) (r : Reading) (ts : List Lexeme) (fault : Fault) → whole_text ≡ followed ts tokens → Stands r ts → read r tokens ≡ Err fault → IsFirstFault whole_text fault
   unfolding read
-  first_fault (Next l more) r ts fault same h e = elim (step r l) as (λ o. step r l ≡ o → and_then o (λ n. read n more) ≡ Err fault → IsFirstFault whole_text fault) [
+  first_fault (Next l more) r ts fault same h e = elim (after_token r l) as (λ o. after_token r l ≡ o → and_then o (λ n. read n more) ≡ Err fault → IsFirstFault whole_text fault) [
     | Ok n ↦ λ s d. first_fault more n (ts ++ l ∷ []) fault (same ∙ sym (followed_more ts l more)) (step_stands r n ts l h s) d
     | Err f ↦ λ s d.
         let here : f ≡ fault = cc in
@@ -332,7 +332,7 @@ prefix_stands ts p = read_prefix ts p.rest p.fields (run unread ts) refl
 run_and_read : (r : Reading) (ts : List Lexeme) (tokens : Tokens) → read r (followed ts tokens) ≡ and_then (run r ts) (λ n. read n tokens)
 unfolding read
 run_and_read r [] tokens = refl
-run_and_read r (t ∷ ts) tokens = elim (step r t) as (λ o. and_then o (λ n. read n (followed ts tokens)) ≡ and_then (and_then o (λ n. run n ts)) (λ n. read n tokens)) [
+run_and_read r (t ∷ ts) tokens = elim (after_token r t) as (λ o. and_then o (λ n. read n (followed ts tokens)) ≡ and_then (and_then o (λ n. run n ts)) (λ n. read n tokens)) [
   | Ok n ↦ run_and_read n ts tokens
   | Err e ↦ refl
 ]
@@ -342,20 +342,20 @@ read_behind : (r : Reading) (ts : List Lexeme) (whole_text tokens : Tokens) → 
 read_behind r ts whole_text tokens same h = ap (read unread) same ∙ run_and_read unread ts tokens ∙ ap (λ (o : Result Reading Fault). and_then o (λ n. read n tokens)) h.ran
 
 module _ (r : Reading) (ts : List Lexeme) (h : Stands r ts) (l : Lexeme) where
-  is_misplaced : (its : BadKind) → (IsPrefix (ts ++ l ∷ []) → ⊥) → IsKindOf ts l.token its → (o : Result Reading Fault) → step r l ≡ o → Refusal r.building ts (due_at r.next) l.token l.span o
-      → step r l ≡ Err (Bad its l.span.start)
+  is_misplaced : (its : BadKind) → (IsPrefix (ts ++ l ∷ []) → ⊥) → IsKindOf ts l.token its → (o : Result Reading Fault) → after_token r l ≡ o → Refusal r.building ts (due_at r.next) l.token l.span o
+      → after_token r l ≡ Err (Bad its l.span.start)
   is_misplaced its never k (Ok n) e place = absurd (never (any_text_prefix (stands_prefix n (ts ++ l ∷ []) (step_stands r n ts l h e))))
   is_misplaced its never k (Err (Bad other at)) e place =
       e ∙ ap (λ (n : ℕ). Err (Bad other n)) place.0 ∙ ap (λ (other : BadKind). Err (Bad other l.span.start)) (same_kind r ts h l other its place.1 k)
   is_misplaced its never k (Err (TooDeep at)) e place = absurd (never place.1)
 
-  is_too_deep : IsPrefix (ts ++ l ∷ []) → (IsTextPrefix (ts ++ l ∷ []) → ⊥) → (o : Result Reading Fault) → step r l ≡ o → Refusal r.building ts (due_at r.next) l.token l.span o
-      → step r l ≡ Err (TooDeep l.span.start)
+  is_too_deep : IsPrefix (ts ++ l ∷ []) → (IsTextPrefix (ts ++ l ∷ []) → ⊥) → (o : Result Reading Fault) → after_token r l ≡ o → Refusal r.building ts (due_at r.next) l.token l.span o
+      → after_token r l ≡ Err (TooDeep l.span.start)
   is_too_deep some never (Ok n) e place = absurd (never (stands_prefix n (ts ++ l ∷ []) (step_stands r n ts l h e)))
   is_too_deep some never (Err (Bad other at)) e place = absurd (misplaced r ts h l other at e some)
   is_too_deep some never (Err (TooDeep at)) e place = e ∙ ap (λ (n : ℕ). Err (TooDeep n)) place.0
 
-  stops : (more : Tokens) (fault : Fault) → step r l ≡ Err fault → read r (Next l more) ≡ Err fault
+  stops : (more : Tokens) (fault : Fault) → after_token r l ≡ Err fault → read r (Next l more) ≡ Err fault
   unfolding read
   stops more fault e = ap (λ (o : Result Reading Fault). and_then o (λ n. read n more)) e
 
@@ -371,10 +371,10 @@ unfolding read
 answered whole_text fault (in_itself ts same p) = let h = prefix_stands ts p in read_behind h.0 ts whole_text (Faulty fault) same h.1
 answered whole_text fault (out_of_place ts l rest its same p never k) =
     let h = prefix_stands ts p in
-    read_behind h.0 ts whole_text (Next l rest) same h.1 ∙ stops h.0 ts h.1 l rest _ (is_misplaced h.0 ts h.1 l its never k (step h.0 l) refl (refusal h.0 ts h.1 l))
+    read_behind h.0 ts whole_text (Next l rest) same h.1 ∙ stops h.0 ts h.1 l rest _ (is_misplaced h.0 ts h.1 l its never k (after_token h.0 l) refl (refusal h.0 ts h.1 l))
 answered whole_text fault (too_deep ts l rest same p some never) =
     let h = prefix_stands ts p in
-    read_behind h.0 ts whole_text (Next l rest) same h.1 ∙ stops h.0 ts h.1 l rest _ (is_too_deep h.0 ts h.1 l some never (step h.0 l) refl (refusal h.0 ts h.1 l))
+    read_behind h.0 ts whole_text (Next l rest) same h.1 ∙ stops h.0 ts h.1 l rest _ (is_too_deep h.0 ts h.1 l some never (after_token h.0 l) refl (refusal h.0 ts h.1 l))
 answered whole_text fault (at_end ts end its same p never k) =
     let h = prefix_stands ts p in
     read_behind h.0 ts whole_text (End end) same h.1 ∙ is_at_end h.0 ts h.1 end its never k (finish h.0 end) refl (end_refusal end h.0.building h.0.next)

@@ -3,7 +3,7 @@ use Rattle.std.proofs.Common.{ℕ, ◌≡◌, ◌≤◌, List, [], ◌∷◌, �
 use Rattle.cy_text.specs.Fields.{Fields, Quote}
 use Rattle.cy_text.specs.Strings.{and_then}
 use Rattle.cy_text.specs.Tokens.{Tokens, Next, End, Faulty, tokens_of}
-use Rattle.cy_text.specs.Form.{Building, Reading, reading, step, placed, all_closed, ends_value, finish, read, read_text, unread}
+use Rattle.cy_text.specs.Form.{Building, Reading, reading, after_token, placed, all_closed, ends_value, finish, read, read_text, unread}
 use Rattle.cy_text.specs.Grammar.{followed, depth_of, IsFields, none, IsTextOf}
 use Rattle.cy_text.specs.Places.{with_place, fields_of_text}
 use Rattle.cy_text.specs.declared.token.Lexeme.{Lexeme}
@@ -46,7 +46,7 @@ pub followed_more : (ts : List Lexeme) (l : Lexeme) (more : Tokens) → followed
 followed_more [] l more = refl
 followed_more (t ∷ ts) l more = ap (Next t) (followed_more ts l more)
 
-pub run_more : (r n m : Reading) (ts : List Lexeme) (l : Lexeme) → run r ts ≡ Ok n → step n l ≡ Ok m → run r (ts ++ l ∷ []) ≡ Ok m
+pub run_more : (r n m : Reading) (ts : List Lexeme) (l : Lexeme) → run r ts ≡ Ok n → after_token n l ≡ Ok m → run r (ts ++ l ∷ []) ≡ Ok m
 run_more r n m ts l e f = run_behind r n ts (l ∷ []) e ∙ run_one n m l f
 
 -- The fields of a text, and that they are its grammar's.
@@ -59,7 +59,7 @@ pub record Found (whole : Tokens) (fields : Fields) : Type 0 where
 
 found : (whole : Tokens) (all : Fields) (tokens : Tokens) (r : Reading) (ts : List Lexeme) → whole ≡ followed ts tokens → Prefix r ts → run unread ts ≡ Ok r → read r tokens ≡ Ok all → Found whole all
 unfolding read
-found whole all (Next l more) r ts same h ran e = elim (step r l) as (λ o. step r l ≡ o → and_then o (λ n. read n more) ≡ Ok all → Found whole all) [
+found whole all (Next l more) r ts same h ran e = elim (after_token r l) as (λ o. after_token r l ≡ o → and_then o (λ n. read n more) ≡ Ok all → Found whole all) [
   | Ok n ↦ λ s d. found whole all more n (ts ++ l ∷ []) (same ∙ sym (followed_more ts l more)) (step_prefix r ts l n h s) (run_more unread r n ts l ran s) d
   | Err f ↦ λ s d. absurd (cc)
 ] refl e

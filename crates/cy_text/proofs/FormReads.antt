@@ -3,7 +3,7 @@ use Rattle.std.proofs.Common.{ℕ, suc, ◌≡◌, ◌<◌, ◌≤◌, ◌+◌, 
 use Rattle.std.proofs.lemmas.Bool.Decides.{nat_tests}
 use Rattle.cy_text.specs.Fields.{Fields, Held, Nothing, And, Message}
 use Rattle.cy_text.specs.Strings.{and_then}
-use Rattle.cy_text.specs.Form.{Building, Reading, reading, begun, step, placed, opened, closed, at_field, at_value, at_message, after_name, after_colon, at_first_item, after_item, all_closed, finish, read, read_text, unread}
+use Rattle.cy_text.specs.Form.{Building, Reading, reading, begun, after_token, placed, opened, closed, at_field, at_value, at_message, after_name, after_colon, at_first_item, after_item, all_closed, finish, read, read_text, unread}
 use Rattle.cy_text.specs.Grammar.{on, end_of, start_of, span_of, depth_of, depth_held, IsSeparator, comma, semicolon, IsLabel, plain, with_colon, IsFields, none, field, separated, IsField, single, empty, list, IsItems, first, next, IsValue, unsigned, signed, strings, message, IsTextOf, IsPlain, whole, literal, negative_literal, word}
 use Rattle.cy_text.specs.Places.{with_place, fields_of_text}
 use Rattle.cy_text.specs.declared.token.Bracket.{Bracket}
@@ -52,8 +52,8 @@ same_closed frames frame fields c Brace e = rw e refl
 same_closed frames frame fields c Angle e = rw e refl
 
 pub close_step : (frames : List Frame) (frame : Frame) (fields : Fields) (x : Bool) (c : Span)
-    → step (in_fields (frame ∷ frames) fields x) (on c (token.Close frame.bracket)) ≡ Ok (placed (record { frames = frames; fields = frame.fields }) frame.slot c.end (Message fields))
-unfolding step at_field
+    → after_token (in_fields (frame ∷ frames) fields x) (on c (token.Close frame.bracket)) ≡ Ok (placed (record { frames = frames; fields = frame.fields }) frame.slot c.end (Message fields))
+unfolding after_token at_field
 close_step frames frame fields x c = same_closed frames frame fields c frame.bracket refl
 
 -- The tokens of a label.
@@ -61,10 +61,10 @@ pub record Labelled (r : Reading) (b : Building) (colon : Bool) (name : List ℕ
   pub behind : Reading
   pub reads : run r label ≡ Ok behind
   pub value : Awaits behind b (record { name = name; start = start_of label; place = place.Field }) colon
-  pub list : (o : Span) → step behind (on o token.ListOpen) ≡ Ok (reading b (expect.FirstItem (item_slot colon name (start_of label))))
+  pub list : (o : Span) → after_token behind (on o token.ListOpen) ≡ Ok (reading b (expect.FirstItem (item_slot colon name (start_of label))))
 
 labelled : {colon : Bool} {name : List ℕ} {label : List Lexeme} → IsLabel colon name label → (b : Building) (x : Bool) → Labelled (reading b (expect.Field x)) b colon name label
-unfolding step at_field after_name after_colon
+unfolding after_token at_field after_name after_colon
 labelled (plain {name = name} s) b x =
     let slot : Slot = record { name = name; start = s.start; place = place.Field } in
     record { behind = reading b (expect.AfterName slot); reads = refl; value = awaits_name b slot; list = λ o. refl }
@@ -72,20 +72,20 @@ labelled (with_colon {name = name} s c) b x =
     let slot : Slot = record { name = name; start = s.start; place = place.Field } in
     record { behind = reading b (expect.AfterColon slot); reads = refl; value = awaits_colon b slot; list = λ o. refl }
 
-no_item : (b : Building) (slot : Slot) (c : Span) → step (reading b (expect.FirstItem slot)) (on c token.ListClose) ≡ Ok (reading b (expect.Field true))
-unfolding step at_first_item
+no_item : (b : Building) (slot : Slot) (c : Span) → after_token (reading b (expect.FirstItem slot)) (on c token.ListClose) ≡ Ok (reading b (expect.Field true))
+unfolding after_token at_first_item
 no_item b slot c = refl
 
-last_item : (b : Building) (slot : Slot) (c : Span) → step (reading b (expect.AfterItem slot)) (on c token.ListClose) ≡ Ok (reading b (expect.Field true))
-unfolding step after_item
+last_item : (b : Building) (slot : Slot) (c : Span) → after_token (reading b (expect.AfterItem slot)) (on c token.ListClose) ≡ Ok (reading b (expect.Field true))
+unfolding after_token after_item
 last_item b slot c = refl
 
-next_item : (b : Building) (slot : Slot) (c : Span) → step (reading b (expect.AfterItem slot)) (on c token.Comma) ≡ Ok (reading b (expect.Item slot))
-unfolding step after_item
+next_item : (b : Building) (slot : Slot) (c : Span) → after_token (reading b (expect.AfterItem slot)) (on c token.Comma) ≡ Ok (reading b (expect.Item slot))
+unfolding after_token after_item
 next_item b slot c = refl
 
-separate : {mark : Token} → IsSeparator mark → (frames : List Frame) (fields : Fields) (s : Span) → step (in_fields frames fields true) (on s mark) ≡ Ok (in_fields frames fields false)
-unfolding step at_field
+separate : {mark : Token} → IsSeparator mark → (frames : List Frame) (fields : Fields) (s : Span) → after_token (in_fields frames fields true) (on s mark) ≡ Ok (in_fields frames fields false)
+unfolding after_token at_field
 separate comma frames fields s = refl
 separate semicolon frames fields s = refl
 
@@ -114,7 +114,7 @@ module _ (r : Reading) (b : Building) (slot : Slot) (colon : Bool) (h : Awaits r
   by_room : (room : Bool) → nat_lt (length b.frames) 64 ≡ room → ReadFields (record { fields = b.fields; slot = begun slot o.start; bracket = mark } ∷ b.frames) ts fields
       → Leads r (on o (token.Open mark) ∷ ts ++ on c (token.Close mark) ∷ []) (placed b (begun slot o.start) c.end (Message fields)) (length b.frames) (length b.frames + suc (depth_of fields))
   by_room true e inner =
-      let opens : step r (on o (token.Open mark)) ≡ Ok (inside b (begun slot o.start) mark) = h o (token.Open mark) refl ∙ open_step colon b slot mark o ∙ rw e refl in
+      let opens : after_token r (on o (token.Open mark)) ≡ Ok (inside b (begun slot o.start) mark) = h o (token.Open mark) refl ∙ open_step colon b slot mark o ∙ rw e refl in
       let frame : Frame = record { fields = b.fields; slot = begun slot o.start; bracket = mark } in
       let room : length b.frames < 64 = grind (arith, nat_tests) in
       lead_by (on o (token.Open mark) ∷ []) (ts ++ on c (token.Close mark) ∷ []) _ _ (run_one r _ _ opens)
@@ -123,7 +123,7 @@ module _ (r : Reading) (b : Building) (slot : Slot) (colon : Bool) (h : Awaits r
       (at_once _ _ (run_one _ _ _ (close_step b.frames frame fields inner.after_field c)) (placed_is_settled b (begun slot o.start) c.end (Message fields))) refl)
       (omega arith) (λ low. omega arith) (λ low all. omega arith))
   by_room false e inner =
-      let fails : step r (on o (token.Open mark)) ≡ Err (TooDeep o.start) = h o (token.Open mark) refl ∙ open_step colon b slot mark o ∙ rw e refl in
+      let fails : after_token r (on o (token.Open mark)) ≡ Err (TooDeep o.start) = h o (token.Open mark) refl ∙ open_step colon b slot mark o ∙ rw e refl in
       deep o.start (rw fails refl) (grind (arith, nat_tests))
 
   message_read : ReadFields (record { fields = b.fields; slot = begun slot o.start; bracket = mark } ∷ b.frames) ts fields

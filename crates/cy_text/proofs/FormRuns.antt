@@ -3,7 +3,7 @@ use Rattle.std.proofs.Common.{ℕ, ◌≡◌, ◌≤◌, List, [], ◌∷◌, �
 use Rattle.std.proofs.lemmas.Bool.{false≢true}
 use Rattle.std.proofs.Math.Nat.{le-max_left}
 use Rattle.cy_text.specs.Fields.{Fields, Held, And}
-use Rattle.cy_text.specs.Form.{Building, Reading, reading, begun, step, placed, at_value, at_message, after_name, after_colon, at_item, at_first_item, after_sign, after_string}
+use Rattle.cy_text.specs.Form.{Building, Reading, reading, begun, after_token, placed, at_value, at_message, after_name, after_colon, at_item, at_first_item, after_sign, after_string}
 use Rattle.cy_text.specs.Grammar.{on, end_of, start_of, span_of, depth_of, depth_held, IsLabel, plain, with_colon, IsStrings, one, more, IsPlain, whole, literal, negative_literal, word, IsField, single, empty, list, IsItems, first, next, IsValue, unsigned, signed, strings, message}
 use Rattle.cy_text.specs.declared.token.Token.{Token}
 use Rattle.cy_text.specs.declared.token.Token.TheVariants as token
@@ -76,15 +76,15 @@ value_step false b slot l = at_message b slot l
 
 -- A value may stand next.
 abbrev pub Awaits : Reading → Building → Slot → Bool → Type 0
-Awaits r b slot colon = (s : Span) (t : Token) → begins colon t ≡ true → step r (on s t) ≡ value_step colon b slot (on s t)
+Awaits r b slot colon = (s : Span) (t : Token) → begins colon t ≡ true → after_token r (on s t) ≡ value_step colon b slot (on s t)
 
 pub awaits_name : (b : Building) (slot : Slot) → Awaits (reading b (expect.AfterName slot)) b slot false
-unfolding step after_name
+unfolding after_token after_name
 awaits_name b slot s (token.Open mark) h = refl
 awaits_name b slot s t h = absurd (false≢true h)
 
 pub awaits_colon : (b : Building) (slot : Slot) → Awaits (reading b (expect.AfterColon slot)) b slot true
-unfolding step after_colon
+unfolding after_token after_colon
 awaits_colon b slot s (token.Open mark) h = refl
 awaits_colon b slot s token.Minus h = refl
 awaits_colon b slot s (token.Whole size) h = refl
@@ -99,12 +99,12 @@ item_slot true name start = record { name = name; start = start; place = place.I
 item_slot false name start = record { name = name; start = start; place = place.MessageItem }
 
 pub awaits_item : (b : Building) (colon : Bool) (name : List ℕ) (start : ℕ) → Awaits (reading b (expect.Item (item_slot colon name start))) b (item_slot colon name start) colon
-unfolding step at_item
+unfolding after_token at_item
 awaits_item b true name start s t h = refl
 awaits_item b false name start s t h = refl
 
 pub awaits_first : (b : Building) (colon : Bool) (name : List ℕ) (start : ℕ) → Awaits (reading b (expect.FirstItem (item_slot colon name start))) b (item_slot colon name start) colon
-unfolding step at_first_item at_item
+unfolding after_token at_first_item at_item
 awaits_first b colon name start s token.ListClose h = absurd (false≢true h)
 awaits_first b true name start s t h = refl
 awaits_first b false name start s t h = refl
@@ -128,8 +128,8 @@ plain_read whole b slot s = refl
 plain_read literal b slot s = refl
 plain_read word b slot s = refl
 
-pub signed_read : {kind : Token} {held : Held} → IsPlain kind true held → (b : Building) (slot : Slot) (s : Span) → step (reading b (expect.Signed slot)) (on s kind) ≡ Ok (placed b slot s.end held)
-unfolding step after_sign
+pub signed_read : {kind : Token} {held : Held} → IsPlain kind true held → (b : Building) (slot : Slot) (s : Span) → after_token (reading b (expect.Signed slot)) (on s kind) ≡ Ok (placed b slot s.end held)
+unfolding after_token after_sign
 signed_read whole b slot s = refl
 signed_read negative_literal b slot s = refl
 signed_read word b slot s = refl
@@ -143,8 +143,8 @@ unfolding at_value
 string_read b slot s bytes = refl
 
 string_added : (b : Building) (slot : Slot) (prefix : List ℕ) (end : ℕ) (s : Span) (bytes : List ℕ)
-    → step (reading b (expect.Strings slot prefix end)) (on s (token.Quote bytes)) ≡ Ok (reading b (expect.Strings slot (prefix ++ bytes) s.end))
-unfolding step after_string
+    → after_token (reading b (expect.Strings slot prefix end)) (on s (token.Quote bytes)) ≡ Ok (reading b (expect.Strings slot (prefix ++ bytes) s.end))
+unfolding after_token after_string
 string_added b slot prefix end s bytes = refl
 
 module _ (r : Reading) (b : Building) (slot : Slot) (h : Awaits r b slot true) where

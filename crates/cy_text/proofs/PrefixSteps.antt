@@ -1,7 +1,7 @@
 -- A token that may stand behind others makes them a longer prefix.
 use Rattle.std.proofs.Common.{ℕ, ◌≡◌, nat_lt, length, List, [], ◌∷◌, ◌++◌, Bool, true, false, cond, Result, Ok, Err, refl, ap, sym, subst, ◌∙◌, append_assoc, append-nil}
 use Rattle.cy_text.specs.Fields.{Fields, Held, And, Whole, Literal, Word, Quote, Message}
-use Rattle.cy_text.specs.Form.{Building, Reading, reading, begun, step, placed, opened, closed, at_field, at_message, at_value, after_name, after_colon, at_item, at_first_item, after_item, after_sign, after_value, after_string}
+use Rattle.cy_text.specs.Form.{Building, Reading, reading, begun, after_token, placed, opened, closed, at_field, at_message, at_value, after_name, after_colon, at_item, at_first_item, after_item, after_sign, after_value, after_string}
 use Rattle.cy_text.specs.Grammar.{on, end_of, comma, semicolon, plain, with_colon, one, more, whole, literal, negative_literal, word, none, first, next, unsigned, signed, strings, message}
 use Rattle.cy_text.specs.declared.token.Bracket.{Bracket}
 use Rattle.cy_text.specs.declared.token.Bracket.TheVariants.{Brace, Angle}
@@ -211,8 +211,8 @@ module _ (b : Building) (ts : List Lexeme) (s : Span) (r : Reading) where
   })
   string_prefix slot bytes end t h e = behind_placed slot.name slot.start slot.place end (Quote bytes) t (quote_placed slot bytes end h) e
 
-  step_at : (next : Expected) (t : Token) → PrefixOf b next ts → step (reading b next) (on s t) ≡ Ok r → Prefix r (ts ++ on s t ∷ [])
-  unfolding step
+  step_at : (next : Expected) (t : Token) → PrefixOf b next ts → after_token (reading b next) (on s t) ≡ Ok r → Prefix r (ts ++ on s t ∷ [])
+  unfolding after_token
   step_at (expect.Field x) t h e = field_prefix b ts s r x t h e
   step_at (expect.AfterName slot) t h e = name_prefix b ts s r slot t h e
   step_at (expect.AfterColon slot) t h e = colon_prefix b ts s r slot t h e
@@ -223,5 +223,5 @@ module _ (b : Building) (ts : List Lexeme) (s : Span) (r : Reading) where
   step_at (expect.Strings slot bytes end) t h e = string_prefix slot bytes end t h e
 
 -- One more token.
-pub step_prefix : (r : Reading) (ts : List Lexeme) (l : Lexeme) (n : Reading) → Prefix r ts → step r l ≡ Ok n → Prefix n (ts ++ l ∷ [])
+pub step_prefix : (r : Reading) (ts : List Lexeme) (l : Lexeme) (n : Reading) → Prefix r ts → after_token r l ≡ Ok n → Prefix n (ts ++ l ∷ [])
 step_prefix r ts l n h e = step_at r.building ts l.span n r.next l.token h e

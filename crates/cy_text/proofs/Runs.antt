@@ -4,7 +4,7 @@ use Rattle.std.proofs.lemmas.Bool.{false≢true}
 use Rattle.cy_text.specs.Fields.{Held, Quote}
 use Rattle.cy_text.specs.Strings.{and_then}
 use Rattle.cy_text.specs.Tokens.{End}
-use Rattle.cy_text.specs.Form.{Building, Reading, reading, step, placed, finish, read, after_string, after_value, ends_value}
+use Rattle.cy_text.specs.Form.{Building, Reading, reading, after_token, placed, finish, read, after_string, after_value, ends_value}
 use Rattle.cy_text.specs.Grammar.{on, followed}
 use Rattle.cy_text.specs.declared.token.Token.{Token}
 use Rattle.cy_text.specs.declared.token.Token.TheVariants as token
@@ -21,11 +21,11 @@ use Rattle.cy_text.specs.declared.fault.Fault.TheVariants.{TooDeep}
 -- What is read behind some tokens.
 abbrev pub run : Reading → List Lexeme → Result Reading Fault
 run r [] = Ok r
-run r (t ∷ ts) = and_then (step r t) (λ n. run n ts)
+run r (t ∷ ts) = and_then (after_token r t) (λ n. run n ts)
 
 pub run_append : (r : Reading) (ts us : List Lexeme) → run r (ts ++ us) ≡ and_then (run r ts) (λ n. run n us)
 run_append r [] us = refl
-run_append r (t ∷ ts) us = elim (step r t) as (λ o. and_then o (λ n. run n (ts ++ us)) ≡ and_then (and_then o (λ n. run n ts)) (λ n. run n us)) [
+run_append r (t ∷ ts) us = elim (after_token r t) as (λ o. and_then o (λ n. run n (ts ++ us)) ≡ and_then (and_then o (λ n. run n ts)) (λ n. run n us)) [
   | Ok n ↦ run_append n ts us
   | Err e ↦ refl
 ]
@@ -34,13 +34,13 @@ run_append r (t ∷ ts) us = elim (step r t) as (λ o. and_then o (λ n. run n (
 pub run_to_end : (r : Reading) (ts : List Lexeme) (at : ℕ) → read r (followed ts (End at)) ≡ and_then (run r ts) (λ n. finish n at)
 unfolding read
 run_to_end r [] at = refl
-run_to_end r (t ∷ ts) at = elim (step r t) as (λ o. and_then o (λ n. read n (followed ts (End at))) ≡ and_then (and_then o (λ n. run n ts)) (λ n. finish n at)) [
+run_to_end r (t ∷ ts) at = elim (after_token r t) as (λ o. and_then o (λ n. read n (followed ts (End at))) ≡ and_then (and_then o (λ n. run n ts)) (λ n. finish n at)) [
   | Ok n ↦ run_to_end n ts at
   | Err e ↦ refl
 ]
 
 -- one token
-pub run_one : (r n : Reading) (t : Lexeme) → step r t ≡ Ok n → run r (t ∷ []) ≡ Ok n
+pub run_one : (r n : Reading) (t : Lexeme) → after_token r t ≡ Ok n → run r (t ∷ []) ≡ Ok n
 run_one r n t e = rw e refl
 
 -- A string that is read is a value, once it is settled that no other string follows.
@@ -76,8 +76,8 @@ NoStringFirst [] = Unit {0}
 NoStringFirst (t ∷ ts) = is_quote t.token ≡ false
 
 -- what no string follows is settled
-behind_value : (b : Building) (slot : Slot) (end : ℕ) (held : Held) (l : Lexeme) (p : Place) → slot.place ≡ p → after_value (placed b slot end held) l ≡ step (placed b slot end held) l
-unfolding step after_value placed
+behind_value : (b : Building) (slot : Slot) (end : ℕ) (held : Held) (l : Lexeme) (p : Place) → slot.place ≡ p → after_value (placed b slot end held) l ≡ after_token (placed b slot end held) l
+unfolding after_token after_value placed
 behind_value b slot end held l place.Field e = rw e refl
 behind_value b slot end held l place.Item e = rw e refl
 behind_value b slot end held l place.MessageItem e = rw e refl
@@ -88,8 +88,8 @@ unfolding after_string
 behind_string b slot bytes end s (token.Quote other) h = absurd (false≢true (sym h))
 behind_string b slot bytes end s t h = refl
 
-step_settled : (b : Building) (next : Expected) (s : Span) (t : Token) → is_quote t ≡ false → step (reading b next) (on s t) ≡ step (settled (reading b next)) (on s t)
-unfolding step
+step_settled : (b : Building) (next : Expected) (s : Span) (t : Token) → is_quote t ≡ false → after_token (reading b next) (on s t) ≡ after_token (settled (reading b next)) (on s t)
+unfolding after_token
 step_settled b (expect.Strings slot bytes end) s t h = behind_string b slot bytes end s t h ∙ behind_value b slot end (Quote bytes) (on s t) slot.place refl
 step_settled b next s t h = refl
 

@@ -6,7 +6,7 @@ use Rattle.std.proofs.Math.ListN.{drop_of_length-le}
 use Rattle.std.specs.List.{prefix_len}
 use Rattle.cy_text.specs.Letters.{is_blank}
 use Rattle.cy_text.specs.Fields.{Fields}
-use Rattle.cy_text.specs.Form.{Reading, read, step, finish, read_text, unread}
+use Rattle.cy_text.specs.Form.{Reading, read, after_token, finish, read_text, unread}
 use Rattle.cy_msg.specs.Answer.{FailsWith}
 use Rattle.cy_text.specs.Fault.{fault_in}
 use Rattle.cy_text.specs.Tokens.{IsThere, begins_token, token_at, Tokens, Next, End, Faulty, tokens_from}
@@ -113,13 +113,13 @@ module _ (r : Reading) (place : ℕ) (text : List ℕ) (whole : Result Fields Fa
     next_read = rw tokens_next at reading
 
     -- the token may not stand there
-    pub step_fails : (failure : Failure) → FailsWith (fault_in failure) (step r lexeme) → FailsWith (fault_in failure) whole
+    pub step_fails : (failure : Failure) → FailsWith (fault_in failure) (after_token r lexeme) → FailsWith (fault_in failure) whole
     unfolding read
     step_fails failures.Memory failed = tt
     step_fails (failures.Fault f) failed = sym (rw failed at next_read)
 
     -- it may
-    pub stepped : (next : Reading) → step r lexeme ≡ Ok next → read next (tokens_from lexeme.span.end 0 (drop lexeme.span.end text)) ≡ whole
+    pub stepped : (next : Reading) → after_token r lexeme ≡ Ok next → read next (tokens_from lexeme.span.end 0 (drop lexeme.span.end text)) ≡ whole
     unfolding read
     stepped next e = rw e at next_read
 

@@ -226,8 +226,8 @@ after_string b slot bytes end lexeme = elim lexeme.token [
 ]
 
 -- One more token.
-unfoldable pub step : Reading → Lexeme → Result Reading Fault
-step r lexeme = elim r.next [
+unfoldable pub after_token : Reading → Lexeme → Result Reading Fault
+after_token r lexeme = elim r.next [
   | expect.Field after_field ↦ at_field r.building after_field lexeme
   | expect.AfterName slot ↦ after_name r.building slot lexeme
   | expect.AfterColon slot ↦ after_colon r.building slot lexeme
@@ -267,7 +267,7 @@ finish r at = elim r.next [
 
 -- The fields that tokens say, or their first fault.
 unfoldable pub read : Reading → Tokens → Result Fields Fault
-read r (Next lexeme more) = and_then (step r lexeme) (λ next. read next more)
+read r (Next lexeme more) = and_then (after_token r lexeme) (λ next. read next more)
 read r (End at) = finish r at
 read r (Faulty fault) = Err fault
 

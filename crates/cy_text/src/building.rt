@@ -4,7 +4,7 @@ ghost use Rattle.cy_text.specs.Entries.{held_of};
 ghost use Rattle.cy_text.specs.Form.{after_item, after_colon, after_name, after_sign, after_string};
 ghost use Rattle.cy_text.specs.Form.{after_value, all_closed, at_field, at_first_item, at_item};
 ghost use Rattle.cy_text.specs.Form.{at_message, at_value, begun, closed, ends_value, finish};
-ghost use Rattle.cy_text.specs.Form.{items_of, opened, placed, same_bracket, step, start_of};
+ghost use Rattle.cy_text.specs.Form.{items_of, opened, placed, same_bracket, after_token, start_of};
 ghost use Rattle.cy_msg.specs.Answer.{AnswersFault};
 ghost use Rattle.cy_text.specs.Fault.{fault_in};
 ghost use Rattle.cy_text.specs.Views.{view_building, view_reading};

@@ -2,7 +2,7 @@
 ghost use Rattle.std.specs.Prelude.{◌≡◌, Ok};
 ghost use Rattle.cy_text.specs.Form.{after_item, after_colon, after_name, after_sign, after_string};
 ghost use Rattle.cy_text.specs.Form.{after_value, all_closed, at_field, at_first_item, at_item};
-ghost use Rattle.cy_text.specs.Form.{at_message, at_value, ends_value, finish, placed, step};
+ghost use Rattle.cy_text.specs.Form.{at_message, at_value, ends_value, finish, placed, after_token};
 ghost use Rattle.cy_text.specs.Form.{unread};
 ghost use Rattle.cy_msg.specs.Answer.{AnswersFault};
 ghost use Rattle.cy_text.specs.Fault.{fault_in};
@@ -256,9 +256,10 @@ impl Reading {
     }
 
     /// One more token.
-    #[tactic(auto, unfolding(crate::specs::Form::step))]
-    pub(crate) fn step(self, alloc: Global, lexeme: Lexeme) -> Result<Reading, Failure>
-        ensures { AnswersFault fault_in view_reading result (step (view_reading self) lexeme) }
+    #[tactic(auto, unfolding(crate::specs::Form::after_token))]
+    pub(crate) fn after_token(self, alloc: Global, lexeme: Lexeme) -> Result<Reading, Failure>
+        ensures { AnswersFault fault_in view_reading result
+            (after_token (view_reading self) lexeme) }
     {
         let Reading { building, next } = self;
         match next {

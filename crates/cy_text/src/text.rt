@@ -25,7 +25,7 @@ fn read_text(alloc: Global, text: &[u8]) -> Result<Tree, Failure>
     while place < text.len() {
         let lexeme = token_at(alloc, place as u32, rest_from(text, place))?;
         let end = lexeme.span.end as usize;
-        reading = reading.step(alloc, lexeme)?;
+        reading = reading.after_token(alloc, lexeme)?;
         place = end + gap_len(rest_from(text, end));
     }
     reading.finish(alloc, place as u32)
@@ -33,7 +33,7 @@ fn read_text(alloc: Global, text: &[u8]) -> Result<Tree, Failure>
 
 // The line and the column of the byte at a place, or of the end of the text.
 #[tactic(auto, using(crate::proofs::Columns::next_column, crate::proofs::Columns::last_column))]
-fn place_of(text: &[u8], at: u32) -> (u32, u32)
+fn line_and_column(text: &[u8], at: u32) -> (u32, u32)
     requires { length text.now + 1 < 2 ^ 32 }
     ensures line { result.0 ≡ line_of text.now at }
     ensures column { result.1 ≡ column_of text.now at }
@@ -59,11 +59,11 @@ fn error_of(text: &[u8], fault: Fault) -> TextError
 {
     match fault {
         Fault::Bad(kind, at) => {
-            let (line, column) = place_of(text, at);
+            let (line, column) = line_and_column(text, at);
             TextError::Bad { line, column, kind }
         }
         Fault::TooDeep(at) => {
-            let (line, column) = place_of(text, at);
+            let (line, column) = line_and_column(text, at);
             TextError::TooDeep { line, column }
         }
     }

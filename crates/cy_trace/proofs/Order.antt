@@ -5,7 +5,7 @@ use Rattle.std.proofs.lemmas.List.Concat.{flat_map-append}
 use Rattle.std.proofs.lemmas.Option.{none-some, same_Some}
 use Rattle.std.specs.Option.{option_and_then}
 use Rattle.std.specs.List.{flat_map}
-use Rattle.cy_trace.specs.LineOrder.{step, finish, trace_with, with_components}
+use Rattle.cy_trace.specs.LineOrder.{after_line, finish, trace_with, with_components}
 use Rattle.cy_trace.specs.TraceForm.{AreLines, lines_of_component, lines_of_trace}
 use Rattle.cy_trace.specs.declared.trace.TraceCall.{TraceCall}
 use Rattle.cy_trace.specs.declared.trace.TraceComponent.{TraceComponent}
@@ -38,7 +38,7 @@ lines_so_far (Taped prefix es) = prefix_lines prefix ++ map Tape es
 
 abbrev pub run : Building → List Line → Option Building
 run b [] = Some b
-run b (l ∷ ls) = option_and_then (λ (c : Building). run c ls) (step b l)
+run b (l ∷ ls) = option_and_then (λ (c : Building). run c ls) (after_line b l)
 
 and_then_both : {A B C : Type 0} (f : B → Option C) (g : A → Option B) (o : Option A)
     → option_and_then f (option_and_then g o) ≡ option_and_then (λ (x : A). option_and_then f (g x)) o
@@ -52,8 +52,8 @@ and_then_same f g (Some x) h = h x
 pub run-append : (b : Building) (xs ys : List Line) → run b (xs ++ ys) ≡ option_and_then (λ (c : Building). run c ys) (run b xs)
 run-append b [] ys = refl
 run-append b (x ∷ xs) ys =
-    and_then_same (λ (c : Building). run c (xs ++ ys)) (λ (c : Building). option_and_then (λ (d : Building). run d ys) (run c xs)) (step b x) (λ c. run-append c xs ys)
-    ∙ sym (and_then_both (λ (d : Building). run d ys) (λ (c : Building). run c xs) (step b x))
+    and_then_same (λ (c : Building). run c (xs ++ ys)) (λ (c : Building). option_and_then (λ (d : Building). run d ys) (run c xs)) (after_line b x) (λ c. run-append c xs ys)
+    ∙ sym (and_then_both (λ (d : Building). run d ys) (λ (c : Building). run c xs) (after_line b x))
 
 map_push : {A B : Type 0} (f : A → B) (xs : List A) (x : A) → map f (xs ++ x ∷ []) ≡ map f xs ++ f x ∷ []
 map_push f [] x = refl
@@ -69,8 +69,8 @@ call_added : (prefix : List Line) (n : List ℕ) (rs : List ℕ) (xs : List Trac
 call_added prefix n rs xs x = rw (map_push Call xs x) (simp append_assoc)
 
 -- a line that may come next is one more of the lines so far
-pub step_adds : (b c : Building) (l : Line) → step b l ≡ Some c → lines_so_far c ≡ lines_so_far b ++ l ∷ []
-unfolding step
+pub step_adds : (b c : Building) (l : Line) → after_line b l ≡ Some c → lines_so_far c ≡ lines_so_far b ++ l ∷ []
+unfolding after_line
 step_adds Start c Title h = let e = same_Some Titled c h in rw (← e) refl
 step_adds Titled c (Played p s) h = let e = same_Some (Between (opened p s)) c h in rw (← e) refl
 step_adds (Between prefix) c (Component n) h = let e = same_Some (Named prefix n) c h in rw (← e) refl
@@ -90,7 +90,7 @@ step_adds _ c _ h = absurd (none-some c h)
 calls_run : (prefix : Prefix) (n rs : List ℕ) (xs ys : List TraceCall) (f : Bool) (i : ℕ) (rest : List Line)
     → run (Called prefix n rs xs) ((map Call ys ++ End f i ∷ []) ++ rest)
     ≡ run (Between (with_components prefix ((record { name = n; roles = rs; calls = xs ++ ys; finished = f; next = i }) ∷ []))) rest
-unfolding step
+unfolding after_line
 calls_run prefix n rs xs [] f i rest =
     ap (λ (zs : List TraceCall). run (Between (with_components prefix ((record { name = n; roles = rs; calls = zs; finished = f; next = i }) ∷ []))) rest) (sym (append-nil xs))
 calls_run prefix n rs xs (y ∷ ys) f i rest =
@@ -98,7 +98,7 @@ calls_run prefix n rs xs (y ∷ ys) f i rest =
     ∙ ap (λ (zs : List TraceCall). run (Between (with_components prefix ((record { name = n; roles = rs; calls = zs; finished = f; next = i }) ∷ []))) rest) (append_assoc xs (y ∷ []) ys)
 
 components_run : (prefix : Prefix) (ds : List TraceComponent) (rest : List Line) → run (Between prefix) (flat_map lines_of_component ds ++ rest) ≡ run (Between (with_components prefix ds)) rest
-unfolding step
+unfolding after_line
 components_run prefix [] rest = ap (λ (zs : List TraceComponent). run (Between (holding prefix zs)) rest) (sym (append-nil prefix.components))
 components_run prefix (d ∷ ds) rest =
     ap (run (Between prefix)) (append_assoc (lines_of_component d) (flat_map lines_of_component ds) rest)
@@ -107,7 +107,7 @@ components_run prefix (d ∷ ds) rest =
     ∙ ap (λ (zs : List TraceComponent). run (Between (holding prefix zs)) rest) (append_assoc prefix.components (d ∷ []) ds)
 
 tape_run : (prefix : Prefix) (es fs : List TapeEntry) → run (Taped prefix es) (map Tape fs) ≡ Some (Taped prefix (es ++ fs))
-unfolding step
+unfolding after_line
 tape_run prefix es [] = ap (λ (zs : List TapeEntry). Some (Taped prefix zs)) (sym (append-nil es))
 tape_run prefix es (f ∷ fs) = tape_run prefix (es ++ f ∷ []) fs ∙ ap (λ (zs : List TapeEntry). Some (Taped prefix zs)) (append_assoc es (f ∷ []) fs)
 
@@ -120,12 +120,12 @@ built t = elim t.tape [ [] ↦ Between (prefix_of t) | e ∷ es ↦ Taped (prefi
 
 end_run : (prefix : Prefix) (es : List TapeEntry)
     → run (Between prefix) (map Tape es) ≡ Some (built (trace_with prefix es))
-unfolding step
+unfolding after_line
 end_run prefix [] = refl
 end_run prefix (e ∷ es) = tape_run prefix (e ∷ []) es
 
 pub run_trace : (t : Trace) → run Start (lines_of_trace t) ≡ Some (built t)
-unfolding step
+unfolding after_line
 run_trace t = components_run (opened t.played t.shadowed) t.components (map Tape t.tape) ∙ end_run (prefix_of t) t.tape
 
 finish_by : (prefix : Prefix) (es : List TapeEntry)
@@ -178,35 +178,35 @@ continues (Called prefix n rs xs) =
 continues (Taped prefix es) = (trace_with prefix es, [], sym (append-nil (prefix_lines prefix ++ map Tape es)), tt)
 
 -- no other line may come next
-pub at_start : (l : Line) → (l ≡ Title → ⊥) → step Start l ≡ None
-unfolding step
+pub at_start : (l : Line) → (l ≡ Title → ⊥) → after_line Start l ≡ None
+unfolding after_line
 at_start Title h = absurd (h refl)
 at_start _ h = refl
 
-pub at_titled : (l : Line) → ((p s : ℕ) → l ≡ Played p s → ⊥) → step Titled l ≡ None
-unfolding step
+pub at_titled : (l : Line) → ((p s : ℕ) → l ≡ Played p s → ⊥) → after_line Titled l ≡ None
+unfolding after_line
 at_titled (Played p s) h = absurd (h p s refl)
 at_titled _ h = refl
 
-pub at_between : (prefix : Prefix) (l : Line) → ((n : List ℕ) → l ≡ Component n → ⊥) → ((e : TapeEntry) → l ≡ Tape e → ⊥) → step (Between prefix) l ≡ None
-unfolding step
+pub at_between : (prefix : Prefix) (l : Line) → ((n : List ℕ) → l ≡ Component n → ⊥) → ((e : TapeEntry) → l ≡ Tape e → ⊥) → after_line (Between prefix) l ≡ None
+unfolding after_line
 at_between prefix (Component n) h k = absurd (h n refl)
 at_between prefix (Tape e) h k = absurd (k e refl)
 at_between prefix _ h k = refl
 
-pub at_named : (prefix : Prefix) (n : List ℕ) (l : Line) → ((rs : List ℕ) → l ≡ Roles rs → ⊥) → step (Named prefix n) l ≡ None
-unfolding step
+pub at_named : (prefix : Prefix) (n : List ℕ) (l : Line) → ((rs : List ℕ) → l ≡ Roles rs → ⊥) → after_line (Named prefix n) l ≡ None
+unfolding after_line
 at_named prefix n (Roles rs) h = absurd (h rs refl)
 at_named prefix n _ h = refl
 
 pub at_called : (prefix : Prefix) (n rs : List ℕ) (xs : List TraceCall) (l : Line) → ((x : TraceCall) → l ≡ Call x → ⊥) → ((f : Bool) (i : ℕ) → l ≡ End f i → ⊥)
-    → step (Called prefix n rs xs) l ≡ None
-unfolding step
+    → after_line (Called prefix n rs xs) l ≡ None
+unfolding after_line
 at_called prefix n rs xs (Call x) h k = absurd (h x refl)
 at_called prefix n rs xs (End f i) h k = absurd (k f i refl)
 at_called prefix n rs xs _ h k = refl
 
-pub at_taped : (prefix : Prefix) (es : List TapeEntry) (l : Line) → ((e : TapeEntry) → l ≡ Tape e → ⊥) → step (Taped prefix es) l ≡ None
-unfolding step
+pub at_taped : (prefix : Prefix) (es : List TapeEntry) (l : Line) → ((e : TapeEntry) → l ≡ Tape e → ⊥) → after_line (Taped prefix es) l ≡ None
+unfolding after_line
 at_taped prefix es (Tape e) h = absurd (h e refl)
 at_taped prefix es _ h = refl

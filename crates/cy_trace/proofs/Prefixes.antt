@@ -8,7 +8,7 @@ use Rattle.std.specs.Option.{option_and_then}
 use Rattle.std.specs.List.{flat_map}
 use Rattle.cy_trace.specs.Cuts.{lacks, cut}
 use Rattle.cy_trace.specs.LineReading.{Gives, line_of}
-use Rattle.cy_trace.specs.LineOrder.{step, next, finish, error_at}
+use Rattle.cy_trace.specs.LineOrder.{after_line, next, finish, error_at}
 use Rattle.cy_trace.specs.declared.error.TraceError.{TraceError}
 use Rattle.cy_trace.specs.declared.error.TraceError.TheVariants as trace_error
 use Rattle.cy_trace.specs.declared.fault.Fault.{Fault}
@@ -174,7 +174,7 @@ module _ (bytes rest : List ℕ) (b : Building) (line : ℕ) (at : Reached bytes
       bad_next (text ++ 10 ∷ []) (cut_lines more) (ap cut_lines p.0 ∙ whole_cut text more p.1) (λ t l ls fits is same.
       let line_is : line_text l ≡ text = append_cancel_right (line_text l) text (10 ∷ []) is in
       let read : line_of text ≡ Some l = ap line_of (sym line_is) ∙ line_back l fits in
-      let stuck : step b l ≡ None = rw read at none in
+      let stuck : after_line b l ≡ None = rw read at none in
       let ran : run b (l ∷ ls) ≡ Some (built t) =
       sym (ap (option_and_then (λ (c : Building). run c (l ∷ ls))) at.reached) ∙ sym (run-append Start (lines_so_far b) (l ∷ ls)) ∙ ap (run Start) (sym same) ∙ run_trace t in
       none-some (built t) (rw stuck at ran))
@@ -183,7 +183,7 @@ module _ (bytes rest : List ℕ) (b : Building) (line : ℕ) (at : Reached bytes
   unfolding next
   stepped text more c cuts found =
       let p = cut_parts 10 rest (text, more) (sym cuts) in
-      let s = split_and_then (λ (l : Line). step b l) (line_of text) c found in
+      let s = split_and_then (λ (l : Line). after_line b l) (line_of text) c found in
       let l = s.0 in
       let spelled = line_spelled text l s.1 in
       let adds = step_adds b c l s.2 in

@@ -37,24 +37,25 @@ trace_with prefix tape = record {
 
 -- The title comes first, then the counts. A component is its name, its roles, its calls and its
 -- end. Once the tape has begun there is nothing else.
-unfoldable pub step : Building → Line → Option Building
-step Start Title = Some Titled
-step Titled (Played p s) = Some (Between (record { played = p; shadowed = s; components = [] }))
-step (Between prefix) (Component name) = Some (Named prefix name)
-step (Between prefix) (Tape entry) = Some (Taped prefix (entry ∷ []))
-step (Named prefix name) (Roles roles) = Some (Called prefix name roles [])
-step (Called prefix name roles calls) (Call call) = Some (Called prefix name roles (calls ++ call
-    ∷ []))
-step (Called prefix name roles calls) (End finished next) =
+unfoldable pub after_line : Building → Line → Option Building
+after_line Start Title = Some Titled
+after_line Titled (Played p s) =
+    Some (Between (record { played = p; shadowed = s; components = [] }))
+after_line (Between prefix) (Component name) = Some (Named prefix name)
+after_line (Between prefix) (Tape entry) = Some (Taped prefix (entry ∷ []))
+after_line (Named prefix name) (Roles roles) = Some (Called prefix name roles [])
+after_line (Called prefix name roles calls) (Call call) =
+    Some (Called prefix name roles (calls ++ call ∷ []))
+after_line (Called prefix name roles calls) (End finished next) =
     Some (Between (with_components prefix
     ((record { name = name; roles = roles; calls = calls; finished = finished; next = next })
     ∷ [])))
-step (Taped prefix tape) (Tape entry) = Some (Taped prefix (tape ++ entry ∷ []))
-step building line = None
+after_line (Taped prefix tape) (Tape entry) = Some (Taped prefix (tape ++ entry ∷ []))
+after_line building line = None
 
 -- The same, of a line's bytes.
 unfoldable pub next : Building → List ℕ → Option Building
-next building bytes = option_and_then (λ line. step building line) (line_of bytes)
+next building bytes = option_and_then (λ line. after_line building line) (line_of bytes)
 
 -- A trace may end behind its counts, behind a component, and behind a message of the tape.
 unfoldable pub finish : Building → Option Trace

@@ -1,7 +1,7 @@
 // A trace while its lines are read.
 ghost use Rattle.std.specs.Prelude.{◌≡◌, ◌++◌, ◌∷◌, [], Some};
 ghost use Rattle.cy_trace.specs.LineReading.{Gives};
-ghost use Rattle.cy_trace.specs.LineOrder.{finish, next, step, trace_with, with_components};
+ghost use Rattle.cy_trace.specs.LineOrder.{finish, next, after_line, trace_with, with_components};
 ghost use Rattle.cy_trace.specs.declared.building.Building.TheVariants as building;
 
 use crate::fault::Fault;
@@ -124,9 +124,9 @@ impl Prefix {
 // What a line is behind each of those before it. Where it may not come next, all is given back by
 // calls: at the end of a scope each part would be taken on its own.
 
-#[tactic(auto, unfolding(crate::specs::LineOrder::step))]
+#[tactic(auto, unfolding(crate::specs::LineOrder::after_line))]
 fn behind_none(line: Line) -> Result<Building, Fault>
-    ensures { Gives result (step building.Start line) }
+    ensures { Gives result (after_line building.Start line) }
 {
     match line {
         Line::Title => Ok(Building::Titled),
@@ -137,9 +137,9 @@ fn behind_none(line: Line) -> Result<Building, Fault>
     }
 }
 
-#[tactic(auto, unfolding(crate::specs::LineOrder::step))]
+#[tactic(auto, unfolding(crate::specs::LineOrder::after_line))]
 fn behind_title(alloc: Global, line: Line) -> Result<Building, Fault>
-    ensures { Gives result (step building.Titled line) }
+    ensures { Gives result (after_line building.Titled line) }
 {
     match line {
         Line::Played(played, shadowed) => Ok(Building::Between(Prefix {
@@ -154,9 +154,9 @@ fn behind_title(alloc: Global, line: Line) -> Result<Building, Fault>
     }
 }
 
-#[tactic(auto, unfolding(crate::specs::LineOrder::step))]
+#[tactic(auto, unfolding(crate::specs::LineOrder::after_line))]
 fn behind_component(alloc: Global, prefix: Prefix, line: Line) -> Result<Building, Fault>
-    ensures { Gives result (step (building.Between prefix) line) }
+    ensures { Gives result (after_line (building.Between prefix) line) }
 {
     match line {
         Line::Component(name) => Ok(Building::Named(prefix, name)),
@@ -169,9 +169,9 @@ fn behind_component(alloc: Global, prefix: Prefix, line: Line) -> Result<Buildin
     }
 }
 
-#[tactic(auto, unfolding(crate::specs::LineOrder::step))]
+#[tactic(auto, unfolding(crate::specs::LineOrder::after_line))]
 fn behind_name(alloc: Global, prefix: Prefix, name: Text, line: Line) -> Result<Building, Fault>
-    ensures { Gives result (step (building.Named prefix name) line) }
+    ensures { Gives result (after_line (building.Named prefix name) line) }
 {
     match line {
         Line::Roles(roles) => Ok(Building::Called(prefix, name, roles, none(alloc))),
@@ -184,7 +184,7 @@ fn behind_name(alloc: Global, prefix: Prefix, name: Text, line: Line) -> Result<
     }
 }
 
-#[tactic(auto, unfolding(crate::specs::LineOrder::step))]
+#[tactic(auto, unfolding(crate::specs::LineOrder::after_line))]
 fn behind_call(
     prefix: Prefix,
     name: Text,
@@ -192,7 +192,7 @@ fn behind_call(
     calls: Items<TraceCall>,
     line: Line,
 ) -> Result<Building, Fault>
-    ensures { Gives result (step (building.Called prefix name roles calls) line) }
+    ensures { Gives result (after_line (building.Called prefix name roles calls) line) }
 {
     match line {
         Line::Call(call) => prefix.called(name, roles, calls, call),
@@ -217,9 +217,9 @@ fn behind_call(
     }
 }
 
-#[tactic(auto, unfolding(crate::specs::LineOrder::step))]
+#[tactic(auto, unfolding(crate::specs::LineOrder::after_line))]
 fn behind_message(prefix: Prefix, tape: Items<TapeEntry>, line: Line) -> Result<Building, Fault>
-    ensures { Gives result (step (building.Taped prefix tape) line) }
+    ensures { Gives result (after_line (building.Taped prefix tape) line) }
 {
     match line {
         Line::Tape(entry) => prefix.taped(tape, entry),
@@ -234,8 +234,8 @@ fn behind_message(prefix: Prefix, tape: Items<TapeEntry>, line: Line) -> Result<
 
 impl Building {
     // The same with one more line, where it may come next.
-    fn step(self, alloc: Global, line: Line) -> Result<Building, Fault>
-        ensures { Gives result (step self line) }
+    fn after_line(self, alloc: Global, line: Line) -> Result<Building, Fault>
+        ensures { Gives result (after_line self line) }
     {
         match self {
             Building::Start => behind_none(line),
@@ -255,7 +255,7 @@ impl Building {
         ensures { Gives result (next self bytes.now) }
     {
         match line_of(alloc, bytes) {
-            Ok(line) => self.step(alloc, line),
+            Ok(line) => self.after_line(alloc, line),
             Err(fault) => {
                 drop(self);
                 Err(fault)

@@ -1,7 +1,7 @@
 use Rattle.std.proofs.lemmas.List.{take_all}
 use Rattle.std.proofs.Common.{map, List, ◌++◌, ap, ◌∙◌}
 use Rattle.cy_dag.specs.declared.dag.DagReader.{DagReader}
-use Rattle.cy_dag.proofs.Loops.{shown_more}
+use Rattle.cy_config.proofs.Loops.{shown_more}
 use Rattle.cy_dag.proofs.channels.push_readers.Goals as goal
 
 pub loop-reader-preserved : goal.loop-reader-preserved

@@ -1,6 +1,6 @@
 use Rattle.std.proofs.lemmas.List.{take_all}
 use Rattle.std.proofs.Common.{map, List, ℕ, ◌++◌, ap, ◌∙◌}
-use Rattle.cy_dag.proofs.Loops.{shown_one}
+use Rattle.cy_config.proofs.Loops.{shown_one}
 use Rattle.cy_dag.proofs.channels.push_record.Goals as goal
 
 pub loop-channel-preserved : goal.loop-channel-preserved

@@ -1,5 +1,5 @@
 use Rattle.cy_dag.specs.DagFile.{reader_of}
-use Rattle.cy_dag.proofs.Loops.{mapped_more}
+use Rattle.cy_config.proofs.Loops.{mapped_more}
 use Rattle.cy_dag.proofs.component.readers.Goals as goal
 
 pub loop-fields-preserved : goal.loop-fields-preserved

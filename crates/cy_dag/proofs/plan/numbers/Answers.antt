@@ -1,7 +1,7 @@
 use Rattle.std.proofs.lemmas.List.{take_all}
 use Rattle.std.proofs.Common.{List, ℕ, ap, ◌∙◌, map}
 use Rattle.cy_dag.specs.Wiring.{number_in}
-use Rattle.cy_dag.proofs.Loops.{pushed_more}
+use Rattle.cy_config.proofs.Loops.{pushed_more}
 use Rattle.cy_dag.specs.declared.dag.DagReader.{DagReader}
 use Rattle.cy_dag.proofs.plan.numbers.Goals as goal
 

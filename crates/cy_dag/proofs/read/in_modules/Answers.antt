@@ -2,7 +2,7 @@ use Rattle.std.specs.List.{flat_map}
 use Rattle.std.proofs.Common.{Bor, List, map, ap, ◌∙◌}
 use Rattle.std.proofs.lemmas.List.{take_all}
 use Rattle.cy_config.specs.Lookups.{messages_under}
-use Rattle.cy_dag.proofs.Loops.{gathered_more}
+use Rattle.cy_config.proofs.Loops.{gathered_more}
 use Rattle.cy_text.specs.Fields.{Fields}
 use Rattle.cy_dag.proofs.read.in_modules.Goals as goal
 

@@ -1,7 +1,7 @@
 use Rattle.std.proofs.Common.{refl}
 use Rattle.std.proofs.lemmas.Result.{err_from_is_err_and}
 use Rattle.cy_dag.specs.DagFile.{component_of}
-use Rattle.cy_dag.proofs.Loops.{mapped_more}
+use Rattle.cy_config.proofs.Loops.{mapped_more}
 use Rattle.cy_dag.proofs.Tested.{accepted_one, refused_one, all_accepted, all_made}
 use Rattle.cy_dag.proofs.read.tested_components.Goals as goal
 

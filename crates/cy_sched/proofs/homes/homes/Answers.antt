@@ -1,6 +1,6 @@
 use Rattle.std.proofs.Common.{List, ℕ, ap, ◌∙◌}
 use Rattle.cy_sched.specs.Placing.{home_of}
-use Rattle.cy_sched.proofs.Loops.{pushed_more}
+use Rattle.cy_config.proofs.Loops.{pushed_more}
 use Rattle.cy_sched.proofs.homes.homes.Goals as goal
 
 pub loop-name-preserved : goal.loop-name-preserved

@@ -1,4 +1,4 @@
-use Rattle.cy_sched.proofs.Loops.{copied_more}
+use Rattle.cy_config.proofs.Loops.{copied_more}
 use Rattle.cy_sched.proofs.placing.numbers.Goals as goal
 
 pub loop-rank-preserved : goal.loop-rank-preserved

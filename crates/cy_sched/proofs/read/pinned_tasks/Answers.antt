@@ -1,5 +1,5 @@
 use Rattle.cy_sched.specs.SchedFile.{pin_task_of}
-use Rattle.cy_sched.proofs.Loops.{mapped_more}
+use Rattle.cy_config.proofs.Loops.{mapped_more}
 use Rattle.cy_sched.proofs.read.pinned_tasks.Goals as goal
 
 pub loop-fields-preserved : goal.loop-fields-preserved

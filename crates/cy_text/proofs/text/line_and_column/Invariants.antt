@@ -1,6 +1,6 @@
 use Rattle.std.proofs.Common.{◌≡◌, ◌≤◌, ◌+◌, ◌==◌, count_by, take, drop}
 use Rattle.cy_text.specs.Places.{column_behind, column_of}
-use Rattle.cy_text.proofs.text.place_of.Given as goal
+use Rattle.cy_text.proofs.text.line_and_column.Given as goal
 
 abbrev pub invariant-loop-byte : goal.invariant-loop-byte
 invariant-loop-byte l = record {

@@ -29,6 +29,10 @@ pushed_more {A} {B} f xs k x ys zs y there here before is pushed =
     let front : take (k + 1) xs ≡ take k xs ++ x ∷ [] = take_more xs k x there ∙ ap (λ (e : A). take k xs ++ e ∷ []) (sym here) in
     rw (pushed, before, is, front, map-append f (take k xs) (x ∷ [])) refl
 
+-- The same where an item that is missing would be another one.
+pub copied_more : {A B : Type 0} (f : A → B) (xs : List A) (k : ℕ) (d : A) (ys zs : List B) → k < length xs → ys ≡ map f (take k xs) → zs ≡ ys ++ f (get_or xs k d) ∷ [] → zs ≡ map f (take (k + 1) xs)
+copied_more f xs k d ys zs there before pushed = rw (pushed, before, take_more xs k d there, map-append f (take k xs) (get_or xs k d ∷ [])) refl
+
 -- The same of a list of references, behind what stood there.
 pub shown_more : {A B : Type 0} (f : A → B) (xs : List A) (k : ℕ) (x : A) (base : List B) (ys zs : List (Bor B)) (y : Bor B) → k < length xs → x ≡ get_or xs k x
     → map (λ m. m.now) ys ≡ base ++ map f (take k xs) → y.now ≡ f x → zs ≡ ys ++ y ∷ [] → map (λ m. m.now) zs ≡ base ++ map f (take (k + 1) xs)
