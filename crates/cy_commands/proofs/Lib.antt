@@ -1,7 +1,5 @@
 pub mod AskedShort
 pub mod CheckExits
-pub mod Commas
-pub mod DoneLine
 pub mod InfoExits
 pub mod MakeExits
 pub mod OneDue

@@ -1,14 +1,13 @@
 -- A replay that was played, and what is told of it.
-use Rattle.std.proofs.Common.{ℕ, zero, suc, Bool, true, false, ◌+◌, ◌*◌, ◌≡◌, ◌≤◌, ◌<◌, None, List, [], ◌∷◌, length, drop, refl, sym, ap, subst, ◌∙◌, arith}
+use Rattle.std.proofs.Common.{ℕ, Bool, true, false, ◌≡◌, ◌≤◌, List, length, ap, subst, ◌∙◌, arith}
 use Rattle.cy_msg.specs.Placement.{scan_of}
 use Rattle.cy_request.specs.declared.filter.Filter.{Filter}
-use Rattle.cy_comp.specs.declared.plan.Plan.{Plan}
 use Rattle.wake_core.specs.Bounds.{PlaceLaws}
 use Rattle.wake_core.specs.LawfulRun.{LawfulRun}
 use Rattle.wake_core.specs.Plain.{Plain, opening_world}
 use Rattle.wake_core.specs.Planned.{planned}
 use Rattle.wake_core.specs.Rest.{run_shown}
-use Rattle.wake_core.specs.Run.{Run, routes_of}
+use Rattle.wake_core.specs.Run.{routes_of}
 use Rattle.wake_core.specs.Serial.{SerialRun}
 use Rattle.wake_core.specs.WorldCalls.{IsTooMany}
 use Rattle.wake_core.specs.declared.entries.TheConstants.{MOST_PLANNED}
@@ -21,7 +20,6 @@ use Rattle.cy_replay.specs.declared.setup.Replay.{Replay}
 use Rattle.cy_trace.specs.TraceForm.{IsTraceText}
 use Rattle.cy_commands.specs.PlayEnds.{HasRun, source_by}
 use Rattle.cy_commands.specs.PlayWork.{IsRunOf, run_trace}
-use Rattle.cy_commands.specs.Summary.{calls_from}
 use Rattle.cy_commands.proofs.Taped.{lawful_origins}
 
 -- no more is planned than a world keeps
@@ -70,21 +68,3 @@ has_run serial f x first new places stand s opens run lawful stays reads =
       };
       read_back = reads (planned_as x new lawful.wired counts s.limited);
     }
-
--- the calls so far, and those of the components that follow
-pub record CallsSoFar (run : Run) (plans : List Plan) (component count : ℕ) : Type 0 where
-  pub few : count ≤ component * 72057594037927936
-  pub so_far : count + calls_from run component (drop component plans) ≡ calls_from run 0 plans
-
-calls_step : (run : Run) (plans : List Plan) (n component : ℕ) → n < length plans → calls_from run component (drop n plans) ≡ length (run.calls component) + calls_from run (component + 1) (drop (suc n) plans)
-calls_step run [] n component inside = absurd (omega arith)
-calls_step run (p ∷ plans) zero component inside = refl
-calls_step run (p ∷ plans) (suc n) component inside = calls_step run plans n component (omega arith)
-
-pub calls_more : (run : Run) (plans : List Plan) (component count here : ℕ) → CallsSoFar run plans component count → component < length plans → here ≡ length (run.calls component) → here ≤ 72057594037927936 → CallsSoFar run plans (component + 1) (count + here)
-calls_more run plans component count here c inside is small =
-    let few = c.few in
-    let so_far = c.so_far in
-    let next : component + 1 ≡ suc component = omega arith in
-    let step = calls_step run plans component component inside ∙ ap (λ (n : ℕ). length (run.calls component) + calls_from run (component + 1) (drop n plans)) (sym next) in
-    record { few = omega (arith, few, small); so_far = omega (arith, so_far, step, is) }

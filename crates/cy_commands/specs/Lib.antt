@@ -12,6 +12,5 @@ pub mod PlayEnds
 pub mod PlayWork
 pub mod Refused
 pub mod Status
-pub mod Summary
 pub mod Unset
 pub mod Work

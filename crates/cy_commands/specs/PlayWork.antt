@@ -27,7 +27,7 @@ use Rattle.cy_recording.specs.Recording.{Source, channels_of_tape, messages_of_t
 use Rattle.cy_replay.specs.Setup.{Replayed, replay_in}
 use Rattle.cy_commands.specs.Work.{Work}
 use Rattle.cy_words.specs.PlayWords.{PlayWords}
-use Rattle.cy_commands.specs.Summary.{calls_from, done_line}
+use Rattle.cy_trace.specs.Summary.{calls_from, summary_line}
 
 -- The files are read and judged in the order of refusals.
 abbrev pub replayed_in : PlayWords → Files → Reads Refusal Replayed
@@ -56,7 +56,7 @@ play_writes w s shadowed run =
     ++ file_writes w.trace ((0, run_trace s shadowed run) ∷ [])
 
 abbrev pub play_line : Source → PlayList → Run → List ℕ
-play_line s list run = done_line (length list.tokens) list.shadowed (calls_from run 0 s.plans)
+play_line s list run = summary_line (length list.tokens) list.shadowed (calls_from run 0 s.plans)
     (length run.tape)
 
 -- The run that a world shows is the serial one, where that is asked for; on threads it may be any.

@@ -18,7 +18,6 @@ mod line;
 mod make;
 mod play;
 mod status;
-mod summary;
 mod unset;
 
 pub use alone::due_of;

@@ -1,5 +1,5 @@
 // The commands `play` and `pass` on one thread.
-ghost use Rattle.std.specs.Prelude.{◌≡◌, ◌≤◌, ◌<◌, ℕ, length, map, Ok, IfOk, OnOk, IsErrOf};
+ghost use Rattle.std.specs.Prelude.{◌≡◌, ◌≤◌, ◌<◌, ℕ, length, Ok, IfOk, OnOk, IsErrOf};
 ghost use Rattle.std.specs.Prelude.{IsOkUnless};
 ghost use Rattle.std.specs.Option.{option_map};
 ghost use Rattle.cy_store.specs.Store.{StoreView, WriteRose};
@@ -22,22 +22,20 @@ ghost use Rattle.cy_commands.specs.Line.{bytes_of_line};
 ghost use Rattle.cy_commands.specs.PlayEnds.{SetsUp, HasRun, IsDueAfterPlay, IsTold, IsLine};
 ghost use Rattle.cy_commands.specs.PlayEnds.{name_of_play, unwritten, writes_by};
 ghost use Rattle.cy_words.specs.PlayViews.{play_words_of};
-ghost use Rattle.cy_words.specs.PlayWords.{names_in};
 ghost use Rattle.cy_commands.specs.PlayWork.{replayed_in};
-ghost use Rattle.cy_commands.specs.Summary.{calls_from, done_line as line_of};
+ghost use Rattle.cy_trace.specs.Summary.{calls_from, summary_line as line_of};
 
 use crate::due::{Due, out_of_memory, store_failed};
 use crate::failure::{Failure, File};
 use crate::line::Line;
 use crate::status::Status;
-use crate::summary::done_line;
-use cy_comp::{Plan, Wiring};
-use cy_msg::{Bytes, Items, Text};
+use cy_comp::Wiring;
+use cy_msg::Bytes;
 use cy_recording::{Played, played_places_are_there, write_record};
 use cy_replay::{Replay, SetupError, set_up};
-use cy_request::{Filter, Request};
+use cy_request::Request;
 use cy_store::Store;
-use cy_trace::{TraceError, calls_of, trace_is_read_back, trace_text};
+use cy_trace::{TraceError, summary_line, trace_is_read_back, trace_text};
 use cy_words::Play;
 use cy_writer::{WriteError, write_file};
 use std::alloc::{AllocError, Global};
@@ -48,68 +46,6 @@ use wake_core::{CoreError, World, laws, serial};
 struct Told {
     trace: Bytes,
     line: Bytes,
-}
-
-// The parts of a list.
-fn parts_of<'a>(alloc: Global, list: &'a str) -> Result<Vec<&'a str>, AllocError>
-    ensures { IfOk result (λ parts. map (λ part. part.now) parts.items ≡ names_in list.now) }
-{
-    let bytes = list.as_bytes();
-    let mut parts = Vec::new(alloc);
-    let mut start = 0;
-    for (place, byte) in bytes.iter().enumerate() {
-        if *byte != b',' {
-            continue;
-        }
-        parts.push(&list[start..place])?;
-        start = place + 1;
-    }
-    parts.push(&list[start..])?;
-    Ok(parts)
-}
-
-// The names of a list.
-fn names_of(alloc: Global, list: &str) -> Result<Items<Text>, SetupError>
-    ensures names { IfOk result (λ names. names ≡ names_in list.now) }
-    ensures only_memory { IsOkUnless result SetupError.Memory }
-{
-    let parts = parts_of(alloc, list)?;
-    let mut names = Vec::with_capacity(alloc, parts.len())?;
-    for part in &parts {
-        names.push(Text::new(alloc, part)?)?;
-    }
-    Ok(Items::new(names))
-}
-
-// The names of a list, where there is one.
-fn names_or_none(alloc: Global, list: Option<&str>) -> Result<Option<Items<Text>>, SetupError>
-    ensures names { IfOk result (λ names. names
-        ≡ option_map (λ l. names_in l.now) list.entry) }
-    ensures only_memory { IsOkUnless result SetupError.Memory }
-{
-    match list {
-        Some(list) => Ok(Some(names_of(alloc, list)?)),
-        None => Ok(None),
-    }
-}
-
-// Which messages the words let through.
-fn filter_of(alloc: Global, play: &Play) -> Result<Filter, SetupError>
-    ensures filter { IfOk result (λ f. f ≡ (play_words_of play.now).request.filter) }
-    ensures only_memory { IsOkUnless result SetupError.Memory }
-{
-    let only = names_or_none(alloc, play.only)?;
-    let drop = match names_or_none(alloc, play.drop)? {
-        Some(names) => names,
-        None => Items::new(Vec::new(alloc)),
-    };
-    let (begin, end) = (play.begin, play.end);
-    Ok(Filter {
-        only,
-        drop,
-        begin,
-        end,
-    })
 }
 
 /// Reads the files, and sets up what is played.
@@ -124,7 +60,7 @@ pub(crate) fn read_files<S: Store>(
         (S.shows store.old) (S.shows store.new) result }
     ensures set_up { IfOk result (IsSetUp (play_words_of play.now).request.filter) }
 {
-    let filter = filter_of(alloc, play)?;
+    let filter = play.filter(alloc)?;
     let request = Request {
         components: play.components,
         input: play.input,
@@ -162,20 +98,6 @@ pub fn played_world(alloc: Global, play: &Play, replay: &Replay) -> Result<World
     Ok(world)
 }
 
-// How many calls there were.
-fn calls_in(world: &World, plans: &[Plan]) -> u64
-    requires quiet { Quiet (plain_of world.now) }
-    requires routes { (plain_of world.now).routes ≡ routes_of plans.now }
-    requires few { length plans.now ≤ 64 }
-    ensures { result ≡ calls_from (run_shown (plain_of world.now)) 0 plans.now }
-{
-    let mut count = 0;
-    for component in 0..plans.len() {
-        count += calls_of(world, component as u32).len() as u64;
-    }
-    count
-}
-
 // The wiring of a replay. All else is given back: the text of the trace may have the room of the
 // record that was read and of the play list.
 fn wiring_of(replay: Replay) -> Wiring
@@ -202,7 +124,6 @@ fn tell_wired(alloc: Global, wiring: &Wiring, shadowed: u32, world: &World) -> R
     requires quiet { Quiet (plain_of world.now) }
     requires routes { (plain_of world.now).routes ≡ routes_of wiring.now.plans }
     requires channels { length (plain_of world.now).counts ≡ length wiring.now.names }
-    requires few { length wiring.now.plans ≤ 64 }
     ensures trace { IfOk result (λ told. told.trace
         ≡ text_of wiring.now.names wiring.now.plans shadowed (run_shown (plain_of world.now))) }
     ensures line { IfOk result (λ told. told.line
@@ -216,9 +137,14 @@ fn tell_wired(alloc: Global, wiring: &Wiring, shadowed: u32, world: &World) -> R
         Err(TraceError::Memory) => return Err(Failure::Memory),
         Err(TraceError::Bad { .. }) => unreachable!(),
     };
-    let calls = calls_in(world, wiring.plans.as_slice());
-    let written = world.tape_list().len() as u64;
-    let line = done_line(alloc, world.played(), shadowed, calls, written)?;
+    let line = match summary_line(alloc, world, wiring, shadowed) {
+        Ok(line) => line,
+        Err(TraceError::Memory) => {
+            drop(trace);
+            return Err(Failure::Memory);
+        }
+        Err(TraceError::Bad { .. }) => unreachable!(),
+    };
     Ok(Told { trace, line })
 }
 

@@ -1,3 +1,4 @@
+pub mod CallCounts
 pub mod CutLaws
 pub mod Prefixes
 pub mod Pushed
@@ -13,6 +14,7 @@ pub mod RunFits
 pub mod RunTexts
 pub mod StepSuits
 pub mod Starts
+pub mod SummaryLine
 pub mod TextRead
 pub mod Gathered
 pub mod Pages

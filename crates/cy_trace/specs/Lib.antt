@@ -3,6 +3,7 @@ pub mod Laws
 pub mod LineOrder
 pub mod LineReading
 pub mod Numerals
+pub mod Summary
 pub mod TraceForm
 pub mod TraceOfRun
 pub mod TraceText

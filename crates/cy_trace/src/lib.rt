@@ -15,6 +15,7 @@ mod numeral;
 mod page;
 mod read;
 mod start;
+mod summary;
 mod text;
 mod trace;
 mod typed;
@@ -25,6 +26,7 @@ pub use laws::{
     first_bad_is_one, lines_read_back, runs_are_read_back, runs_are_traces, texts_tell_traces,
 };
 pub use read::read_trace;
-pub use text::{calls_of, trace_text};
+pub use summary::summary_line;
+pub use text::trace_text;
 pub use trace::{TapeEntry, Trace, TraceCall, TraceComponent, TraceOutput};
 pub use typed::trace_is_read_back;

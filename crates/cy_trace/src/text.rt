@@ -103,7 +103,7 @@ fn push_numbered(
 
 /// The calls of a component of a world whose run has come to its end. Nobody holds a croutine
 /// there, so none of them is still to be stepped.
-pub fn calls_of(world: &World, component: u32) -> &[Call]
+pub(crate) fn calls_of(world: &World, component: u32) -> &[Call]
     requires quiet { Quiet (plain_of world.now) }
     requires known { component < length (plain_of world.now).routes }
     ensures { result.now ≡ (plain_of world.now).calls component }

@@ -4,6 +4,7 @@ pub mod ClapLevel
 pub mod ClapOptions
 pub mod ClapProgram
 pub mod ClapWalk
+pub mod Commas
 pub mod InForm
 pub mod Named
 pub mod OptionsRead

@@ -7,6 +7,7 @@
 mod check_words;
 mod command_words;
 mod error;
+mod filter;
 mod laws;
 mod machine;
 mod make_words;

@@ -1,8 +1,8 @@
 use Rattle.std.proofs.Common.{rules, ◌≤◌, length, ap}
 use Rattle.wake_core.specs.Rest.{run_shown}
 use Rattle.wake_core.specs.WorldOf.{plain_of}
-use Rattle.cy_commands.proofs.PlayRuns.{calls_more}
-use Rattle.cy_commands.proofs.play.calls_in.Goals as goal
+use Rattle.cy_trace.proofs.CallCounts.{calls_more}
+use Rattle.cy_trace.proofs.summary.calls_in.Goals as goal
 
 pub loop-component-preserved : goal.loop-component-preserved
 loop-component-preserved c =

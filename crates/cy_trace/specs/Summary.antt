@@ -1,4 +1,4 @@
--- The line that tells what was done.
+-- The line that tells what a run came to.
 use Rattle.std.specs.Prelude.{ℕ, ◌+◌, List, [], ◌∷◌, ◌++◌, length, codes}
 use Rattle.std.specs.Fmt.{decimal}
 use Rattle.cy_comp.specs.declared.plan.Plan.{Plan}
@@ -11,8 +11,8 @@ calls_from run component (p ∷ rest) =
     length (run.calls component) + calls_from run (component + 1) rest
 
 -- The line with the numbers of a run.
-abbrev pub done_line : (played shadowed calls written : ℕ) → List ℕ
-done_line played shadowed calls written =
+abbrev pub summary_line : (played shadowed calls written : ℕ) → List ℕ
+summary_line played shadowed calls written =
     codes "done: played " ++ decimal played ++ codes ", shadowed " ++ decimal shadowed
     ++ codes ", calls " ++ decimal calls
     ++ codes ", written " ++ decimal written ++ codes "\n"

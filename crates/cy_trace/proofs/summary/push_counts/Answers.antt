@@ -1,5 +1,5 @@
-use Rattle.cy_commands.proofs.DoneLine.{done_line-parts}
-use Rattle.cy_commands.proofs.summary.push_counts.Goals as goal
+use Rattle.cy_trace.proofs.SummaryLine.{summary_line-parts}
+use Rattle.cy_trace.proofs.summary.push_counts.Goals as goal
 
 pub returns : goal.returns
 returns c =
@@ -12,4 +12,4 @@ returns c =
       c.from.ensures,
       c.from-2.ensures,
     )
-    (done_line-parts c.args.to.now.items c.args.played c.args.shadowed c.args.calls c.args.written)
+    (summary_line-parts c.args.to.now.items c.args.played c.args.shadowed c.args.calls c.args.written)
