@@ -17,7 +17,7 @@ pub struct Due<'a> {
 }
 
 /// There is no memory.
-pub fn out_of_memory<'a>() -> Due<'a>
+pub(crate) fn out_of_memory<'a>() -> Due<'a>
     ensures status { result.status ≡ Status.Memory }
     ensures line { bytes_of_line result.line ≡ memory_line }
 {

@@ -22,7 +22,7 @@ mod unset;
 
 pub use alone::due_of;
 pub use begun::{Begun, begin};
-pub use due::{Due, out_of_memory};
+pub use due::Due;
 pub use fault_text::OUTPUT_LINE;
 pub use laws::asked_texts_are_short;
 pub use line::Line;

@@ -227,21 +227,29 @@ fn due_after<'a>(play: &Play<'a>, failure: Failure) -> Due<'a>
     }
 }
 
-/// What is due once a replay that was set up was played: its record and its trace are written.
+/// What is due once a replay that was set up was played, where there was memory for it: its record
+/// and its trace are written.
 pub fn due_played<'a, S: Store>(
     alloc: Global,
     store: &mut S,
     play: &Play<'a>,
     replay: Replay,
-    world: &World,
+    played: Result<World, AllocError>,
 ) -> Due<'a>
     requires set_up { IsSetUp (play_words_of play.now).request.filter replay }
-    requires run { HasRun (play_words_of play.now).serial replay (plain_of world.now) }
+    requires run { IfOk played (λ w. HasRun (play_words_of play.now).serial replay
+        (plain_of w)) }
     ensures { (before : StoreView) → SetsUp (play_words_of play.now) before (S.shows store.old)
         (Ok replay) → IsDueFor (command.Play (play_words_of play.now)) before
         (S.shows store.new) result.status (bytes_of_line result.line) }
 {
-    match write_both(alloc, store, play, replay, world) {
+    let Ok(world) = played else {
+        drop(replay);
+        return out_of_memory();
+    };
+    let written = write_both(alloc, store, play, replay, &world);
+    drop(world);
+    match written {
         Ok(line) => Due {
             status: Status::Done,
             line: Line::Made(line),
@@ -262,11 +270,6 @@ pub(crate) fn due_played_alone<'a, S: Store>(
         (Ok replay) → IsDueFor (command.Play (play_words_of play.now)) before
         (S.shows store.new) result.status (bytes_of_line result.line) }
 {
-    let Ok(world) = played_world(alloc, play, &replay) else {
-        drop(replay);
-        return out_of_memory();
-    };
-    let due = due_played(alloc, store, play, replay, &world);
-    drop(world);
-    due
+    let played = played_world(alloc, play, &replay);
+    due_played(alloc, store, play, replay, played)
 }

@@ -9,7 +9,7 @@ ghost use Rattle.cy_commands.specs.Line.{bytes_of_line};
 ghost use Rattle.cy_commands.specs.PlayEnds.{HasRun, SetsUp};
 ghost use Rattle.cy_words.specs.PlayViews.{play_words_of};
 
-use cy_commands::{Due, due_played, opening, out_of_memory, played_world};
+use cy_commands::{Due, due_played, opening, played_world};
 use cy_recording::played_places_are_there;
 use cy_replay::Replay;
 use cy_run::{Gate, run_threads};
@@ -79,11 +79,6 @@ pub fn due_played_with_threads<'a, S: Store, G: Gate, R: Threads + Wait + Sync>(
         (Ok replay) → IsDueFor (command.Play (play_words_of play.now)) before
         (S.shows store.new) result.status (bytes_of_line result.line) }
 {
-    let Ok(world) = world_as_asked(rt, alloc, play, &replay, gate) else {
-        drop(replay);
-        return out_of_memory();
-    };
-    let due = due_played(alloc, store, play, replay, &world);
-    drop(world);
-    due
+    let played = world_as_asked(rt, alloc, play, &replay, gate);
+    due_played(alloc, store, play, replay, played)
 }

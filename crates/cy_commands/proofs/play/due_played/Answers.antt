@@ -5,7 +5,7 @@ use Rattle.cy_commands.proofs.play.due_played.Goals as goal
 
 pub returns-in-Ok : goal.returns-in-Ok
 returns-in-Ok g c = λ before came.
-    done (play_words_of c.args.play.now) c.args.replay (plain_of c.args.world.now) before _ _ c.in-Ok.line came c.requires.set_up c.requires.run c.in-Ok.ensures.done c.in-Ok.ensures.line
+    done (play_words_of c.args.play.now) c.args.replay (plain_of c.in-Ok.world) before _ _ c.in-Ok.line came c.requires.set_up c.requires.run c.in-Ok.ensures.done c.in-Ok.ensures.line
 
 pub returns-in-Err : goal.returns-in-Err
 returns-in-Err g c = λ before came.
