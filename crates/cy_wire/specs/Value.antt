@@ -1,5 +1,6 @@
--- Where the bytes of a value end, and how many are taken.
-use Rattle.std.specs.Prelude.{ℕ, ◌+◌, ◌<◌, ◌≤◌, ◌^◌, List, length}
+-- What is read at the front of bytes: where the bytes of a value end, how many are taken, and what
+-- is answered.
+use Rattle.std.specs.Prelude.{ℕ, ◌≡◌, ◌+◌, ◌<◌, ◌≤◌, ◌^◌, List, length, Result, Ok, Err}
 use Rattle.cy_wire.specs.declared.field.FieldValue.{FieldValue}
 use Rattle.cy_wire.specs.declared.field.FieldValue.TheVariants.{Varint, Eight, Bytes, Four}
 
@@ -20,3 +21,8 @@ pub record TakesSome (taken : ℕ) (bytes : List ℕ) : Type 0 where
 pub record IsInside (value : FieldValue) (taken : ℕ) (bytes : List ℕ) : Type 0 where
   pub fits : end_of value < 2 ^ 64
   pub within : taken ≤ length bytes
+
+-- Exactly what stands there is answered, whose view is without where bytes lie in memory.
+abbrev pub Answers : {A B E : Type 0} → (A → B) → Result A E → Result B E → Type 0
+Answers view (Ok value) there = there ≡ Ok (view value)
+Answers view (Err fault) there = there ≡ Err fault

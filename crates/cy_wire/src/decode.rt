@@ -1,7 +1,6 @@
 // Reads the field at the front of bytes.
 ghost use Rattle.std.specs.Prelude.{◌≡◌, ◌≢◌, ◌+◌, ◌<◌, ◌^◌, length, IfOk, IfErr};
-ghost use Rattle.cy_msg.specs.Answer.{Answers};
-ghost use Rattle.cy_wire.specs.Value.{IsInside, TakesSome};
+ghost use Rattle.cy_wire.specs.Value.{Answers, IsInside, TakesSome};
 ghost use Rattle.cy_wire.specs.Field.{wire_type, value_at, field_at, bytes_at};
 ghost use Rattle.cy_wire.specs.Field.{seen, seen_value};
 
