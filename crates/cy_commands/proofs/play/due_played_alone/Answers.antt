@@ -1,4 +1,4 @@
 use Rattle.cy_commands.proofs.play.due_played_alone.Goals as goal
 
 pub returns : goal.returns
-returns g c = c.due_played-due.ensures
+returns g c = c.due_played.ensures
