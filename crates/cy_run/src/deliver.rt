@@ -6,8 +6,8 @@ ghost use Rattle.cy_run.specs.Sending.{Owes, delivered, fills_at, fills_in, news
 ghost use Rattle.cy_run.specs.Sending.{Fills, FillsOn, Tells, TellsOn, IsReadBy, is_first};
 
 use crate::Idle;
-use crate::pace::bit_of;
 use cy_comp::Wiring;
+use cy_idle::bit_of;
 use cy_msg::Token;
 use cy_table::{FlagTable, Pass};
 use std::sync::Wait;

@@ -10,21 +10,15 @@
 mod crew;
 mod deliver;
 mod driving;
-mod error;
 mod gate;
-mod idle;
-mod pace;
-mod patience;
-mod place;
 mod play;
 mod processor;
 mod run;
 mod serve;
 
 pub use crew::Worker;
+pub use cy_idle::{Idle, RunError};
 pub use driving::drive;
-pub use error::RunError;
 pub use gate::{Gate, MeetGate, OpenGate, PairGate};
-pub use idle::Idle;
 pub use processor::work;
 pub use run::{run_serial, run_threads};

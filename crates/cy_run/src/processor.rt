@@ -6,11 +6,11 @@ ghost use Rattle.cy_run.specs.Passes.{IsMadeOf, IsFree};
 ghost use Rattle.cy_run.specs.Serving.{IsReady};
 ghost use Rattle.cy_run.specs.Working.{EndsInVain, IsOrderOf, MayWork};
 
-use crate::pace::bit_of;
 use crate::serve::serve;
 use crate::{Gate, Idle};
 use cy_comp::Wiring;
 use cy_ctx::{Context, take};
+use cy_idle::bit_of;
 use cy_table::{FlagTable, Hold, Pass};
 use std::sync::Wait;
 

@@ -63,7 +63,9 @@ pub fn run_threads<G: Gate, R: Threads + Wait + Sync>(
     let processors = processors_in(placement);
     let idle = Idle::new(alloc, processors)?;
     let contexts = contexts_of(alloc, plans)?;
-    let (table, mut player) = FlagTable::new(alloc, world)?;
+    let Ok((table, mut player)) = FlagTable::new(alloc, world) else {
+        return Err(RunError::Memory);
+    };
     let mut crew = crew_of(alloc, &table, &mut player, plans, processors)?;
     drive(
         rt,
@@ -77,7 +79,9 @@ pub fn run_threads<G: Gate, R: Threads + Wait + Sync>(
         gate,
     );
     muster(&table, &mut player, crew);
-    let mut world = table.close(alloc, player)?;
+    let Ok(mut world) = table.close(alloc, player) else {
+        return Err(RunError::Memory);
+    };
     finish(&mut world, placement);
     world.sound();
     Ok(world)
@@ -100,7 +104,10 @@ fn contexts_of(alloc: Global, plans: &[ContextPlan]) -> Result<Vec<Context>, Run
 {
     let mut contexts = Vec::with_capacity(alloc, plans.len())?;
     for plan in plans {
-        contexts.push_reserved(Context::new(alloc, plan)?);
+        let Ok(context) = Context::new(alloc, plan) else {
+            return Err(RunError::Memory);
+        };
+        contexts.push_reserved(context);
     }
     Ok(contexts)
 }
@@ -163,7 +170,9 @@ fn add_workers(
 {
     for _ in 0..count {
         let me = crew.len() as u32;
-        let pass = table.split(player)?;
+        let Ok(pass) = table.split(player) else {
+            return Err(RunError::Memory);
+        };
         crew.push_reserved(Worker { pass, plan, me });
     }
     Ok(())

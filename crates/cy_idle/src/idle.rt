@@ -1,11 +1,10 @@
-// Where processors rest, and how the player keeps pace with them. No clause rests on it: what a
-// processor does is known from its pass alone.
+// Where processors rest, and how the player keeps pace with them.
 use crate::RunError;
 use crate::pace::{BITS, Pace, bits_of, lowest};
 use crate::patience::{LOOKS, Patience};
 use crate::place::{ASLEEP, AWAKE, AWAY, LOOKING, Place};
 use crossbeam_utils::CachePadded;
-use std::alloc::Global;
+use std::alloc::{AllocError, Global};
 use std::hint;
 use std::marker::Model;
 use std::sync::atomic::Ordering::SeqCst;
@@ -62,7 +61,7 @@ impl Model for Idle {
 }
 
 impl Idle {
-    ghost use Rattle.std.specs.Prelude.{◌≡◌, ◌<◌, IfOk};
+    ghost use Rattle.std.specs.Prelude.{◌≡◌, ◌<◌, ◌+◌, ◌⊎◌, IfOk};
 
     /// A place for each of so many processors. Its only error is `Memory`.
     pub fn new(alloc: Global, processors: u32) -> Result<Self, RunError>
@@ -84,8 +83,8 @@ impl Idle {
         })
     }
 
-    // A processor comes, which serves these components.
-    pub(crate) fn enter(&self, me: u32, components: &[u32])
+    /// A processor comes, which serves these components.
+    pub fn enter(&self, me: u32, components: &[u32])
         requires { me < self.now }
     {
         let serves = bits_of(components);
@@ -94,8 +93,8 @@ impl Idle {
         self.player.unpark();
     }
 
-    // How often there was news so far for the context of a processor, which asks before it scans.
-    pub(crate) fn news(&self, me: u32) -> u64
+    /// How often there was news so far for the context of a processor, which asks before it scans.
+    pub fn news(&self, me: u32) -> u64
         requires { me < self.now }
     {
         self.news_at(self.places[me as usize].context())
@@ -121,37 +120,38 @@ impl Idle {
         }
     }
 
-    // Components have something to do, which is said when they were filled and before they are
-    // looked at: so one that has done it by then is resumed once more, and closed.
-    pub(crate) fn open(&self, components: u64) {
+    /// Components have something to do, as a mask. It is said when they were filled and before they
+    /// are looked at: so one that has done it by then is resumed once more, and closed.
+    pub fn open(&self, components: u64) {
         if components != 0 {
             self.pace.open(components);
         }
     }
 
-    // There is news for components, which were looked at: a processor that is awake scans them
-    // again before it rests, since it compares the news; where none is awake one that rests is
-    // called.
-    pub(crate) fn tell<R: Wait>(&self, rt: &R, components: u64) {
+    /// There is news for components, which were looked at: a processor that is awake scans them
+    /// again before it rests, since it compares the news; where none is awake one that rests is
+    /// called.
+    pub fn tell<R: Wait>(&self, rt: &R, components: u64) {
         if components != 0 {
             self.count_news(components);
             self.call_for(rt, components);
         }
     }
 
-    // A component has nothing to do any more; or it sleeps until the clock is past this time.
-    pub(crate) fn close(&self, component: u32) {
+    /// A component has nothing to do any more.
+    pub fn close(&self, component: u32) {
         self.pace.close(component);
         self.tell_player();
     }
 
-    pub(crate) fn sleep(&self, component: u32, until: u64) {
+    /// It sleeps until the clock is past this time, in nanoseconds.
+    pub fn sleep(&self, component: u32, until: u64) {
         self.pace.sleep(component, until);
         self.tell_player();
     }
 
-    // It sleeps no more.
-    pub(crate) fn wake(&self, component: u32) {
+    /// It sleeps no more.
+    pub fn wake(&self, component: u32) {
         self.pace.wake(component);
     }
 
@@ -162,15 +162,15 @@ impl Idle {
         }
     }
 
-    // The player set the clock, which is news for those whose sleep that ended.
-    pub(crate) fn heed_clock<R: Wait>(&self, rt: &R, clock: u64) {
+    /// The player set the clock, which is news for those whose sleep that ended.
+    pub fn heed_clock<R: Wait>(&self, rt: &R, clock: u64) {
         let due = self.pace.tick(clock);
         self.tell(rt, due);
     }
 
-    // The player has set the run closing: all processors are to find that. It doesn't wait for
-    // them any more, so one is called for each component that has news.
-    pub(crate) fn tell_closing<R: Wait>(&self, rt: &R) {
+    /// The player has set the run closing: all processors are to find that. It doesn't wait for
+    /// them any more, so one is called for each component that has news.
+    pub fn tell_closing<R: Wait>(&self, rt: &R) {
         self.patience.give_up();
         for count in &self.news {
             count.fetch_add(1, SeqCst);
@@ -238,8 +238,8 @@ impl Idle {
         left
     }
 
-    // The player waits until all processors came, for so long at most.
-    pub(crate) fn await_all<R: Wait>(&self, rt: &R) {
+    /// The player waits until all processors came, for so long at most.
+    pub fn await_all<R: Wait>(&self, rt: &R) {
         for _ in 0..PAUSES {
             if self.have_come() {
                 return;
@@ -259,15 +259,17 @@ impl Idle {
         false
     }
 
-    // Whether components wake when the clock is at this time.
-    pub(crate) fn is_due(&self, clock: u64) -> bool {
+    /// Whether components wake when the clock is at this time.
+    pub fn is_due(&self, clock: u64) -> bool {
         self.pace.due(clock) != 0
     }
 
-    // By how many messages the player is ahead after one message more, which triggers a component
-    // or wakes one: by this one, where none is busy. Where it is ahead by the lead it waits for
-    // that.
-    pub(crate) fn keep_pace<R: Wait>(&self, rt: &R, ahead: u32, lead: u32) -> u32 {
+    /// By how many messages the player is ahead after one message more, which triggers a component
+    /// or wakes one: by this one, where none is busy. Where it is ahead by the lead it waits for
+    /// that.
+    pub fn keep_pace<R: Wait>(&self, rt: &R, ahead: u32, lead: u32) -> u32
+        ensures { (result ≡ 1) ⊎ ((ahead < lead) × (result ≡ ahead + 1)) }
+    {
         if self.player_is_due.load(SeqCst) {
             self.player_is_due.store(false, SeqCst);
         }
@@ -313,14 +315,14 @@ impl Idle {
         self.resting.store(false, SeqCst);
     }
 
-    // The components that have something to do, as a mask.
-    pub(crate) fn busy(&self) -> u64 {
+    /// The components that have something to do, as a mask.
+    pub fn busy(&self) -> u64 {
         self.pace.busy()
     }
 
-    // Whether there is news while a processor, which has nothing to do any more, looks for it. It
-    // does so where no other one that serves components of this one is awake.
-    pub(crate) fn hears_soon(&self, me: u32, seen: u64) -> bool
+    /// Whether there is news while a processor, which has nothing to do any more, looks for it. It
+    /// does so where no other one that serves components of this one is awake.
+    pub fn hears_soon(&self, me: u32, seen: u64) -> bool
         requires { me < self.now }
     {
         let place: &Place = &self.places[me as usize];
@@ -332,9 +334,9 @@ impl Idle {
         }
     }
 
-    // A processor that scanned in vain rests until it is called, and then stays. It goes, which is
-    // true, where all that came rest and it found the play closing.
-    pub(crate) fn rest<R: Wait>(&self, rt: &R, me: u32, seen: u64, closing: bool) -> bool
+    /// A processor that scanned in vain rests until it is called, and then stays. It goes, which is
+    /// true, where all that came rest and it found the play closing.
+    pub fn rest<R: Wait>(&self, rt: &R, me: u32, seen: u64, closing: bool) -> bool
         requires { me < self.now }
     {
         let place: &Place = &self.places[me as usize];
@@ -380,8 +382,8 @@ impl Idle {
     }
 }
 
-// No news yet, for any context. Its only error is `Memory`.
-fn no_news(alloc: Global) -> Result<Vec<CachePadded<AtomicU64>>, RunError> {
+// No news yet, for any context.
+fn no_news(alloc: Global) -> Result<Vec<CachePadded<AtomicU64>>, AllocError> {
     let mut news = Vec::with_capacity(alloc, CONTEXTS)?;
     for _ in 0..CONTEXTS {
         news.push_reserved(CachePadded::new(AtomicU64::new(0)));

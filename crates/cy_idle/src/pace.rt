@@ -1,8 +1,9 @@
 // Which components have something to do, by which the player keeps pace with them and processors
 // find them. It is a hint: it may be behind. No clause rests on it.
-use crate::RunError;
+ghost use Rattle.std.specs.Prelude.{◌≡◌, ◌^◌, ◌%◌};
+
 use crossbeam_utils::CachePadded;
-use std::alloc::Global;
+use std::alloc::{AllocError, Global};
 use std::sync::atomic::AtomicU64;
 use std::sync::atomic::Ordering::SeqCst;
 
@@ -25,8 +26,8 @@ pub(crate) struct Pace {
 }
 
 impl Pace {
-    // Nothing is open. Its only error is `Memory`.
-    pub(crate) fn new(alloc: Global) -> Result<Self, RunError> {
+    // Nothing is open.
+    pub(crate) fn new(alloc: Global) -> Result<Self, AllocError> {
         let mut until = Vec::with_capacity(alloc, BITS)?;
         for _ in 0..BITS {
             until.push_reserved(AtomicU64::new(0));
@@ -125,8 +126,10 @@ impl Pace {
     }
 }
 
-// The mask of one component.
-pub(crate) fn bit_of(component: usize) -> u64 {
+/// The mask of one component, by its number.
+pub fn bit_of(component: usize) -> u64
+    ensures { result ≡ 2 ^ (component % 64) }
+{
     1u64 << (component % BITS)
 }
 
