@@ -7,7 +7,7 @@ use Rattle.cy_replay.specs.declared.error.SetupError.{SetupError}
 use Rattle.cy_replay.specs.Comes.{ComesTo}
 use Rattle.cy_commands.specs.declared.status.Status.{Status}
 use Rattle.cy_commands.specs.declared.status.Status.TheVariants.{Done}
-use Rattle.cy_words.specs.Words.{InfoWords}
+use Rattle.cy_words.specs.Command.{InfoWords}
 use Rattle.cy_words.specs.Command.{Info}
 use Rattle.cy_commands.specs.Info.{told_of}
 use Rattle.cy_commands.specs.Unset.{IsStarved, IsDueUnset}

@@ -6,7 +6,7 @@ use Rattle.cy_reader.specs.Record.{Contents}
 use Rattle.cy_reader.specs.Info.{info_text}
 use Rattle.cy_replay.specs.declared.error.Refusal.{Refusal}
 use Rattle.cy_replay.specs.Listing.{record_in}
-use Rattle.cy_words.specs.Words.{InfoWords}
+use Rattle.cy_words.specs.Command.{InfoWords}
 use Rattle.cy_commands.specs.Work.{Work}
 
 -- The record is read.

@@ -1,5 +1,5 @@
 -- How `make` ends.
-use Rattle.std.specs.Prelude.{ℕ, ◌≡◌, ◌++◌, true, List, None, codes}
+use Rattle.std.specs.Prelude.{ℕ, ◌≡◌, ◌++◌, List, None, codes}
 use Rattle.cy_store.specs.Reads.{Accepts}
 use Rattle.cy_replay.specs.declared.setup.Replay.{Replay}
 use Rattle.cy_request.specs.Request.{OfFiles}
@@ -19,8 +19,7 @@ use Rattle.cy_commands.specs.declared.status.Status.TheVariants.{StoreFault, Mem
 use Rattle.cy_commands.specs.Lines.{store_line, memory_line}
 use Rattle.cy_words.specs.MakeWords.{MakeWords}
 use Rattle.cy_commands.specs.MakeWork.{play_made, made_files}
-use Rattle.cy_words.specs.PassWords.{all_messages}
-use Rattle.cy_words.specs.PlayWords.{PlayWords}
+use Rattle.cy_words.specs.PlayWords.{PlayWords, all_messages, play_of_all}
 use Rattle.cy_commands.specs.PlayWork.{replayed_in}
 
 -- A replay is that of the files that are made.
@@ -56,13 +55,4 @@ names_of prefix = record {
 }
 
 abbrev pub play_named : Names → PlayWords
-play_named n = record {
-  request = record {
-    components = OfFiles n.dag None;
-    input = n.input;
-    filter = all_messages;
-  };
-  output = n.output;
-  trace = n.trace;
-  serial = true;
-}
+play_named n = play_of_all (OfFiles n.dag None) n.input n.output n.trace

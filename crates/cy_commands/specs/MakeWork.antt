@@ -1,5 +1,5 @@
 -- What `make` makes.
-use Rattle.std.specs.Prelude.{ℕ, ◌≡◌, ◌≤◌, ◌++◌, true, List, length, codes, Some, None}
+use Rattle.std.specs.Prelude.{ℕ, ◌≡◌, ◌≤◌, ◌++◌, List, length, codes, Some, None}
 use Rattle.std.specs.FinMap.{empty}
 use Rattle.cy_store.specs.Files.{Files}
 use Rattle.cy_store.specs.Write.{after_writes}
@@ -14,23 +14,14 @@ use Rattle.cy_request.specs.Request.{OfFiles}
 use Rattle.cy_commands.specs.Work.{Work}
 use Rattle.cy_words.specs.Command.{Asks, Make}
 use Rattle.cy_words.specs.MakeWords.{MakeWords}
-use Rattle.cy_words.specs.PassWords.{all_messages}
-use Rattle.cy_words.specs.PlayWords.{PlayWords}
+use Rattle.cy_words.specs.PlayWords.{PlayWords, play_of_all}
 use Rattle.cy_commands.specs.PlayWork.{IsPlayWork}
 
 -- A serial play of all messages of the record that is made, through the components that are made,
 -- with the default scheduler.
 abbrev pub play_made : MakeWords → PlayWords
-play_made w = record {
-  request = record {
-    components = OfFiles (w.prefix ++ suffix_of Dag) None;
-    input = record_name w.prefix;
-    filter = all_messages;
-  };
-  output = w.prefix ++ codes ".out";
-  trace = w.prefix ++ codes ".trace";
-  serial = true;
-}
+play_made w = play_of_all (OfFiles (w.prefix ++ suffix_of Dag) None) (record_name w.prefix)
+    (w.prefix ++ codes ".out") (w.prefix ++ codes ".trace")
 
 -- The files that are played: those that are made, and no others.
 abbrev pub made_files : MakeWords → Files

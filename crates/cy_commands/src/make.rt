@@ -69,20 +69,13 @@ impl Names {
     fn play(&self) -> Play<'_>
         ensures { play_words_of result ≡ play_named self.now }
     {
-        Play {
-            components: Components::Files {
-                dag: self.dag.as_str(),
-                sched: None,
-            },
-            input: self.input.as_str(),
-            output: self.output.as_str(),
-            trace: self.trace.as_str(),
-            only: None,
-            drop: None,
-            begin: 0,
-            end: u64::MAX,
-            serial: true,
-        }
+        let dag = self.dag.as_str();
+        Play::of_all(
+            Components::Files { dag, sched: None },
+            self.input.as_str(),
+            self.output.as_str(),
+            self.trace.as_str(),
+        )
     }
 }
 

@@ -1,47 +1,28 @@
 -- The code finds the command that words ask for, and none where they ask for none.
-use Rattle.std.proofs.Common.{◌≡◌, ◌⊎◌, ℕ, List, [], ◌∷◌, Bool, true, false, Option, Some, None, is_some, if◌then◌else◌, refl, sym, ap, ◌∙◌, subst, inl, inr, true≢false}
-use Rattle.std.proofs.Common.{codes, option_map, option_and_then, bytes_eq}
+use Rattle.std.proofs.Common.{◌≡◌, ℕ, List, [], ◌∷◌, Bool, true, false, Option, Some, None, is_some, if◌then◌else◌, refl, sym, ap, ◌∙◌, subst, true≢false}
+use Rattle.std.proofs.Common.{option_map, option_and_then}
 use Rattle.cy_words.specs.declared.words.Command as code
 use Rattle.cy_words.specs.Asking.{IsSomeAsked}
-use Rattle.cy_words.specs.Command.{Command, Check, Info, Play, Make, AskForOne, Asks, AsksStill, IsAsked, IsOnlyAsked, IsStill}
-use Rattle.cy_words.specs.MakeWords.{make_of}
-use Rattle.cy_words.specs.PassWords.{pass_of}
-use Rattle.cy_words.specs.Scan.{check_of, command_of, play_of, still_command_of, still_one}
+use Rattle.cy_words.specs.Command.{Command, Play, AskForOne, Asks, AsksStill, Form, IsAsked, IsOnlyAsked, IsStill, form_of}
+use Rattle.cy_words.specs.Options.{Options}
+use Rattle.cy_words.specs.PlayWords.{◌>>=◌}
+use Rattle.cy_words.specs.Scan.{command_of, options_met, still_command_of, still_one}
 use Rattle.cy_words.specs.Views.{command_asked}
-use Rattle.cy_words.specs.Words.{info_of}
-use Rattle.cy_words.proofs.OptionsRead.{check_are, check_found, mapped, nothing, play_asked, play_found, same_name, some_same}
+use Rattle.cy_words.proofs.ClapProgram.{names_of_form}
+use Rattle.cy_words.proofs.OptionsRead.{bound, nothing, options_are, options_found, some_same}
 
 pub found : (words : List (List ℕ)) (c : Command) → Asks words c → command_of words ≡ Some c
 found [] c h = absurd h
-found (name ∷ words) (Check w) h = ap (λ (n : List ℕ). command_of (n ∷ words)) h.0 ∙ ap (option_map Check) (check_found words w h.1)
-found (name ∷ words) (Info w) h = ap (λ (n : List ℕ). command_of (n ∷ words)) h.0 ∙ ap (option_map Info) h.1
-found (name ∷ words) (Play w) (inl h) = ap (λ (n : List ℕ). command_of (n ∷ words)) h.0 ∙ ap (option_map Play) (play_found words w h.1)
-found (name ∷ words) (Play w) (inr h) = ap (λ (n : List ℕ). command_of (n ∷ words)) h.0 ∙ ap (option_map Play) h.1
-found (name ∷ words) (Make w) h = ap (λ (n : List ℕ). command_of (n ∷ words)) h.0 ∙ ap (option_map Make) h.1
-
-chosen : (b : Bool) (x y : Option Command) (c : Command) → (if b then x else y) ≡ Some c → ((b ≡ true) × (x ≡ Some c)) ⊎ (y ≡ Some c)
-chosen true x y c e = inl (refl, e)
-chosen false x y c e = inr e
+found (name ∷ words) c h =
+    ap (λ (x : Option Form). x >>= λ f. options_met f.known words >>= f.asked) h.1
+    ∙ (ap (λ (x : Option Options). x >>= h.0.asked) (options_found h.0.known (names_of_form name h.0 h.1) words h.2.options h.2.are_options) ∙ h.2.asks)
 
 pub asks : (words : List (List ℕ)) (c : Command) → command_of words ≡ Some c → Asks words c
 asks [] c e = absurd (nothing c e)
 asks (name ∷ words) c e =
-    elim (chosen (bytes_eq name (codes "pass")) _ _ c e) [
-      | inl h ↦ (let m = mapped (pass_of words) Play c h.1 in subst (Asks (name ∷ words)) m.2 (inr (same_name name (codes "pass") h.0, m.1)))
-      | inr e ↦ elim (chosen (bytes_eq name (codes "check")) _ _ c e) [
-        | inl h ↦ (let m = mapped (check_of words) Check c h.1 in subst (Asks (name ∷ words)) m.2 (same_name name (codes "check") h.0, check_are words m.0 m.1))
-        | inr e ↦ elim (chosen (bytes_eq name (codes "info")) _ _ c e) [
-          | inl h ↦ (let m = mapped (info_of words) Info c h.1 in subst (Asks (name ∷ words)) m.2 (same_name name (codes "info") h.0, m.1))
-          | inr e ↦ elim (chosen (bytes_eq name (codes "play")) _ _ c e) [
-            | inl h ↦ (let m = mapped (play_of words) Play c h.1 in subst (Asks (name ∷ words)) m.2 (inl (same_name name (codes "play") h.0, play_asked words m.0 m.1)))
-            | inr e ↦ elim (chosen (bytes_eq name (codes "make")) _ _ c e) [
-              | inl h ↦ (let m = mapped (make_of words) Make c h.1 in subst (Asks (name ∷ words)) m.2 (same_name name (codes "make") h.0, m.1))
-              | inr e ↦ absurd (nothing c e)
-            ]
-          ]
-        ]
-      ]
-    ]
+    let b = bound (form_of name) (λ f. options_met f.known words >>= f.asked) c e in
+    let d = bound (options_met b.0.known words) b.0.asked c b.2 in
+    (b.0, b.1, record { options = d.0; are_options = options_are b.0.known words d.0 d.1; asks = d.2 })
 
 by_what : (asks : Command → Type 0) (x asked : Option Command) → ((c : Command) → asks c → x ≡ Some c) → ((c : Command) → x ≡ Some c → asks c) → IsAsked asks asked → x ≡ asked
 by_what asks None None one back h = refl
@@ -49,20 +30,16 @@ by_what asks (Some c) None one back h = absurd (h c (back c refl))
 by_what asks x (Some c) one back h = one c h
 
 still_found : (c : Command) → IsStill c → still_one c ≡ Some c
-still_found (Check w) h = refl
-still_found (Info w) h = refl
 still_found (Play w) h = ap (λ (b : Bool). if b then Some (Play w) else None) h
-still_found (Make w) h = refl
+still_found c h = refl
 
 still_is : (c other : Command) → still_one c ≡ Some other → (c ≡ other) × IsStill c
-still_is (Check w) other e = (some_same (Check w) other e, tt)
-still_is (Info w) other e = (some_same (Info w) other e, tt)
 still_is (Play w) other e = by w.serial e
   where
     by : (b : Bool) → (if b then Some (Play w) else None) ≡ Some other → (Play w ≡ other) × (b ≡ true)
     by true e = (some_same (Play w) other e, refl)
     by false e = absurd (nothing other e)
-still_is (Make w) other e = (some_same (Make w) other e, tt)
+still_is c other e = (some_same c other e, tt)
 
 found_by : (x : Option Command) (f : Command → Option Command) (c : Command) → option_and_then f x ≡ Some c → (a : Command) × (x ≡ Some a) × (f a ≡ Some c)
 found_by None f c e = absurd (nothing c e)

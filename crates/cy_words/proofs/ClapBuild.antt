@@ -1,7 +1,5 @@
--- A command to which arguments are added one by one.
+-- Arguments are added to a command, and commands to a program, one by one.
 use Rattle.std.proofs.Common.{◌≡◌, ◌∙◌, ◌+◌, ◌<◌, ◌||◌, ℕ, Bool, true, false, List, [], ◌∷◌, zero, suc, refl, sym, ap, arith, length, map, drop, fold, get_or}
-use Rattle.clap.specs.Walk.{Rule}
-use Rattle.clap.specs.Simple.{App, with_rule}
 
 pub or_false : (b : Bool) → (b || false) ≡ b
 or_false true = refl
@@ -12,11 +10,11 @@ drop_next [] i d lt = absurd (omega arith)
 drop_next (name ∷ names) zero d lt = refl
 drop_next (name ∷ names) (suc i) d lt = drop_next names i d (omega arith)
 
--- one more argument, which is made of the next of these
-pub more_rules : {X Y : Type 0} (v : X → Y) (f : Y → Rule) (names : List X) (i : ℕ) (d : X) (old new : App) (r : Rule) → i < length names → new ≡ with_rule old r
-    → r ≡ f (v (get_or names i d)) → fold with_rule new (map f (map v (drop (i + 1) names))) ≡ fold with_rule old (map f (map v (drop i names)))
-more_rules {X} {Y} v f names i d old new r lt is rule =
+-- one more of these, by the next one
+pub more : {A X Y : Type 0} (step : A → Y → A) (v : X → Y) (xs : List X) (i : ℕ) (d : X) (old new : A) → i < length xs → new ≡ step old (v (get_or xs i d))
+    → fold step new (map v (drop (i + 1) xs)) ≡ fold step old (map v (drop i xs))
+more {A} {X} {Y} step v xs i d old new lt is =
     let next : i + 1 ≡ suc i = omega arith in
-    ap (λ (a : App). fold with_rule a (map f (map v (drop (i + 1) names)))) (is ∙ ap (with_rule old) rule)
-    ∙ (ap (λ (k : ℕ). fold with_rule (with_rule old (f (v (get_or names i d)))) (map f (map v (drop k names)))) next
-    ∙ ap (λ (l : List X). fold with_rule old (map f (map v l))) (sym (drop_next names i d lt)))
+    ap (λ (a : A). fold step a (map v (drop (i + 1) xs))) is
+    ∙ (ap (λ (k : ℕ). fold step (step old (v (get_or xs i d))) (map v (drop k xs))) next
+    ∙ ap (λ (l : List X). fold step old (map v l)) (sym (drop_next xs i d lt)))

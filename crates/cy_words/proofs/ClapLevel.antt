@@ -1,21 +1,21 @@
 -- A command that takes its words, and what it keeps of them.
-use Rattle.std.proofs.Common.{◌≡◌, ◌&&◌, ◌||◌, ℕ, List, [], ◌∷◌, ◌++◌, Bool, true, false, not, Option, Some, None, is_some, if◌then◌else◌, cond, refl, sym, ap, ◌∙◌, subst}
-use Rattle.std.proofs.Common.{map, codes, option_map, bytes_eq, append-nil}
+use Rattle.std.proofs.Common.{◌≡◌, ◌&&◌, ℕ, List, [], ◌∷◌, ◌++◌, Bool, true, false, not, Option, Some, None, is_some, if◌then◌else◌, cond, refl, sym, ap, ◌∙◌, subst}
+use Rattle.std.proofs.Common.{codes, option_map, bytes_eq, append-nil}
 use Rattle.std.specs.Prelude.{option_and_then, slice_get}
 use Rattle.std.specs.List.{find, fold, list_all}
 use Rattle.std.specs.Option.{option_map_or, option_or}
 use Rattle.std.proofs.lemmas.List.Folds.{find-append}
-use Rattle.clap.specs.Lexer.{long_of}
-use Rattle.clap.specs.Walk.{Held, Names, Row, Text, Walk, after_step, answers_to, arg_by_index, finished, has_row, idle, more_values, nothing_held, reading_by, rows_after, stop_after, with_values, to_positional, value, walk, walk_from, walked, with_default}
-use Rattle.clap.specs.Simple.{App, Shape, entered, label_of, names_of}
-use Rattle.clap.specs.Takes.{built_takes, default_passes, entered_passes, flag_word_passes, bundle_passes, is_valid, level_passes, settle_passes, step_passes, turn_passes, walk_passes}
+use Rattle.clap.specs.Walk.{Held, Names, Row, Text, Walk, answers_to, finished, has_row, more_values, nothing_held, reading_by, rows_after, stop_after, with_values, walk, walk_from, walked, with_default}
+use Rattle.clap.specs.Simple.{App, Shape, entered, index_after, label_of, names_of}
+use Rattle.clap.specs.Takes.{built_takes, default_passes, entered_passes, is_valid, level_passes, settle_passes, turn_passes, walk_passes}
 use Rattle.clap.specs.declared.parser.matches.ValueSource.TheVariants.{DefaultValue}
 use Rattle.clap.proofs.WalkLemmas.{both, walk_stopped}
 use Rattle.cy_words.specs.Kept.{kept_as}
-use Rattle.cy_words.specs.Options.{Known, Options, has_value, is_flag}
+use Rattle.cy_words.specs.Options.{Flag, Kind, Known, Options, Place, Value, is_flag, kind_of}
+use Rattle.cy_words.specs.Program.{rule_of_known}
 use Rattle.cy_words.proofs.OptionsRead.{none_of, same_name}
-use Rattle.cy_words.proofs.ClapOptions.{Shows, built_as, built_option, has_id, missing_row, row_there}
-use Rattle.cy_words.proofs.ClapWalk.{GoesTo, IsPlain, Settles, one_goes, plain_met}
+use Rattle.cy_words.proofs.ClapOptions.{Shows, built_as, built_at, built_from, has_id, missing_row, row_there}
+use Rattle.cy_words.proofs.ClapWalk.{GoesTo, Settles}
 
 -- ---- one level
 
@@ -106,13 +106,13 @@ default_row name = record {
   values = codes "false" ∷ [];
   count = None;
   source = Some DefaultValue;
-  reading = reading_by (built_as name false);
+  reading = reading_by (built_as name Flag);
 }
 
 abbrev shown_of : List Known → Text → Option Row → Option Text
-shown_of known name found = kept_as (not (is_flag (has_value known name))) (option_and_then (λ (r : Row). slice_get r.values 0) found)
+shown_of known name found = kept_as (not (is_flag (kind_of known name))) (option_and_then (λ (r : Row). slice_get r.values 0) found)
 
-flag_default : (known : List Known) (flag : Text) (o : Options) (rows : List Row) → is_flag (has_value known flag) ≡ true → find (has_id flag) rows ≡ None → Shows known o rows
+flag_default : (known : List Known) (flag : Text) (o : Options) (rows : List Row) → is_flag (kind_of known flag) ≡ true → find (has_id flag) rows ≡ None → Shows known o rows
     → Shows known o (rows ++ default_row flag ∷ [])
 flag_default known flag o rows is_one none shows name =
     ap (shown_of known name) (find-append (has_id name) rows (default_row flag ∷ [])) ∙ (by (bytes_eq flag name) refl ∙ shows name)
@@ -122,45 +122,29 @@ flag_default known flag o rows is_one none shows name =
         let same = same_name flag name is in
         let absent = subst (λ (n : Text). find (has_id n) rows ≡ None) same none in
         ap (λ (x : Option Row). shown_of known name (option_or x (Some (default_row flag)))) absent
-        ∙ (ap (λ (t : Bool). kept_as (not t) (Some (codes "false"))) (subst (λ (n : Text). is_flag (has_value known n) ≡ true) same is_one) ∙ sym (ap (shown_of known name) absent))
+        ∙ (ap (λ (t : Bool). kept_as (not t) (Some (codes "false"))) (subst (λ (n : Text). is_flag (kind_of known n) ≡ true) same is_one) ∙ sym (ap (shown_of known name) absent))
     by false other = ap (shown_of known name) (or_none (find (has_id name) rows))
 
--- the command knows no flag as an option with a value
-abbrev pub knows_flag : List Known → Text → Bool → Bool
-knows_flag known name has_text = has_text || is_flag (has_value known name)
+-- the command knows no flag as something else
+abbrev pub knows_flag : List Known → Text → Kind → Bool
+knows_flag known name Flag = is_flag (kind_of known name)
+knows_flag known name kind = true
 
-one_default : (known : List Known) (name : Text) (b : Bool) (o : Options) (rows : List Row) → knows_flag known name b ≡ true → Shows known o rows → Shows known o (with_default rows (built_as name b))
-one_default known name true o rows first shows = subst (Shows known o) (sym (same_either (has_row name rows) rows)) shows
-one_default known name false o rows first shows = by (has_row name rows) refl
+one_default : (known : List Known) (i : ℕ) (name : Text) (kind : Kind) (o : Options) (rows : List Row) → knows_flag known name kind ≡ true → Shows known o rows → Shows known o (with_default rows (built_at i name kind))
+one_default known i name Place o rows first shows = subst (Shows known o) (sym (same_either (has_row name rows) rows)) shows
+one_default known i name Value o rows first shows = subst (Shows known o) (sym (same_either (has_row name rows) rows)) shows
+one_default known i name Flag o rows first shows = by (has_row name rows) refl
   where
-    by : (t : Bool) → has_row name rows ≡ t → Shows known o (if t then rows else with_values name (reading_by (built_as name false)) DefaultValue (codes "false" ∷ []) rows)
+    by : (t : Bool) → has_row name rows ≡ t → Shows known o (if t then rows else with_values name (reading_by (built_as name Flag)) DefaultValue (codes "false" ∷ []) rows)
     by true given = shows
     by false unused =
         let none = none_of (find (has_id name) rows) (sym (row_there name rows) ∙ unused) in
         subst (Shows known o) (sym (missing_row name (more_values DefaultValue (codes "false" ∷ [])) (default_row name ∷ []) rows none)) (flag_default known name o rows first none shows)
 
 abbrev pub knows_flags : List Known → List Known → Bool
-knows_flags known ks = list_all (λ k. knows_flag known k.name k.has_value) ks
+knows_flags known ks = list_all (λ k. knows_flag known k.name k.kind) ks
 
-pub all_default : (known ks : List Known) (o : Options) (rows : List Row) → knows_flags known ks ≡ true → Shows known o rows → Shows known o (fold with_default rows (map built_option ks))
-all_default known [] o rows first shows = shows
-all_default known (k ∷ ks) o rows first shows =
-    all_default known ks o (with_default rows (built_option k)) (both _ _ first).1 (one_default known k.name k.has_value o rows (both _ _ first).0 shows)
-
--- ---- words that are known by their places
-
-abbrev pub at_place : ℕ → Held → Walk
-at_place i h = record (walk_from h) { position = i }
-
-abbrev pub placed : Shape → ℕ → Held → Text → Walk
-placed s i h word = to_positional s.rules (arg_by_index s.rules i) word (at_place i h) h
-
-pub place_goes : (s : Shape) (i : ℕ) (h : Held) (word : Text) → IsPlain word → step_passes s i h value ≡ true → GoesTo s (at_place i h) (word ∷ []) (placed s i h word)
-unfolding walked
-place_goes s i h word plain passes =
-    let met = plain_met s.rules idle i word h plain refl in
-    one_goes s (at_place i h) (placed s i h word) word (ap (λ p. after_step s.rules word (at_place i h) p.0 p.1) met)
-    (ap (λ p. (bytes_eq word (45 ∷ 45 ∷ []) || flag_word_passes s.rules s.args_override_self (long_of word) word h) && step_passes s i p.0 p.1) met
-    ∙ (ap (λ (t : Bool). (t || flag_word_passes s.rules s.args_override_self (long_of word) word h) && step_passes s i h value) plain.not_dashes
-    ∙ (ap (λ (x : Option (Text × Option Text)). flag_word_passes s.rules s.args_override_self x word h && step_passes s i h value) plain.not_long
-    ∙ (ap (λ (x : Option Text). option_map_or (λ flags. bundle_passes s.rules s.args_override_self flags h) x true && step_passes s i h value) plain.not_short ∙ passes))))
+pub all_default : (known : List Known) (i : ℕ) (ks : List Known) (o : Options) (rows : List Row) → knows_flags known ks ≡ true → Shows known o rows → Shows known o (fold with_default rows (built_from i ks))
+all_default known i [] o rows first shows = shows
+all_default known i (k ∷ ks) o rows first shows =
+    all_default known (index_after i (rule_of_known k)) ks o (with_default rows (built_at i k.name k.kind)) (both _ _ first).1 (one_default known i k.name k.kind o rows (both _ _ first).0 shows)

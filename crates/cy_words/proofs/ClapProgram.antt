@@ -1,19 +1,40 @@
--- `clap` takes the words of each command that have its form, and keeps their values.
-use Rattle.std.proofs.Common.{◌≡◌, ◌&&◌, List, [], ◌∷◌, Bool, true, false, Some, refl, sym, ap, ◌∙◌, subst}
-use Rattle.std.proofs.Common.{codes, fold, map}
-use Rattle.clap.specs.Walk.{Row, Text, finished, first_of, nothing_held, rows_after, walk_from, with_default}
-use Rattle.clap.specs.Simple.{App, Shape, built, built_leaf, inherited, is_simple, marked_built, on_top, subcommand_of, with_leaf_noted}
-use Rattle.clap.specs.Takes.{level_passes, takes}
-use Rattle.clap.proofs.OnLiterals.{clap_on_literals}
-use Rattle.cy_words.specs.CheckWords.{check_options}
+-- `clap` takes the words of each form, and keeps their values.
+use Rattle.std.proofs.Common.{◌≡◌, ◌<◌, ◌&&◌, ◌||◌, List, [], ◌∷◌, Bool, true, false, not, Option, Some, cond, refl, sym, ap, ◌∙◌, subst, arith}
+use Rattle.std.proofs.Common.{ℕ, codes, length, option_map, bytes_eq, fold, map}
+use Rattle.std.specs.Prelude.{nat_lt}
+use Rattle.std.specs.List.{find, list_all}
+use Rattle.clap.specs.Walk.{Row, Text, after_step, answers_to, finished, idle, nothing_held, rows_after, subcommand_met, subcommand_or_other, walk_from, walked, with_default}
+use Rattle.clap.specs.Simple.{Shape, built, built_leaf, index_after, inherited, is_simple, label_of, marked_built, names_of, new_shape, on_top, subcommand_of, with_leaf_noted}
+use Rattle.clap.specs.Takes.{default_passes, is_given, level_passes, other_passes, step_passes, takes}
+use Rattle.clap.proofs.WalkLemmas.{both}
+use Rattle.cy_words.specs.Command.{Form, form_of, forms}
 use Rattle.cy_words.specs.Kept.{options_in}
-use Rattle.cy_words.specs.Options.{AreOptions, Known, Options}
-use Rattle.cy_words.specs.PlayWords.{play_options}
-use Rattle.cy_words.specs.Program.{check_app, info_app, make_app, pass_app, play_app, program}
-use Rattle.cy_words.specs.Words.{is_word}
-use Rattle.cy_words.proofs.ClapOptions.{built_option, kept_row, rows_show, shown_options}
-use Rattle.cy_words.proofs.ClapWalk.{GoesTo, Knows, given_steps, then_goes, word_is_plain}
-use Rattle.cy_words.proofs.ClapLevel.{Enters, IsOpen, all_default, knows_flags, entered_at, level_rows, level_taken, place_goes, placed, taken_at}
+use Rattle.cy_words.specs.Options.{AreOptions, Flag, Kind, Known, Options, Place, Value, places}
+use Rattle.cy_words.specs.Program.{Head, heads, program, rule_of_known}
+use Rattle.cy_words.proofs.Forms.{found_has, found_mapped, found_named, head_of, swapped}
+use Rattle.cy_words.proofs.OptionsRead.{AreNames, is_name, nothing, some_same}
+use Rattle.cy_words.proofs.ClapOptions.{built_at, built_from, kept_row, rows_show, shown_options}
+use Rattle.cy_words.proofs.ClapWalk.{GoesTo, at_place, given_steps}
+use Rattle.cy_words.proofs.ClapLevel.{Enters, IsOpen, all_default, knows_flags, entered_at, level_rows, level_taken, taken_at}
+
+-- ---- what holds of any form
+
+-- what any form has to be: names, no flag that is something else too, few places
+abbrev is_sound : Form → Bool
+is_sound f = list_all (λ k. is_name k.name) f.known && (knows_flags f.known f.known && nat_lt (length (places f.known)) 100)
+
+all_sound : list_all is_sound forms ≡ true
+all_sound = refl
+
+sound : (name : Text) (f : Form) → form_of name ≡ Some f → is_sound f ≡ true
+unfolding form_of
+sound name f e = found_has is_sound forms name f e all_sound
+
+pub names_of_form : (name : Text) (f : Form) → form_of name ≡ Some f → AreNames f.known
+names_of_form name f e = (both _ _ (sound name f e)).0
+
+below : (n : ℕ) → nat_lt n 100 ≡ true → n < 100
+below n e = grind arith
 
 -- ---- the program as it is built
 
@@ -23,28 +44,80 @@ is_simple_program = refl
 abbrev above : Shape
 above = (on_top with_leaf_noted (on_top marked_built program)).top
 
-abbrev leaf_of : App → Shape
-leaf_of a = built_leaf (inherited above a.top)
+abbrev leaf : Head → Shape
+leaf h = built_leaf (inherited above (record (new_shape h.name) { rules = map rule_of_known h.known }))
 
-enters_play : Enters (built program) (codes "play") (leaf_of play_app)
-unfolding clap_on_literals
-enters_play = record { met = refl; asked = refl; found = refl; defaults = refl; valid = λ rows. refl }
+subs_are : (built program).subs ≡ map leaf heads
+subs_are = refl
 
-enters_check : Enters (built program) (codes "check") (leaf_of check_app)
-unfolding clap_on_literals
-enters_check = record { met = refl; asked = refl; found = refl; defaults = refl; valid = λ rows. refl }
+abbrev one_of : Form → List Form → Text → Bool → Option Shape
+one_of g fs name t = cond (t || false) (Some (leaf (head_of g))) (find (λ (s : Shape). answers_to name (label_of s)) (map leaf (map head_of fs)))
 
-enters_info : Enters (built program) (codes "info") (leaf_of info_app)
-unfolding clap_on_literals
-enters_info = record { met = refl; asked = refl; found = refl; defaults = refl; valid = λ rows. refl }
+sub_found : (fs : List Form) (name : Text) (f : Form) → find (λ (f : Form). bytes_eq name f.name) fs ≡ Some f
+    → find (λ (s : Shape). answers_to name (label_of s)) (map leaf (map head_of fs)) ≡ Some (leaf (head_of f))
+sub_found [] name f e = absurd (nothing f e)
+sub_found (g ∷ fs) name f e = by (bytes_eq name g.name) refl (sub_found fs name f) e
+  where
+    by : (t : Bool) → bytes_eq name g.name ≡ t
+        → (find (λ (f : Form). bytes_eq name f.name) fs ≡ Some f → find (λ (s : Shape). answers_to name (label_of s)) (map leaf (map head_of fs)) ≡ Some (leaf (head_of f)))
+        → cond t (Some g) (find (λ (f : Form). bytes_eq name f.name) fs) ≡ Some f → one_of g fs name (bytes_eq g.name name) ≡ Some (leaf (head_of f))
+    by true same rest e = ap (one_of g fs name) (swapped g.name name ∙ same) ∙ ap (λ (f : Form). Some (leaf (head_of f))) (some_same g f e)
+    by false other rest e = ap (one_of g fs name) (swapped g.name name ∙ other) ∙ rest e
 
-enters_pass : Enters (built program) (codes "pass") (leaf_of pass_app)
-unfolding clap_on_literals
-enters_pass = record { met = refl; asked = refl; found = refl; defaults = refl; valid = λ rows. refl }
+or_true : (b : Bool) → (b || true) ≡ true
+or_true true = refl
+or_true false = refl
 
-enters_make : Enters (built program) (codes "make") (leaf_of make_app)
-unfolding clap_on_literals
-enters_make = record { met = refl; asked = refl; found = refl; defaults = refl; valid = λ rows. refl }
+sub_of_form : (name : Text) (f : Form) → form_of name ≡ Some f → find (λ (s : Shape). answers_to name (label_of s)) (built program).subs ≡ Some (leaf (head_of f))
+unfolding form_of
+sub_of_form name f e = ap (find (λ (s : Shape). answers_to name (label_of s))) subs_are ∙ sub_found forms name f e
+
+named_form : (name : Text) (f : Form) → form_of name ≡ Some f → name ≡ f.name
+unfolding form_of
+named_form name f e = found_named forms name f e
+
+-- the command of a form is entered by its name
+enters : (name : Text) (f : Form) → form_of name ≡ Some f → Enters (built program) name (leaf (head_of f))
+unfolding walked
+enters name f e =
+    let a = built program in
+    let w = walk_from nothing_held in
+    let found = sub_of_form name f e in
+    let met : subcommand_met (names_of a) idle name ≡ Some name =
+    ap (option_map (λ (p : Text × List Text). p.0)) (found_mapped (answers_to name) label_of a.subs ∙ ap (option_map label_of) found) ∙ ap Some (sym (named_form name f e)) in
+    record {
+      met = ap (λ (x : Option Text). after_step a.top.rules name w (subcommand_or_other a.top.rules x idle 1 name nothing_held).0 (subcommand_or_other a.top.rules x idle 1 name nothing_held).1) met;
+      asked = ap (λ (x : Option Text). other_passes a.top x name nothing_held && step_passes a.top 1 (subcommand_or_other a.top.rules x idle 1 name nothing_held).0 (subcommand_or_other a.top.rules x idle 1 name nothing_held).1) met
+          ∙ ap (λ (t : Bool). t && true) (or_true (not (bytes_eq name (codes "help"))));
+      found = found;
+      defaults = refl;
+      valid = λ rows. refl;
+    }
+
+-- ---- what any command is that is told of rows
+
+all_free : (known : List Known) (i : ℕ) → list_all (λ a. a.is_free) (built_from i known) ≡ true
+all_free [] i = refl
+all_free (k ∷ known) i = all_free known _
+
+none_required : (known : List Known) (i : ℕ) (rows : List Row) → list_all (λ a. not a.required || is_given a.id rows) (built_from i known) ≡ true
+none_required [] i rows = refl
+none_required (k ∷ known) i rows = none_required known _ rows
+
+default_of_one : (i : ℕ) (name : Text) (kind : Kind) → default_passes (built_at i name kind) ≡ true
+default_of_one i name Place = refl
+default_of_one i name Value = refl
+default_of_one i name Flag = refl
+
+defaults_pass : (known : List Known) (i : ℕ) → list_all default_passes (built_from i known) ≡ true
+defaults_pass [] i = refl
+defaults_pass (k ∷ known) i = ap (λ (t : Bool). t && list_all default_passes (built_from (index_after i (rule_of_known k)) known)) (default_of_one i k.name k.kind) ∙ defaults_pass known _
+
+is_open : (h : Head) → IsOpen (leaf h)
+is_open h = record {
+  defaults = defaults_pass h.known 1;
+  valid = λ rows. ap (λ (t : Bool). t && list_all (λ a. not a.required || is_given a.id rows) (built_from 1 h.known)) (all_free h.known 1) ∙ none_required h.known 1 rows;
+}
 
 -- ---- what is taken
 
@@ -60,98 +133,17 @@ reads name sub words rows enters called passes kept = record {
   found = entered_at (built program) name words sub enters ∙ (ap (λ (n : Text). Some (n, rows_after sub.rules [] words)) called ∙ ap (λ (r : List Row). Some (name, r)) kept);
 }
 
--- ---- options
-
--- a command that is told of options, and that asks for none
-pub record Takes (s : Shape) (known : List Known) : Type 0 where
-  pub knows : Knows s known
-  pub flags : knows_flags known known ≡ true
-  pub is_open : IsOpen s
-
-options_read : (name : Text) (s : Shape) (known : List Known) → Enters (built program) name s → s.name ≡ name → Takes s known → (words : List Text) (o : Options) → AreOptions known words o
-    → (rows : List Row) × Reads name words rows × (options_in known rows ≡ o)
-options_read name s known enters called takes words o p =
-    let steps = given_steps s known [] p.given o nothing_held takes.knows p.are_known p.values (record { rows = refl; settles = refl }) in
-    let goes = subst (λ (w : List Text). GoesTo s (walk_from nothing_held) w (walk_from steps.0)) (sym p.are_spelled) steps.1 in
-    let kept = finished s.rules steps.0 in
-    let is : kept ≡ fold with_default (map kept_row p.given) (map built_option known) = λ i. fold with_default (steps.2.rows i) (takes.knows.rules i) in (
+-- the words of a form are taken, and what they give is kept
+pub form_read : (name : Text) (f : Form) (words : List Text) (o : Options) → form_of name ≡ Some f → AreOptions f.known words o → (rows : List Row) × Reads name words rows × (options_in f.known rows ≡ o)
+form_read name f words o e p =
+    let s = leaf (head_of f) in
+    let tested : (knows_flags f.known f.known ≡ true) × (nat_lt (length (places f.known)) 100 ≡ true) = both _ _ (both _ _ (sound name f e)).1 in
+    let steps = given_steps s f.known 1 [] p.given o nothing_held (record { rules = refl; names = names_of_form name f e; few = below (length (places f.known)) tested.1 }) p.are_known p.values (sym p.are_placed) refl (record { rows = refl; settles = refl }) in
+    let goes = subst (λ (w : List Text). GoesTo s (walk_from nothing_held) w (at_place steps.number steps.to)) (sym p.are_spelled) steps.goes in
+    let kept = finished s.rules steps.to in
+    let is : kept ≡ fold with_default (map kept_row p.given) (built_from 1 f.known) = ap (λ (rows : List Row). fold with_default rows (built_from 1 f.known)) steps.ready.rows in (
       kept,
-      reads name s words kept enters called (level_taken s nothing_held words (walk_from steps.0) takes.is_open goes steps.2.settles) (level_rows s words (walk_from steps.0) goes),
-      ap (options_in known) is ∙ shown_options known o _ (all_default known known o (map kept_row p.given) takes.flags (rows_show known words o p)),
-    )
-
-play_takes : Takes (leaf_of play_app) play_options
-play_takes = record { knows = record { rules = refl; names = refl }; flags = refl; is_open = record { defaults = refl; valid = λ rows. refl } }
-
-check_takes : Takes (leaf_of check_app) check_options
-check_takes = record { knows = record { rules = refl; names = refl }; flags = refl; is_open = record { defaults = refl; valid = λ rows. refl } }
-
-pub play_read : (words : List Text) (o : Options) → AreOptions play_options words o → (rows : List Row) × Reads (codes "play") words rows × (options_in play_options rows ≡ o)
-play_read = options_read (codes "play") (leaf_of play_app) play_options enters_play refl play_takes
-
-pub check_read : (words : List Text) (o : Options) → AreOptions check_options words o → (rows : List Row) × Reads (codes "check") words rows × (options_in check_options rows ≡ o)
-check_read = options_read (codes "check") (leaf_of check_app) check_options enters_check refl check_takes
-
--- ---- words that are known by their places
-
-info_open : IsOpen (leaf_of info_app)
-info_open = record { defaults = refl; valid = λ rows. refl }
-
-pub info_read : (file : Text) → is_word file ≡ true → (rows : List Row) × Reads (codes "info") (file ∷ []) rows × (first_of (codes "file") rows ≡ Some file)
-info_read file word =
-    let s = leaf_of info_app in
-    let to = placed s 1 nothing_held file in
-    let goes = place_goes s 1 nothing_held file (word_is_plain file word) refl in (
-      finished s.rules to.held,
-      reads (codes "info") s (file ∷ []) (finished s.rules to.held) enters_info refl (level_taken s nothing_held (file ∷ []) to info_open goes refl) (level_rows s (file ∷ []) to goes),
-      refl,
-    )
-
-make_open : IsOpen (leaf_of make_app)
-make_open = record { defaults = refl; valid = λ rows. refl }
-
-pub make_read : (count prefix : Text) → is_word count ≡ true → is_word prefix ≡ true
-    → (rows : List Row) × Reads (codes "make") (count ∷ prefix ∷ []) rows × (first_of (codes "count") rows ≡ Some count) × (first_of (codes "prefix") rows ≡ Some prefix)
-make_read count prefix p q =
-    let s = leaf_of make_app in
-    let first = placed s 1 nothing_held count in
-    let to = placed s 2 first.held prefix in
-    let goes = then_goes s (walk_from nothing_held) first to (count ∷ []) (prefix ∷ []) (place_goes s 1 nothing_held count (word_is_plain count p) refl)
-    (place_goes s 2 first.held prefix (word_is_plain prefix q) refl) in (
-      finished s.rules to.held,
-      reads (codes "make") s (count ∷ prefix ∷ []) (finished s.rules to.held) enters_make refl (level_taken s nothing_held (count ∷ prefix ∷ []) to make_open goes refl)
-          (level_rows s (count ∷ prefix ∷ []) to goes),
-      refl,
-      refl,
-    )
-
-pass_open : IsOpen (leaf_of pass_app)
-pass_open = record { defaults = refl; valid = λ rows. refl }
-
--- the five words of `pass` are kept
-pub record KeepsPass (input output trace from to : Text) (rows : List Row) : Type 0 where
-  pub input_kept : first_of (codes "record") rows ≡ Some input
-  pub output_kept : first_of (codes "out") rows ≡ Some output
-  pub trace_kept : first_of (codes "trace") rows ≡ Some trace
-  pub from_kept : first_of (codes "from") rows ≡ Some from
-  pub to_kept : first_of (codes "to") rows ≡ Some to
-
-pub pass_read : (input output trace from to : Text) → is_word input ≡ true → is_word output ≡ true → is_word trace ≡ true → is_word from ≡ true → is_word to ≡ true
-    → (rows : List Row) × Reads (codes "pass") (input ∷ output ∷ trace ∷ from ∷ to ∷ []) rows × KeepsPass input output trace from to rows
-pass_read input output trace from to p q r t u =
-    let s = leaf_of pass_app in
-    let w1 = placed s 1 nothing_held input in
-    let w2 = placed s 2 w1.held output in
-    let w3 = placed s 3 w2.held trace in
-    let w4 = placed s 4 w3.held from in
-    let w5 = placed s 5 w4.held to in
-    let start = walk_from nothing_held in
-    let go2 = then_goes s start w1 w2 (input ∷ []) (output ∷ []) (place_goes s 1 nothing_held input (word_is_plain input p) refl) (place_goes s 2 w1.held output (word_is_plain output q) refl) in
-    let go3 = then_goes s start w2 w3 (input ∷ output ∷ []) (trace ∷ []) go2 (place_goes s 3 w2.held trace (word_is_plain trace r) refl) in
-    let go4 = then_goes s start w3 w4 (input ∷ output ∷ trace ∷ []) (from ∷ []) go3 (place_goes s 4 w3.held from (word_is_plain from t) refl) in
-    let go5 = then_goes s start w4 w5 (input ∷ output ∷ trace ∷ from ∷ []) (to ∷ []) go4 (place_goes s 5 w4.held to (word_is_plain to u) refl) in
-    let words = input ∷ output ∷ trace ∷ from ∷ to ∷ [] in (
-      finished s.rules w5.held,
-      reads (codes "pass") s words (finished s.rules w5.held) enters_pass refl (level_taken s nothing_held words w5 pass_open go5 refl) (level_rows s words w5 go5),
-      record { input_kept = refl; output_kept = refl; trace_kept = refl; from_kept = refl; to_kept = refl },
+      reads name s words kept (enters name f e) (sym (named_form name f e)) (level_taken s nothing_held words (at_place steps.number steps.to) (is_open (head_of f)) goes steps.ready.settles)
+          (level_rows s words (at_place steps.number steps.to) goes),
+      ap (options_in f.known) is ∙ shown_options f.known o (fold with_default (map kept_row p.given) (built_from 1 f.known)) (all_default f.known 1 f.known o (map kept_row p.given) tested.0 (rows_show f.known words o p)),
     )

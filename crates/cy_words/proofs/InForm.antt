@@ -1,24 +1,63 @@
 -- A command that is asked for is in form.
-use Rattle.std.proofs.Common.{◌≡◌, ◌<◌, ◌≤◌, ◌&&◌, ◌||◌, ℕ, List, [], ◌∷◌, Bool, true, false, not, Option, Some, None, is_some, if◌then◌else◌, refl, sym, ap, ◌∙◌, subst, inl, inr, true≢false, arith}
-use Rattle.std.proofs.Common.{option_map, bytes_eq, length}
+use Rattle.std.proofs.Common.{◌≡◌, ◌<◌, ◌≤◌, ◌||◌, ℕ, List, [], ◌∷◌, ◌++◌, Bool, true, false, Option, Some, None, is_some, if◌then◌else◌, cond, refl, sym, ap, ◌∙◌, subst, true≢false, arith}
+use Rattle.std.proofs.Common.{codes, flat_map, option_map, option_to_list, bytes_eq, length}
+use Rattle.std.specs.Bool.{⊤}
+use Rattle.std.specs.List.{find, list_all}
 use Rattle.std.specs.Prelude.{nat_lt, IfSome, IsSome}
 use Rattle.clap.specs.Walk.{Text}
 use Rattle.clap.proofs.WalkLemmas.{both}
-use Rattle.cy_request.specs.Request.{HasReader}
+use Rattle.cy_request.specs.Request.{HasReader, OfPass}
 use Rattle.cy_words.specs.declared.words.Command as code
 use Rattle.cy_words.specs.declared.words.Command.TheVariants as asked
-use Rattle.cy_words.specs.Command.{Asks}
-use Rattle.cy_words.specs.MakeWords.{MakeWords, count_of, longest_prefix, made_by, make_of, most_made, where_made}
-use Rattle.cy_words.specs.Options.{Options}
-use Rattle.cy_words.specs.PassWords.{pass_of, pass_words}
-use Rattle.cy_words.specs.PlayWords.{PlayWords, are_lists, asked_by, is_play, number_of, play_words, where_play, ◌>>=◌}
-use Rattle.cy_words.specs.PlayViews.{play_words_of}
+use Rattle.cy_words.specs.CheckWords.{check_asked}
+use Rattle.cy_words.specs.Command.{Asks, Check, Command, Form, Info, Make, Play, form_of, forms, info_asked}
+use Rattle.cy_words.specs.MakeWords.{MakeWords, count_of, longest_prefix, made_by, make_asked, most_made, where_made}
+use Rattle.cy_words.specs.Options.{Alone, Apart, AreOptions, Filled, Given, Joined, Known, Options, Place, is_known, is_place, kind_of, name_in, value_in, values_under}
+use Rattle.cy_words.specs.PassWords.{pass_asked, pass_known, passed_by}
+use Rattle.cy_words.specs.PlayWords.{PlayWords, are_lists, is_play, play_asked, play_of_all, play_words, spelled_number, where_play, ◌>>=◌}
 use Rattle.cy_words.specs.Scan.{command_of}
-use Rattle.cy_words.specs.Views.{IsInForm, command_asked, make_words_of}
+use Rattle.cy_words.specs.Views.{IsInForm, command_asked}
 use Rattle.cy_words.specs.Words.{is_word}
 use Rattle.cy_words.proofs.Asked.{asks}
 use Rattle.cy_words.proofs.Named.{named}
-use Rattle.cy_words.proofs.OptionsRead.{bound, guarded, mapped, nothing, some_same, unguarded}
+use Rattle.cy_words.proofs.OptionsRead.{bound, flag_known, guarded, mapped, nothing, same_name, some_same, unguarded}
+
+-- ---- what stands at a place is a word
+
+one_word : (known : List Known) (g : Given) → is_known known g ≡ true → kind_of known (name_in g) ≡ Some Place → is_word (value_in g) ≡ true
+one_word known (Filled name v) e is = (both _ _ e).1
+one_word known (Alone name) e is = absurd (true≢false (sym (ap is_place is) ∙ ap is_place (flag_known (kind_of known name) e)))
+one_word known (Apart name v) e is = (both _ _ e).1
+one_word known (Joined name v) e is = (both _ _ e).1
+
+first_word : (known : List Known) (gs : List Given) (name v : Text) (rest : List Text) → list_all (is_known known) gs ≡ true → kind_of known name ≡ Some Place → flat_map (values_under name) gs ≡ v ∷ rest
+    → is_word v ≡ true
+first_word known [] name v rest all is e = absurd (let h : [] ≡ v ∷ rest = e in cc)
+first_word known (g ∷ gs) name v rest all is e = by (bytes_eq (name_in g) name) refl (first_word known gs name v rest (both _ _ all).1 is) e
+  where
+    by : (t : Bool) → bytes_eq (name_in g) name ≡ t → (flat_map (values_under name) gs ≡ v ∷ rest → is_word v ≡ true)
+        → (if t then value_in g ∷ [] else []) ++ flat_map (values_under name) gs ≡ v ∷ rest → is_word v ≡ true
+    by true same others e =
+        let first : value_in g ≡ v = let h : value_in g ∷ flat_map (values_under name) gs ≡ v ∷ rest = e in cc in
+        subst (λ (x : Text). is_word x ≡ true) first (one_word known g (both _ _ all).0 (ap (kind_of known) (same_name (name_in g) name same) ∙ is))
+    by false other others e = others e
+
+placed_word : (known : List Known) (words : List Text) (o : Options) (name v : Text) → AreOptions known words o → kind_of known name ≡ Some Place → o name ≡ Some v → is_word v ≡ true
+placed_word known words o name v p is e = first_word known p.given name v [] p.are_known is (p.values name ∙ ap option_to_list e)
+
+-- ---- form by form
+
+-- what holds of a command that is asked for
+abbrev pub IsFit : Command → Type 0
+IsFit (Play w) = HasReader w.request.components
+IsFit (Make w) = (0 < w.count) × (w.count ≤ most_made) × (length w.prefix ≤ longest_prefix)
+IsFit c = ⊤
+
+abbrev Fits : Form → Type 0
+Fits f = (words : List Text) (o : Options) (c : Command) → AreOptions f.known words o → f.asked o ≡ Some c → IsFit c
+
+fit_by : {A : Type 0} (x : Option A) (view : A → Command) (c : Command) → ((a : A) → x ≡ Some a → IsFit (view a)) → option_map view x ≡ Some c → IsFit c
+fit_by x view c fit e = let m = mapped x view c e in subst IsFit m.2 (fit m.0 m.1)
 
 abbrev ReaderOf : PlayWords → Type 0
 ReaderOf w = HasReader w.request.components
@@ -33,18 +72,21 @@ bound_holds (Some a) f h = h a
 play_reader : (o : Options) → IfSome (play_words o) ReaderOf
 play_reader o = search bound_holds depth 12
 
-asked_reader : (o : Options) (w : PlayWords) → asked_by o ≡ Some w → ReaderOf w
-unfolding asked_by
-asked_reader o w e =
+play_fit : (o : Options) (w : PlayWords) → play_asked o ≡ Some w → ReaderOf w
+unfolding play_asked
+play_fit o w e =
     let b = bound (play_words o) where_play w (guarded (are_lists o) (play_words o >>= where_play) w e).1 in
     subst ReaderOf (where_is b.0 w b.2) (subst (λ (x : Option PlayWords). IfSome x ReaderOf) b.1 (play_reader o))
 
-pass_reader : (words : List Text) (w : PlayWords) → pass_of words ≡ Some w → ReaderOf w
-pass_reader (input ∷ output ∷ trace ∷ from ∷ to ∷ []) w e =
-    let g = guarded (is_word input && is_word output && is_word trace && is_word from && is_word to && not (bytes_eq from to)) (where_play (pass_words input output trace from to)) w e in
-    let is_from : is_word from ≡ true = (both _ _ (both _ _ (both _ _ g.0).0).0).1 in
-    subst ReaderOf (where_is (pass_words input output trace from to) w g.1) (named from is_from)
-pass_reader words w e = absurd (nothing w e)
+pass_fit : (words : List Text) (o : Options) (w : PlayWords) → AreOptions pass_known words o → pass_asked o ≡ Some w → ReaderOf w
+pass_fit words o w p e =
+    let input = bound (o (codes "record")) _ w e in
+    let output = bound (o (codes "out")) _ w input.2 in
+    let trace = bound (o (codes "trace")) _ w output.2 in
+    let from = bound (o (codes "from")) _ w trace.2 in
+    let to = bound (o (codes "to")) (passed_by input.0 output.0 trace.0 from.0) w from.2 in
+    let play = play_of_all (OfPass from.0 to.0) input.0 output.0 trace.0 in
+    subst ReaderOf (where_is play w (unguarded (bytes_eq from.0 to.0) (where_play play) w to.2).1) (named from.0 (placed_word pass_known words o (codes "from") from.0 p refl from.1))
 
 in_range : (n m : ℕ) → where_made n ≡ Some m → (0 < m) × (m ≤ most_made)
 in_range n m e = by (nat_lt n 1) (nat_lt most_made n) refl refl e
@@ -57,26 +99,58 @@ in_range n m e = by (nat_lt n 1) (nat_lt most_made n) refl refl e
         let high : n ≤ most_made = grind arith in
         subst (λ (x : ℕ). (0 < x) × (x ≤ most_made)) (some_same n m e) (low, high)
 
-make_range : (words : List Text) (w : MakeWords) → make_of words ≡ Some w → (0 < w.count) × (w.count ≤ most_made)
-make_range (count ∷ prefix ∷ []) w e =
-    let g = guarded (is_word prefix) (made_by count prefix) w e in
-    let s = unguarded (nat_lt longest_prefix (length prefix)) (option_map (λ n. record { count = n; prefix = prefix }) (count_of count)) w g.1 in
-    let m = mapped (count_of count) (λ n. record { count = n; prefix = prefix }) w s.1 in
-    let b = bound (number_of count) where_made m.0 m.1 in
-    subst (λ (x : MakeWords). (0 < x.count) × (x.count ≤ most_made)) m.2 (in_range b.0 m.0 b.2)
-make_range words w e = absurd (nothing w e)
+make_fit : (o : Options) (w : MakeWords) → make_asked o ≡ Some w → IsFit (Make w)
+make_fit o w e =
+    let text = bound (o (codes "count")) _ w e in
+    let prefix = bound (o (codes "prefix")) (made_by text.0) w text.2 in
+    let s = unguarded (nat_lt longest_prefix (length prefix.0)) (option_map (λ n. record { count = n; prefix = prefix.0 }) (count_of text.0)) w prefix.2 in
+    let m = mapped (count_of text.0) (λ n. record { count = n; prefix = prefix.0 }) w s.1 in
+    let b = bound (spelled_number text.0) where_made m.0 m.1 in
+    let range = in_range b.0 m.0 b.2 in
+    let short : length prefix.0 ≤ longest_prefix = grind (arith, s.0) in
+    subst (λ (x : MakeWords). IsFit (Make x)) m.2 (range.0, range.1, short)
 
-of_asked : (words : List Text) (c : code.Command) → Asks words (command_asked c) → IsInForm c
-of_asked [] c e = absurd e
-of_asked (name ∷ words) (asked.Check w) e = tt
-of_asked (name ∷ words) (asked.Info w) e = tt
-of_asked (name ∷ words) (asked.Play w) (inl e) = asked_reader e.1.options (play_words_of w) e.1.asked
-of_asked (name ∷ words) (asked.Play w) (inr e) = pass_reader words (play_words_of w) e.1
-of_asked (name ∷ words) (asked.Make w) e = make_range words (make_words_of w) e.1
+abbrev EachFits : List Form → Type 0
+EachFits [] = ⊤
+EachFits (f ∷ fs) = Fits f × EachFits fs
+
+each_fits : EachFits forms
+each_fits = (
+  λ words o c p. fit_by (play_asked o) Play c (play_fit o),
+  (
+    λ words o c p. fit_by (pass_asked o) Play c (λ w. pass_fit words o w p),
+    (
+      λ words o c p. fit_by (check_asked o) Check c (λ w e. tt),
+      (
+        λ words o c p. fit_by (info_asked o) Info c (λ w e. tt),
+        (λ words o c p. fit_by (make_asked o) Make c (make_fit o), tt),
+      ),
+    ),
+  ),
+)
+
+found_fits : (fs : List Form) (name : Text) (f : Form) → find (λ (f : Form). bytes_eq name f.name) fs ≡ Some f → EachFits fs → Fits f
+found_fits [] name f e each = absurd (nothing f e)
+found_fits (g ∷ fs) name f e each = by (bytes_eq name g.name) (λ e. found_fits fs name f e each.1) e
+  where
+    by : (t : Bool) → (find (λ (f : Form). bytes_eq name f.name) fs ≡ Some f → Fits f) → cond t (Some g) (find (λ (f : Form). bytes_eq name f.name) fs) ≡ Some f → Fits f
+    by true rest e = subst Fits (some_same g f e) each.0
+    by false rest e = rest e
+
+pub asked_fits : (words : List Text) (c : Command) → Asks words c → IsFit c
+unfolding form_of
+asked_fits [] c h = absurd h
+asked_fits (name ∷ words) c h = found_fits forms name h.0 h.1 each_fits words h.2.options c h.2.are_options h.2.asks
+
+-- the same of the code's command
+in_form_by : (c : code.Command) → IsFit (command_asked c) → IsInForm c
+in_form_by (asked.Play w) fit = fit
+in_form_by (asked.Make w) fit = (fit.0, fit.1)
+in_form_by c fit = tt
 
 pub in_form : (words : List Text) (found : Option code.Command) → option_map command_asked found ≡ command_of words → IfSome found IsInForm
 in_form words None e = tt
-in_form words (Some c) e = of_asked words c (asks words (command_asked c) (sym e))
+in_form words (Some c) e = in_form_by c (asked_fits words (command_asked c) (asks words (command_asked c) (sym e)))
 
 -- a command that is asked for was found
 pub was_found : (found : Option code.Command) (words : List Text) → option_map command_asked found ≡ command_of words → is_some (command_of words) ≡ true → IsSome found

@@ -5,6 +5,7 @@ pub mod ClapOptions
 pub mod ClapProgram
 pub mod ClapWalk
 pub mod Commas
+pub mod Forms
 pub mod InForm
 pub mod Named
 pub mod OptionsRead

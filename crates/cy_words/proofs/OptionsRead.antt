@@ -1,20 +1,20 @@
--- The scan of words finds the options that they are, and what `play` and `check` make of them.
+-- The scan of words finds what they give.
 use Rattle.std.proofs.Common.{◌≡◌, ◌<◌, ◌⊎◌, ◌+◌, ◌==◌, ◌&&◌, ℕ, List, [], ◌∷◌, ◌++◌, Bool, true, false, not, Option, Some, None, is_some, if◌then◌else◌, cond, refl, sym, ap, ◌∙◌, subst, inl, inr, true≢false}
 use Rattle.std.proofs.Common.{length, take, drop, get_or, position, flat_map, option_map, option_to_list, bytes_eq, arith, append_assoc, append-nil}
 use Rattle.std.specs.List.{find, list_all, position_or_len}
 use Rattle.std.specs.Borrow.{Bor}
 use Rattle.std.specs.Option.{MatchOption}
-use Rattle.std.specs.Prelude.{option_and_then}
+use Rattle.std.specs.Prelude.{nat_le, option_and_then}
 use Rattle.std.specs.Str.Pattern.{FindsTextPrefix, StripsPrefix}
 use Rattle.std.proofs.lemmas.Grind.{common_steps}
 use Rattle.std.proofs.lemmas.List.Quantifiers.{position-Some}
 use Rattle.std.proofs.lemmas.Slice.Eq.{bytes_eq-Decides}
 use Rattle.clap.specs.Lexer.{strip_byte}
 use Rattle.clap.proofs.WalkLemmas.{both}
-use Rattle.cy_words.specs.CheckWords.{CheckWords, IsCheckWords, check_asked, check_options}
-use Rattle.cy_words.specs.Options.{Alone, Apart, AreOptions, Given, Joined, Known, Options, has_value, hyphened, is_flag, is_known, is_valued, name_in, spelled, value_in, values_under}
-use Rattle.cy_words.specs.PlayWords.{IsPlayWords, PlayWords, asked_by, play_options, ◌>>=◌}
-use Rattle.cy_words.specs.Scan.{Reading, behind_hyphens, check_of, given_met, name_met, no_options, option_met, options_at_end, options_met, parts_met, play_of, put, put_once, rest_met, settled, words_met}
+use Rattle.cy_words.specs.Options.{Alone, Apart, AreOptions, Flag, Given, Joined, Kind, Known, Options, Place, Filled, Value, filled_in, hyphened, is_flag, is_known, is_place, is_valued, kind_of, name_in, places, spelled, value_in, values_under}
+use Rattle.cy_words.specs.PlayWords.{◌>>=◌}
+use Rattle.cy_words.specs.Scan.{Reading, behind_hyphens, given_met, is_full, name_met, no_options, option_met, options_met, options_read, parts_met, place_met, put, put_once, rest_met, settled, words_met}
+use Rattle.cy_words.specs.Words.{is_word, longest_word}
 
 -- ---- steps that succeed
 
@@ -52,15 +52,23 @@ none_of (Some v) e = absurd (true≢false e)
 
 -- ---- what a command knows
 
-pub flag_known : (has : Option Bool) → is_flag has ≡ true → has ≡ Some false
-flag_known None e = absurd (true≢false (sym e))
-flag_known (Some true) e = absurd (true≢false (sym e))
-flag_known (Some false) e = refl
+pub place_known : (has : Option Kind) → is_place has ≡ true → has ≡ Some Place
+place_known None e = absurd (true≢false (sym e))
+place_known (Some Place) e = refl
+place_known (Some Value) e = absurd (true≢false (sym e))
+place_known (Some Flag) e = absurd (true≢false (sym e))
 
-pub valued_known : (has : Option Bool) → is_valued has ≡ true → has ≡ Some true
+pub valued_known : (has : Option Kind) → is_valued has ≡ true → has ≡ Some Value
 valued_known None e = absurd (true≢false (sym e))
-valued_known (Some true) e = refl
-valued_known (Some false) e = absurd (true≢false (sym e))
+valued_known (Some Place) e = absurd (true≢false (sym e))
+valued_known (Some Value) e = refl
+valued_known (Some Flag) e = absurd (true≢false (sym e))
+
+pub flag_known : (has : Option Kind) → is_flag has ≡ true → has ≡ Some Flag
+flag_known None e = absurd (true≢false (sym e))
+flag_known (Some Place) e = absurd (true≢false (sym e))
+flag_known (Some Value) e = absurd (true≢false (sym e))
+flag_known (Some Flag) e = refl
 
 abbrev pub no_equals : List ℕ → Bool
 no_equals xs = list_all (λ b. not (b == 61)) xs
@@ -73,12 +81,12 @@ is_name (b ∷ rest) = no_equals (b ∷ rest)
 abbrev pub AreNames : List Known → Type 0
 AreNames known = list_all (λ k. is_name k.name) known ≡ true
 
-pub name_known : (known : List Known) (name : List ℕ) (b : Bool) → AreNames known → has_value known name ≡ Some b → is_name name ≡ true
-name_known [] name b names e = absurd (nothing b e)
-name_known (k ∷ known) name b names e = by (bytes_eq k.name name) refl (name_known known name b (both _ _ names).1) e
+pub name_known : (known : List Known) (name : List ℕ) (kind : Kind) → AreNames known → kind_of known name ≡ Some kind → is_name name ≡ true
+name_known [] name kind names e = absurd (nothing kind e)
+name_known (k ∷ known) name kind names e = by (bytes_eq k.name name) refl (name_known known name kind (both _ _ names).1) e
   where
-    by : (t : Bool) → bytes_eq k.name name ≡ t → (has_value known name ≡ Some b → is_name name ≡ true)
-        → option_map (λ (k : Known). k.has_value) (cond t (Some k) (find (λ (k : Known). bytes_eq k.name name) known)) ≡ Some b → is_name name ≡ true
+    by : (t : Bool) → bytes_eq k.name name ≡ t → (kind_of known name ≡ Some kind → is_name name ≡ true)
+        → option_map (λ (k : Known). k.kind) (cond t (Some k) (find (λ (k : Known). bytes_eq k.name name) known)) ≡ Some kind → is_name name ≡ true
     by true same rest e = subst (λ (n : List ℕ). is_name n ≡ true) (same_name k.name name same) (both _ _ names).0
     by false other rest e = rest e
 
@@ -86,13 +94,13 @@ pub no_equals_in : (name : List ℕ) → is_name name ≡ true → no_equals nam
 no_equals_in [] e = refl
 no_equals_in (b ∷ rest) e = e
 
--- ---- words and the options that they spell
+-- ---- words and what they give
 
-abbrev pub start : Options → Reading
-start o = record { options = o; pending = None }
+abbrev pub start : List Known → Options → Reading
+start left o = record { options = o; pending = None; left = left }
 
-abbrev waits : List ℕ → Options → Reading
-waits name o = record { options = o; pending = Some name }
+abbrev waits : List ℕ → List Known → Options → Reading
+waits name left o = record { options = o; pending = Some name; left = left }
 
 abbrev pub after : List Known → List Given → Options → Option Options
 after known [] o = Some o
@@ -120,55 +128,127 @@ behind_equals [] v = grind (arith, common_steps)
 behind_equals (x ∷ xs) v = grind (arith, common_steps, behind_equals xs v)
 
 -- a name alone, and a name with its value in one word
-alone_met : (known : List Known) (name : List ℕ) (o : Options) (b : Bool) → no_equals name ≡ true → has_value known name ≡ Some b
-    → option_met known (hyphened name) o ≡ (if b then Some (waits name o) else settled (given_met known (Alone name) o))
+alone_met : (known : List Known) (name : List ℕ) (left : List Known) (o : Options) (b : Bool) → no_equals name ≡ true → is_valued (kind_of known name) ≡ b
+    → option_met known (hyphened name) left o ≡ (if b then Some (waits name left o) else settled left (given_met known (Alone name) o))
 unfolding option_met name_met
-alone_met known name o b plain has =
-    ap (λ (x : Option ℕ). parts_met known name x o) (at_no_equals name plain)
-    ∙ ap (λ (x : Option Bool). if is_valued x then Some (waits name o) else settled (given_met known (Alone name) o)) has
+alone_met known name left o b plain has =
+    ap (λ (x : Option ℕ). parts_met known name x left o) (at_no_equals name plain)
+    ∙ ap (λ (x : Bool). if x then Some (waits name left o) else settled left (given_met known (Alone name) o)) has
 
-joined_met : (known : List Known) (name v : List ℕ) (o : Options) → no_equals name ≡ true → option_met known (hyphened name ++ 61 ∷ v) o ≡ settled (given_met known (Joined name v) o)
+joined_met : (known : List Known) (name v : List ℕ) (left : List Known) (o : Options) → no_equals name ≡ true
+    → option_met known (hyphened name ++ 61 ∷ v) left o ≡ settled left (given_met known (Joined name v) o)
 unfolding option_met
-joined_met known name v o plain =
-    ap (λ (x : Option ℕ). parts_met known (name ++ 61 ∷ v) x o) (at_equals name v plain)
-    ∙ (λ i. settled (given_met known (Joined (before_equals name v i) (behind_equals name v i)) o))
+joined_met known name v left o plain =
+    ap (λ (x : Option ℕ). parts_met known (name ++ 61 ∷ v) x left o) (at_equals name v plain)
+    ∙ (λ i. settled left (given_met known (Joined (before_equals name v i) (behind_equals name v i)) o))
 
-settle_then : (known : List Known) (x : Option Options) (gs : List Given) (rest : List (List ℕ)) → ((o : Options) → words_met known rest (start o) ≡ option_map start (after known gs o))
-    → (settled x >>= words_met known rest) ≡ option_map start (x >>= after known gs)
-settle_then known None gs rest h = refl
-settle_then known (Some o) gs rest h = h o
+-- a word that may stand as a name is no option
+no_hyphens : (word : List ℕ) → is_word word ≡ true → behind_hyphens word ≡ None
+no_hyphens [] e = refl
+no_hyphens (b ∷ rest) e = by (b == 45) refl e
+  where
+    by : (t : Bool) → (b == 45) ≡ t → is_word (b ∷ rest) ≡ true → behind_hyphens (b ∷ rest) ≡ None
+    by true is e = absurd (true≢false (sym e ∙ ap (λ (x : Bool). not x && nat_le (length (b ∷ rest)) longest_word) is))
+    by false is e = ap (λ (x : Bool). option_and_then (strip_byte 45) (if x then Some rest else None)) is
 
-read_given : (known : List Known) → AreNames known → (gs : List Given) → list_all (is_known known) gs ≡ true → (o : Options)
-    → words_met known (flat_map spelled gs) (start o) ≡ option_map start (after known gs o)
-read_given known names [] all o = refl
-read_given known names (Alone name ∷ gs) all o =
-    let has = flag_known (has_value known name) (both _ _ all).0 in
-    ap (λ (x : Option Reading). x >>= words_met known (flat_map spelled gs)) (alone_met known name o false (no_equals_in name (name_known known name false names has)) has)
-    ∙ settle_then known (given_met known (Alone name) o) gs (flat_map spelled gs) (read_given known names gs (both _ _ all).1)
-read_given known names (Apart name v ∷ gs) all o =
-    let has = valued_known (has_value known name) (both _ _ (both _ _ all).0).0 in
-    ap (λ (x : Option Reading). x >>= words_met known (v ∷ flat_map spelled gs)) (alone_met known name o true (no_equals_in name (name_known known name true names has)) has)
-    ∙ settle_then known (given_met known (Apart name v) o) gs (flat_map spelled gs) (read_given known names gs (both _ _ all).1)
-read_given known names (Joined name v ∷ gs) all o =
-    let has = valued_known (has_value known name) (both _ _ (both _ _ all).0).0 in
-    ap (λ (x : Option Reading). x >>= words_met known (flat_map spelled gs)) (joined_met known name v o (no_equals_in name (name_known known name true names has)))
-    ∙ settle_then known (given_met known (Joined name v) o) gs (flat_map spelled gs) (read_given known names gs (both _ _ all).1)
+placed_met : (known : List Known) (k : Known) (v : List ℕ) (left : List Known) (o : Options) → is_place (Some k.kind) ≡ true → is_word v ≡ true
+    → option_met known v (k ∷ left) o ≡ settled left (given_met known (Filled k.name v) o)
+unfolding option_met place_met
+placed_met known k v left o is word =
+    ap (λ (x : Option (List ℕ)). rest_met known v x (k ∷ left) o) (no_hyphens v word)
+    ∙ ap (λ (t : Bool). if t then settled left (given_met known (Filled k.name v) o) else None) is
+
+-- the rows from a place on
+pub record Next (left : List Known) (name : List ℕ) (names : List (List ℕ)) : Type 0 where
+  pub row : Known
+  pub rest : List Known
+  pub is : left ≡ row ∷ rest
+  pub is_place_row : is_place (Some row.kind) ≡ true
+  pub named : row.name ≡ name
+  pub others : names ≡ places rest
+
+pub next_place : (left : List Known) (name : List ℕ) (names : List (List ℕ)) → name ∷ names ≡ places left → Next left name names
+next_place [] name names e = absurd (let h : name ∷ names ≡ [] = e in cc)
+next_place (k ∷ left) name names e = by (is_place (Some k.kind)) refl e
+  where
+    by : (t : Bool) → is_place (Some k.kind) ≡ t → name ∷ names ≡ (if t then k.name ∷ places left else []) → Next (k ∷ left) name names
+    by true is e = let h : name ∷ names ≡ k.name ∷ places left = e in record { row = k; rest = left; is = refl; is_place_row = is; named = cc; others = cc }
+    by false is e = absurd (let h : name ∷ names ≡ [] = e in cc)
+
+full : (left : List Known) → [] ≡ places left → is_full left ≡ true
+full [] e = refl
+full (k ∷ left) e = by (is_place (Some k.kind)) refl e
+  where
+    by : (t : Bool) → is_place (Some k.kind) ≡ t → [] ≡ (if t then k.name ∷ places left else []) → is_full (k ∷ left) ≡ true
+    by true is e = absurd (let h : [] ≡ k.name ∷ places left = e in cc)
+    by false is e = ap not is
+
+settle_then : (known : List Known) (x : Option Options) (gs : List Given) (left : List Known) (rest : List (List ℕ))
+    → ((o : Options) → (words_met known rest (start left o) >>= options_read) ≡ after known gs o)
+    → ((settled left x >>= words_met known rest) >>= options_read) ≡ (x >>= after known gs)
+settle_then known None gs left rest h = refl
+settle_then known (Some o) gs left rest h = h o
+
+abbrev read_on : List Known → List (List ℕ) → Option Reading → Option Options
+read_on known rest x = (x >>= words_met known rest) >>= options_read
+
+read_given : (known : List Known) → AreNames known → (gs : List Given) → list_all (is_known known) gs ≡ true → (left : List Known) → flat_map filled_in gs ≡ places left → (o : Options)
+    → (words_met known (flat_map spelled gs) (start left o) >>= options_read) ≡ after known gs o
+read_given known names [] all left filled o = ap (λ (t : Bool). if t then Some o else None) (full left filled)
+read_given known names (Filled name v ∷ gs) all left filled o =
+    let n = next_place left name (flat_map filled_in gs) filled in
+    let word = (both _ _ (both _ _ all).0).1 in
+    ap (λ (l : List Known). read_on known (flat_map spelled gs) (option_met known v l o)) n.is
+    ∙ (ap (read_on known (flat_map spelled gs)) (placed_met known n.row v n.rest o n.is_place_row word)
+    ∙ (settle_then known (given_met known (Filled n.row.name v) o) gs n.rest (flat_map spelled gs) (read_given known names gs (both _ _ all).1 n.rest n.others)
+    ∙ ap (λ (x : List ℕ). given_met known (Filled x v) o >>= after known gs) n.named))
+read_given known names (Alone name ∷ gs) all left filled o =
+    let has = flag_known (kind_of known name) (both _ _ all).0 in
+    ap (read_on known (flat_map spelled gs)) (alone_met known name left o false (no_equals_in name (name_known known name Flag names has)) (ap is_valued has))
+    ∙ settle_then known (given_met known (Alone name) o) gs left (flat_map spelled gs) (read_given known names gs (both _ _ all).1 left filled)
+read_given known names (Apart name v ∷ gs) all left filled o =
+    let has = valued_known (kind_of known name) (both _ _ (both _ _ all).0).0 in
+    ap (read_on known (v ∷ flat_map spelled gs)) (alone_met known name left o true (no_equals_in name (name_known known name Value names has)) (ap is_valued has))
+    ∙ settle_then known (given_met known (Apart name v) o) gs left (flat_map spelled gs) (read_given known names gs (both _ _ all).1 left filled)
+read_given known names (Joined name v ∷ gs) all left filled o =
+    let has = valued_known (kind_of known name) (both _ _ (both _ _ all).0).0 in
+    ap (read_on known (flat_map spelled gs)) (joined_met known name v left o (no_equals_in name (name_known known name Value names has)))
+    ∙ settle_then known (given_met known (Joined name v) o) gs left (flat_map spelled gs) (read_given known names gs (both _ _ all).1 left filled)
 
 -- ---- and back
 
-abbrev Spelled : List Known → List (List ℕ) → Options → Options → Type 0
-Spelled known words o found = (gs : List Given) × (words ≡ flat_map spelled gs) × (after known gs o ≡ Some found)
+pub record Spelled (known : List Known) (words : List (List ℕ)) (left : List Known) (o found : Options) : Type 0 where
+  pub given : List Given
+  pub spells : words ≡ flat_map spelled given
+  pub filled : flat_map filled_in given ≡ places left
+  pub gives : after known given o ≡ Some found
 
-more : (known : List Known) (g : Given) (words rest : List (List ℕ)) (o next found : Options) → words ≡ spelled g ++ rest → given_met known g o ≡ Some next → Spelled known rest next found
-    → Spelled known words o found
-more known g words rest o next found is step s =
-    (g ∷ s.0, is ∙ ap (λ (l : List (List ℕ)). spelled g ++ l) s.1, ap (λ (x : Option Options). x >>= after known s.0) step ∙ s.2)
+more : (known : List Known) (g : Given) (words rest : List (List ℕ)) (left next : List Known) (o made found : Options) → words ≡ spelled g ++ rest → places left ≡ filled_in g ++ places next
+    → given_met known g o ≡ Some made → Spelled known rest next made found → Spelled known words left o found
+more known g words rest left next o made found is fills step s = record {
+  given = g ∷ s.given;
+  spells = is ∙ ap (λ (l : List (List ℕ)). spelled g ++ l) s.spells;
+  filled = ap (λ (l : List (List ℕ)). filled_in g ++ l) s.filled ∙ sym fills;
+  gives = ap (λ (x : Option Options). x >>= after known s.given) step ∙ s.gives;
+}
 
--- what a word is that is no value: an option, or a name whose value is the next word
-abbrev Met : List Known → List ℕ → Options → Reading → Type 0
-Met known word o r =
-    ((g : Given) × (next : Options) × (word ∷ [] ≡ spelled g) × (given_met known g o ≡ Some next) × (r ≡ start next))
-    ⊎ ((name : List ℕ) × (word ≡ hyphened name) × (r ≡ waits name o))
+-- what a word is that is no value of an option: all that is given, or a name whose value is the next word
+pub record IsOne (known : List Known) (word : List ℕ) (left : List Known) (o : Options) (r : Reading) : Type 0 where
+  pub given : Given
+  pub made : Options
+  pub next : List Known
+  pub spells : word ∷ [] ≡ spelled given
+  pub fills : places left ≡ filled_in given ++ places next
+  pub gives : given_met known given o ≡ Some made
+  pub goes : start next made ≡ r
+
+pub record IsName (word : List ℕ) (left : List Known) (o : Options) (r : Reading) : Type 0 where
+  pub name : List ℕ
+  pub spells : word ≡ hyphened name
+  pub goes : waits name left o ≡ r
+
+abbrev Met : List Known → List ℕ → List Known → Options → Reading → Type 0
+Met known word left o r = IsOne known word left o r ⊎ IsName word left o r
 
 split_equals : (word : List ℕ) (i : ℕ) → position (λ b. b == 61) word ≡ Some i → word ≡ take i word ++ 61 ∷ drop (i + 1) word
 split_equals word i e =
@@ -177,19 +257,33 @@ split_equals word i e =
     let within : i < length word = at.0 in
     grind (arith, common_steps)
 
-named : (known : List Known) (name : List ℕ) (o : Options) (r : Reading) → name_met known name o ≡ Some r → Met known (hyphened name) o r
-unfolding name_met
-named known name o r e = by (is_valued (has_value known name)) e
-  where
-    by : (t : Bool) → (if t then Some (waits name o) else settled (given_met known (Alone name) o)) ≡ Some r → Met known (hyphened name) o r
-    by true e = inr (name, refl, sym (some_same (waits name o) r e))
-    by false e = let m = mapped (given_met known (Alone name) o) start r e in inl (Alone name, m.0, refl, m.1, sym m.2)
+-- one thing that is given, and leaves these rows
+one_met : (known : List Known) (g : Given) (word : List ℕ) (left next : List Known) (o : Options) (r : Reading) → word ∷ [] ≡ spelled g → places left ≡ filled_in g ++ places next
+    → settled next (given_met known g o) ≡ Some r → Met known word left o r
+one_met known g word left next o r is fills e =
+    let m = mapped (given_met known g o) (start next) r e in
+    inl record { given = g; made = m.0; next = next; spells = is; fills = fills; gives = m.1; goes = m.2 }
 
-parted : (known : List Known) (rest : List ℕ) (o : Options) (r : Reading) (at : Option ℕ) → position (λ b. b == 61) rest ≡ at → parts_met known rest at o ≡ Some r → Met known (hyphened rest) o r
-parted known rest o r None is e = named known rest o r e
-parted known rest o r (Some i) is e =
-    let m = mapped (given_met known (Joined (take i rest) (drop (i + 1) rest)) o) start r e in
-    inl (Joined (take i rest) (drop (i + 1) rest), m.0, ap (λ (w : List ℕ). hyphened w ∷ []) (split_equals rest i is), m.1, sym m.2)
+named : (known : List Known) (name : List ℕ) (left : List Known) (o : Options) (r : Reading) → name_met known name left o ≡ Some r → Met known (hyphened name) left o r
+unfolding name_met
+named known name left o r e = by (is_valued (kind_of known name)) e
+  where
+    by : (t : Bool) → (if t then Some (waits name left o) else settled left (given_met known (Alone name) o)) ≡ Some r → Met known (hyphened name) left o r
+    by true e = inr record { name = name; spells = refl; goes = some_same (waits name left o) r e }
+    by false e = one_met known (Alone name) (hyphened name) left left o r refl refl e
+
+parted : (known : List Known) (rest : List ℕ) (left : List Known) (o : Options) (r : Reading) (at : Option ℕ) → position (λ b. b == 61) rest ≡ at → parts_met known rest at left o ≡ Some r
+    → Met known (hyphened rest) left o r
+parted known rest left o r None is e = named known rest left o r e
+parted known rest left o r (Some i) is e =
+    one_met known (Joined (take i rest) (drop (i + 1) rest)) (hyphened rest) left left o r (ap (λ (w : List ℕ). hyphened w ∷ []) (split_equals rest i is)) refl e
+
+filled : (known : List Known) (word : List ℕ) (left : List Known) (o : Options) (r : Reading) → place_met known word left o ≡ Some r → Met known word left o r
+unfolding place_met
+filled known word [] o r e = absurd (nothing r e)
+filled known word (k ∷ left) o r e =
+    let g = guarded (is_place (Some k.kind)) (settled left (given_met known (Filled k.name word) o)) r e in
+    one_met known (Filled k.name word) word (k ∷ left) left o r refl (ap (λ (t : Bool). if t then k.name ∷ places left else []) g.0) g.1
 
 stripped : (word rest : List ℕ) → strip_byte 45 word ≡ Some rest → word ≡ 45 ∷ rest
 stripped [] rest e = absurd (nothing rest e)
@@ -216,35 +310,51 @@ is_behind word (Some x) strips =
     let front : word ≡ hyphened x.now = strips.1.1 ∙ ap hyphened (sym strips.2) in
     sym (ap behind_hyphens front)
 
-met_is : (known : List Known) (word : List ℕ) (o : Options) (r : Reading) → option_met known word o ≡ Some r → Met known word o r
+met_is : (known : List Known) (word : List ℕ) (left : List Known) (o : Options) (r : Reading) → option_met known word left o ≡ Some r → Met known word left o r
 unfolding option_met
-met_is known word o r e = by (behind_hyphens word) refl e
+met_is known word left o r e = by (behind_hyphens word) refl e
   where
-    by : (x : Option (List ℕ)) → behind_hyphens word ≡ x → rest_met known x o ≡ Some r → Met known word o r
-    by None is e = absurd (nothing r e)
-    by (Some rest) is e = subst (λ (w : List ℕ). Met known w o r) (sym (hyphens_stripped word (strip_byte 45 word) rest refl is)) (parted known rest o r (position (λ b. b == 61) rest) refl e)
+    by : (x : Option (List ℕ)) → behind_hyphens word ≡ x → rest_met known word x left o ≡ Some r → Met known word left o r
+    by None is e = filled known word left o r e
+    by (Some rest) is e =
+        subst (λ (w : List ℕ). Met known w left o r) (sym (hyphens_stripped word (strip_byte 45 word) rest refl is)) (parted known rest left o r (position (λ b. b == 61) rest) refl e)
 
 abbrev before : Option (List ℕ) → List (List ℕ) → List (List ℕ)
 before None words = words
 before (Some name) words = hyphened name ∷ words
 
-pending_ends : {A : Type 0} (o found : Options) (name : List ℕ) → Some (waits name o) ≡ Some (start found) → A
-pending_ends o found name e = absurd (nothing name (sym (ap (λ (r : Reading). r.pending) (some_same (waits name o) (start found) e))))
+-- two steps, of which the first one succeeds
+bound_first : {A B C : Type 0} (x : Option A) (f : A → Option B) (g : B → Option C) (c : C) → ((x >>= f) >>= g) ≡ Some c → (a : A) × (x ≡ Some a) × ((f a >>= g) ≡ Some c)
+bound_first None f g c e = absurd (nothing c e)
+bound_first (Some a) f g c e = (a, refl, e)
 
-given_read : (known : List Known) (words : List (List ℕ)) (o found : Options) (pending : Option (List ℕ)) → words_met known words (record { options = o; pending = pending }) ≡ Some (start found)
-    → Spelled known (before pending words) o found
-given_read known [] o found None e = ([], refl, ap (λ (x : Option Reading). option_map (λ (r : Reading). r.options) x) e)
-given_read known [] o found (Some name) e = pending_ends o found name e
-given_read known (word ∷ rest) o found None e =
-    let b = bound (option_met known word o) (words_met known rest) (start found) e in
-    elim (met_is known word o b.0 b.1) [
-      | inl m ↦ more known m.0 (word ∷ rest) rest o m.1 found (ap (λ (w : List (List ℕ)). w ++ rest) m.2) m.3 (given_read known rest m.1 found None (ap (words_met known rest) (sym m.4) ∙ b.2))
-      | inr w ↦ subst (λ (x : List ℕ). Spelled known (x ∷ rest) o found) (sym w.1) (given_read known rest o found (Some w.0) (ap (words_met known rest) (sym w.2) ∙ b.2))
+none_left : (left : List Known) → is_full left ≡ true → [] ≡ places left
+none_left [] e = refl
+none_left (k ∷ left) e = by (is_place (Some k.kind)) e
+  where
+    by : (t : Bool) → not t ≡ true → [] ≡ (if t then k.name ∷ places left else [])
+    by true e = absurd (true≢false (sym e))
+    by false e = refl
+
+given_read : (known : List Known) (words : List (List ℕ)) (left : List Known) (o found : Options) (pending : Option (List ℕ))
+    → (words_met known words (record { options = o; pending = pending; left = left }) >>= options_read) ≡ Some found → Spelled known (before pending words) left o found
+given_read known [] left o found None e =
+    let g = guarded (is_full left) (Some o) found e in
+    record { given = []; spells = refl; filled = none_left left g.0; gives = g.1 }
+given_read known [] left o found (Some name) e = absurd (nothing found e)
+given_read known (word ∷ rest) left o found None e =
+    let b = bound_first (option_met known word left o) (words_met known rest) options_read found e in
+    elim (met_is known word left o b.0 b.1) [
+      | inl m ↦ more known m.given (word ∷ rest) rest left m.next o m.made found (ap (λ (w : List (List ℕ)). w ++ rest) m.spells) m.fills m.gives
+          (given_read known rest m.next m.made found None (ap (λ (r : Reading). words_met known rest r >>= options_read) m.goes ∙ b.2))
+      | inr w ↦ subst (λ (x : List ℕ). Spelled known (x ∷ rest) left o found) (sym w.spells)
+          (given_read known rest left o found (Some w.name) (ap (λ (r : Reading). words_met known rest r >>= options_read) w.goes ∙ b.2))
     ]
-given_read known (value ∷ rest) o found (Some name) e =
-    let b = bound (settled (given_met known (Apart name value) o)) (words_met known rest) (start found) e in
-    let m = mapped (given_met known (Apart name value) o) start b.0 b.1 in
-    more known (Apart name value) (hyphened name ∷ value ∷ rest) rest o m.0 found refl m.1 (given_read known rest m.0 found None (ap (words_met known rest) m.2 ∙ b.2))
+given_read known (value ∷ rest) left o found (Some name) e =
+    let b = bound_first (settled left (given_met known (Apart name value) o)) (words_met known rest) options_read found e in
+    let m = mapped (given_met known (Apart name value) o) (start left) b.0 b.1 in
+    more known (Apart name value) (hyphened name ∷ value ∷ rest) rest left left o m.0 found refl refl m.1
+    (given_read known rest left m.0 found None (ap (λ (r : Reading). words_met known rest r >>= options_read) m.2 ∙ b.2))
 
 -- ---- options one after another, and all that are given
 
@@ -308,45 +418,13 @@ reached known (g ∷ gs) o found all c =
 
 -- ---- both ways
 
-options_found : (known : List Known) → AreNames known → (words : List (List ℕ)) (o : Options) → AreOptions known words o → options_met known words ≡ Some o
+pub options_found : (known : List Known) → AreNames known → (words : List (List ℕ)) (o : Options) → AreOptions known words o → options_met known words ≡ Some o
 options_found known names words o p =
-    let read : words_met known words (start no_options) ≡ Some (start o) =
-    ap (λ (l : List (List ℕ)). words_met known l (start no_options)) p.are_spelled
-    ∙ (read_given known names p.given p.are_known no_options ∙ ap (option_map start) (reached known p.given no_options o p.are_known p.values)) in
-    ap (λ (x : Option Reading). x >>= (λ r. options_at_end r.options r.pending)) read
-
-at_end : (o : Options) (pending : Option (List ℕ)) (found : Options) → options_at_end o pending ≡ Some found → (pending ≡ None) × (o ≡ found)
-at_end o None found e = (refl, some_same o found e)
-at_end o (Some name) found e = absurd (nothing found e)
+    ap (λ (l : List (List ℕ)). words_met known l (start known no_options) >>= options_read) p.are_spelled
+    ∙ (read_given known names p.given p.are_known known p.are_placed no_options ∙ reached known p.given no_options o p.are_known p.values)
 
 pub options_are : (known : List Known) (words : List (List ℕ)) (o : Options) → options_met known words ≡ Some o → AreOptions known words o
 options_are known words o e =
-    let b = bound (words_met known words (start no_options)) (λ r. options_at_end r.options r.pending) o e in
-    let end = at_end b.0.options b.0.pending o b.2 in
-    let read : words_met known words (start no_options) ≡ Some (start o) =
-    b.1 ∙ (ap (λ (p : Option (List ℕ)). Some (record { options = b.0.options; pending = p })) end.0 ∙ ap (λ (x : Options). Some (start x)) end.1) in
-    let s = given_read known words no_options o None read in
-    let r = run known s.0 no_options o s.2 in
-    record { given = s.0; are_known = r.0; are_spelled = s.1; values = r.1 }
-
-pub play_names : AreNames play_options
-play_names = refl
-
-pub check_names : AreNames check_options
-check_names = refl
-
-pub play_found : (words : List (List ℕ)) (w : PlayWords) → IsPlayWords words w → play_of words ≡ Some w
-play_found words w p = ap (λ (x : Option Options). x >>= asked_by) (options_found play_options play_names words p.options p.are_options) ∙ p.asked
-
-pub play_asked : (words : List (List ℕ)) (w : PlayWords) → play_of words ≡ Some w → IsPlayWords words w
-play_asked words w e =
-    let b = bound (options_met play_options words) asked_by w e in
-    record { options = b.0; are_options = options_are play_options words b.0 b.1; asked = b.2 }
-
-pub check_found : (words : List (List ℕ)) (w : CheckWords) → IsCheckWords words w → check_of words ≡ Some w
-check_found words w p = ap (λ (x : Option Options). x >>= check_asked) (options_found check_options check_names words p.options p.are_options) ∙ p.asked
-
-pub check_are : (words : List (List ℕ)) (w : CheckWords) → check_of words ≡ Some w → IsCheckWords words w
-check_are words w e =
-    let b = bound (options_met check_options words) check_asked w e in
-    record { options = b.0; are_options = options_are check_options words b.0 b.1; asked = b.2 }
+    let s = given_read known words known no_options o None e in
+    let r = run known s.given no_options o s.gives in
+    record { given = s.given; are_known = r.0; are_spelled = s.spells; are_placed = s.filled; values = r.1 }

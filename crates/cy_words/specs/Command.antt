@@ -1,10 +1,22 @@
 -- The commands, and the words that ask for them.
-use Rattle.std.specs.Prelude.{ℕ, ◌≡◌, ◌⊎◌, ⊤, true, List, [], ◌∷◌, Option, Some, None, codes}
-use Rattle.cy_words.specs.CheckWords.{CheckWords, IsCheckWords}
-use Rattle.cy_words.specs.MakeWords.{MakeWords, make_of}
-use Rattle.cy_words.specs.PassWords.{pass_of}
-use Rattle.cy_words.specs.PlayWords.{PlayWords, IsPlayWords}
-use Rattle.cy_words.specs.Words.{InfoWords, info_of}
+use Rattle.std.specs.Prelude.{ℕ, ◌≡◌, ⊤, true, List, [], ◌∷◌, find, Option, Some, None, codes}
+use Rattle.std.specs.Option.{option_map}
+use Rattle.std.specs.Str.{bytes_eq}
+use Rattle.cy_words.specs.CheckWords.{CheckWords, check_asked, check_known}
+use Rattle.cy_words.specs.MakeWords.{MakeWords, make_asked, make_known}
+use Rattle.cy_words.specs.Options.{AreOptions, Known, Options, placed}
+use Rattle.cy_words.specs.PassWords.{pass_asked, pass_known}
+use Rattle.cy_words.specs.PlayWords.{PlayWords, play_asked, play_known}
+
+-- The words of `info`: the record that is told of.
+pub record InfoWords : Type 0 where
+  pub file : List ℕ
+
+abbrev pub info_known : List Known
+info_known = placed (codes "file") ∷ []
+
+abbrev pub info_asked : Options → Option InfoWords
+info_asked o = option_map (λ file. record { file = file }) (o (codes "file"))
 
 -- `check`, `info`, `play` and `make`, each with its words; `pass` is a play.
 pub data Command : Type 0 where
@@ -13,14 +25,39 @@ pub data Command : Type 0 where
   Play : (words : PlayWords) → Command
   Make : (words : MakeWords) → Command
 
--- The words ask for a command: the first one names it, and those behind it are of its form.
+-- A form of words that ask for a command: the name that stands first, what is known of the words
+-- behind it, and what their values ask for.
+pub record Form : Type 0 where
+  pub name : List ℕ
+  pub known : List Known
+  pub asked : Options → Option Command
+
+abbrev pub form : List ℕ → List Known → (Options → Option Command) → Form
+form name known asked = record { name = name; known = known; asked = asked }
+
+-- The forms that there are.
+abbrev pub forms : List Form
+forms = form (codes "play") play_known (λ o. option_map Play (play_asked o))
+    ∷ form (codes "pass") pass_known (λ o. option_map Play (pass_asked o))
+    ∷ form (codes "check") check_known (λ o. option_map Check (check_asked o))
+    ∷ form (codes "info") info_known (λ o. option_map Info (info_asked o))
+    ∷ form (codes "make") make_known (λ o. option_map Make (make_asked o))
+    ∷ []
+
+unfoldable pub form_of : List ℕ → Option Form
+form_of name = find (λ f. bytes_eq name f.name) forms
+
+-- The words behind a name ask for a command by a form: they are what it knows, and their values ask
+-- for it.
+pub record AsksBy (f : Form) (words : List (List ℕ)) (c : Command) : Type 0 where
+  pub options : Options
+  pub are_options : AreOptions f.known words options
+  pub asks : f.asked options ≡ Some c
+
+-- The words ask for a command: by the form that the first one names.
 abbrev pub Asks : List (List ℕ) → Command → Type 0
 Asks [] c = ⊥
-Asks (name ∷ words) (Check w) = (name ≡ codes "check") × IsCheckWords words w
-Asks (name ∷ words) (Info w) = (name ≡ codes "info") × (info_of words ≡ Some w)
-Asks (name ∷ words) (Play w) = ((name ≡ codes "play") × IsPlayWords words w)
-    ⊎ ((name ≡ codes "pass") × (pass_of words ≡ Some w))
-Asks (name ∷ words) (Make w) = (name ≡ codes "make") × (make_of words ≡ Some w)
+Asks (name ∷ words) c = (f : Form) × (form_of name ≡ Some f) × AsksBy f words c
 
 -- The same where there are no threads: a `play` is then serial.
 abbrev pub IsStill : Command → Type 0

@@ -1,15 +1,19 @@
 -- The words of `make`.
 use Rattle.std.specs.Prelude.{ℕ, ◌||◌, nat_lt, if◌then◌else◌, List, [], ◌∷◌, length, Option}
-use Rattle.std.specs.Prelude.{Some, None}
+use Rattle.std.specs.Prelude.{Some, None, codes}
 use Rattle.std.specs.Option.{option_map}
-use Rattle.cy_words.specs.Words.{is_word}
-use Rattle.cy_words.specs.PlayWords.{number_of, ◌>>=◌}
+use Rattle.cy_words.specs.Options.{Known, Options, placed}
+use Rattle.cy_words.specs.PlayWords.{spelled_number, ◌>>=◌}
 
 -- The words of `make`: how many messages the record has, and with what the names of all files
 -- begin.
 pub record MakeWords : Type 0 where
   pub count : ℕ
   pub prefix : List ℕ
+
+-- What `make` knows.
+abbrev pub make_known : List Known
+make_known = placed (codes "count") ∷ placed (codes "prefix") ∷ []
 
 -- The most messages of a record that is made.
 abbrev pub most_made : ℕ
@@ -20,7 +24,7 @@ abbrev pub where_made : ℕ → Option ℕ
 where_made n = if nat_lt n 1 || nat_lt most_made n then None else Some n
 
 abbrev pub count_of : List ℕ → Option ℕ
-count_of text = number_of text >>= where_made
+count_of text = spelled_number text >>= where_made
 
 -- The longest prefix, in bytes. The DAG file has it four times, each byte of it in at most four,
 -- and a configuration file has at most 16777216 bytes.
@@ -33,7 +37,8 @@ made_by count prefix =
     if nat_lt longest_prefix (length prefix) then None
     else option_map (λ n. record { count = n; prefix = prefix }) (count_of count)
 
--- What the words behind `make` ask for, where they are of its form.
-abbrev pub make_of : List (List ℕ) → Option MakeWords
-make_of (count ∷ prefix ∷ []) = if is_word prefix then made_by count prefix else None
-make_of words = None
+abbrev pub make_asked : Options → Option MakeWords
+make_asked o = do
+  count ← o (codes "count")
+  prefix ← o (codes "prefix")
+  made_by count prefix

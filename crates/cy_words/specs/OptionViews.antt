@@ -1,23 +1,38 @@
--- What the types stand for in which the code keeps options.
-use Rattle.std.specs.Prelude.{ℕ, Bool, List, map, slice_get, Option, Some, None, option_map}
+-- What the types stand for in which the code keeps what words give.
+use Rattle.std.specs.Prelude.{ℕ, List, map, slice_get, Option, Some, None, option_map}
 use Rattle.std.specs.Prelude.{option_and_then}
 use Rattle.std.specs.Borrow.{Bor}
 use Rattle.std.specs.List.{position}
 use Rattle.std.specs.Str.{bytes_eq}
 use Rattle.clap.specs.Words.{found_of, rows_of}
+use Rattle.cy_words.specs.declared.options.Kind as code_kind
+use Rattle.cy_words.specs.declared.options.Kind.TheVariants as kind
 use Rattle.cy_words.specs.declared.options.Options as code
 use Rattle.cy_words.specs.declared.options.Reading as reading
 use Rattle.cy_words.specs.declared.options.Values as values
 use Rattle.cy_words.specs.declared.options.Values.TheVariants.{Met, Kept}
 use Rattle.cy_words.specs.Kept.{options_in}
-use Rattle.cy_words.specs.Options.{Known, Options}
+use Rattle.cy_words.specs.Options.{Flag, Kind, Known, Options, Place, Value}
+use Rattle.cy_words.specs.Program.{Head}
 use Rattle.cy_words.specs.Scan.{Reading}
 
-abbrev pub known_as : Bor (List ℕ) × Bool → Known
-known_as k = record { name = k.0.now; has_value = k.1 }
+abbrev pub kind_as : code_kind.Kind → Kind
+kind_as kind.Place = Place
+kind_as kind.Value = Value
+kind_as kind.Flag = Flag
 
-abbrev pub table_of : List (Bor (List ℕ) × Bool) → List Known
+abbrev pub Row : Type 0
+Row = Bor (List ℕ) × code_kind.Kind
+
+abbrev pub known_as : Row → Known
+known_as k = record { name = k.0.now; kind = kind_as k.1 }
+
+abbrev pub table_of : List Row → List Known
 table_of known = map known_as known
+
+-- What a command knows of its words, by its name.
+abbrev pub head_as : Bor (List ℕ) × Bor (List Row) → Head
+head_as f = record { name = f.0.now; known = table_of f.1.now }
 
 abbrev pub place_in : List Known → List ℕ → Option ℕ
 place_in known name = position (λ k. bytes_eq k.name name) known
@@ -33,6 +48,7 @@ abbrev pub reading_of : List Known → reading.Reading → Reading
 reading_of known r = record {
   options = options_of known r.options;
   pending = option_map (λ name. name.now) r.pending;
+  left = table_of r.left.now;
 }
 
 abbrev pub values_of : List Known → values.Values → Options

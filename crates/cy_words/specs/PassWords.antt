@@ -1,34 +1,28 @@
 -- The words of `pass`.
-use Rattle.std.specs.Prelude.{ℕ, ◌-◌, ◌^◌, ◌&&◌, not, if◌then◌else◌, true, List, [], ◌∷◌}
-use Rattle.std.specs.Prelude.{Option, None}
+use Rattle.std.specs.Prelude.{ℕ, if◌then◌else◌, List, [], ◌∷◌, Option, None, codes}
 use Rattle.std.specs.Str.{bytes_eq}
-use Rattle.cy_request.specs.declared.filter.Filter.{Filter}
-use Rattle.cy_request.specs.Request.{Components, OfPass}
-use Rattle.cy_words.specs.PlayWords.{PlayWords, where_play}
-use Rattle.cy_words.specs.Words.{is_word}
+use Rattle.cy_request.specs.Request.{OfPass}
+use Rattle.cy_words.specs.Options.{Known, Options, placed}
+use Rattle.cy_words.specs.PlayWords.{PlayWords, play_of_all, where_play, ◌>>=◌}
 
--- All messages are let through.
-abbrev pub all_messages : Filter
-all_messages = record { only = None; drop = []; begin = 0; end = 2 ^ 64 - 1 }
+-- What `pass` knows: the record that is played, the record and the trace that are written, and two
+-- channels.
+abbrev pub pass_known : List Known
+pass_known = placed (codes "record") ∷ placed (codes "out") ∷ placed (codes "trace")
+    ∷ placed (codes "from") ∷ placed (codes "to") ∷ []
 
--- A serial play of all messages of a record, and one through one component from one channel to
--- another.
-abbrev pub play_of_all : Components → (input output trace : List ℕ) → PlayWords
-play_of_all components input output trace = record {
-  request = record { components = components; input = input; filter = all_messages };
-  output = output;
-  trace = trace;
-  serial = true;
-}
+-- What five names ask for: a serial play through one component from one channel to another, which
+-- differ.
+abbrev pub passed_by : (input output trace from to : List ℕ) → Option PlayWords
+passed_by input output trace from to =
+    if bytes_eq from to then None
+    else where_play (play_of_all (OfPass from to) input output trace)
 
-abbrev pub pass_words : (input output trace from to : List ℕ) → PlayWords
-pass_words input output trace from to = play_of_all (OfPass from to) input output trace
-
--- What the words behind `pass` ask for, where they are of its form: the record that is played, the
--- record and the trace that are written, and two channels that differ. All five may stand as names.
-abbrev pub pass_of : List (List ℕ) → Option PlayWords
-pass_of (input ∷ output ∷ trace ∷ from ∷ to ∷ []) =
-    if is_word input && is_word output && is_word trace && is_word from && is_word to
-    && not (bytes_eq from to)
-    then where_play (pass_words input output trace from to) else None
-pass_of words = None
+abbrev pub pass_asked : Options → Option PlayWords
+pass_asked o = do
+  input ← o (codes "record")
+  output ← o (codes "out")
+  trace ← o (codes "trace")
+  from ← o (codes "from")
+  to ← o (codes "to")
+  passed_by input output trace from to

@@ -1,12 +1,13 @@
 -- The words of `play`.
-use Rattle.std.specs.Prelude.{ℕ, ◌≡◌, ◌+◌, ◌*◌, ◌-◌, ◌^◌, ◌==◌, ◌&&◌, ◌||◌, nat_le, nat_lt, not}
+use Rattle.std.specs.Prelude.{ℕ, ◌+◌, ◌*◌, ◌-◌, ◌^◌, ◌==◌, ◌&&◌, ◌||◌, nat_le, nat_lt, not}
 use Rattle.std.specs.Prelude.{Bool, true, false, if◌then◌else◌, List, [], ◌∷◌, length, Option, Some}
 use Rattle.std.specs.Prelude.{None, is_some, unwrap_or, codes}
 use Rattle.std.specs.List.{list_all, slice_split}
 use Rattle.std.specs.Option.{option_map}
 use Rattle.std.specs.Str.{bytes_eq}
+use Rattle.cy_request.specs.declared.filter.Filter.{Filter}
 use Rattle.cy_request.specs.Request.{Components, OfFiles, OfPass, Request}
-use Rattle.cy_words.specs.Options.{AreOptions, Known, Options, flag, valued}
+use Rattle.cy_words.specs.Options.{Known, Options, flagged, valued}
 
 -- What is asked of a play: what is replayed, the names of the record and of the trace that are
 -- written, and whether one thread plays it.
@@ -15,6 +16,18 @@ pub record PlayWords : Type 0 where
   pub output : List ℕ
   pub trace : List ℕ
   pub serial : Bool
+
+-- A serial play of all messages of a record.
+abbrev pub all_messages : Filter
+all_messages = record { only = None; drop = []; begin = 0; end = 2 ^ 64 - 1 }
+
+abbrev pub play_of_all : Components → (input output trace : List ℕ) → PlayWords
+play_of_all components input output trace = record {
+  request = record { components = components; input = input; filter = all_messages };
+  output = output;
+  trace = trace;
+  serial = true;
+}
 
 -- One step after another: the first that fails stands.
 infixl 10 ◌>>=◌
@@ -36,13 +49,13 @@ abbrev pub digits_from : ℕ → List ℕ → Option ℕ
 digits_from value [] = Some value
 digits_from value (d ∷ digits) = with_digit value d >>= λ v. digits_from v digits
 
-unfoldable pub number_of : List ℕ → Option ℕ
-number_of text =
+unfoldable pub spelled_number : List ℕ → Option ℕ
+spelled_number text =
     if length text == 0 || nat_lt 20 (length text) then None else digits_from 0 text
 
 abbrev pub number_or : ℕ → Option (List ℕ) → Option ℕ
 number_or absent None = Some absent
-number_or absent (Some text) = number_of text
+number_or absent (Some text) = spelled_number text
 
 -- A list of names: these stand with single commas between, and none is empty.
 abbrev pub names_in : List ℕ → List (List ℕ)
@@ -55,14 +68,14 @@ abbrev pub is_list_or_none : Option (List ℕ) → Bool
 is_list_or_none None = true
 is_list_or_none (Some text) = is_list text
 
--- The options that `play` knows.
-abbrev pub play_options : List Known
-play_options = valued (codes "dag") ∷ valued (codes "sched") ∷ valued (codes "record")
+-- What `play` knows.
+abbrev pub play_known : List Known
+play_known = valued (codes "dag") ∷ valued (codes "sched") ∷ valued (codes "record")
     ∷ valued (codes "out") ∷ valued (codes "trace") ∷ valued (codes "channels")
     ∷ valued (codes "drop") ∷ valued (codes "begin") ∷ valued (codes "end")
-    ∷ flag (codes "serial") ∷ []
+    ∷ flagged (codes "serial") ∷ []
 
--- What they say, where those are given that every `play` has.
+-- What the options say, where those are given that every `play` has.
 abbrev pub play_words : Options → Option PlayWords
 play_words o = do
   dag ← o (codes "dag")
@@ -110,11 +123,5 @@ where_play w = if is_play w then Some w else None
 abbrev pub are_lists : Options → Bool
 are_lists o = is_list_or_none (o (codes "channels")) && is_list_or_none (o (codes "drop"))
 
-unfoldable pub asked_by : Options → Option PlayWords
-asked_by o = if are_lists o then play_words o >>= where_play else None
-
--- The words behind `play` ask for a play: they are options, and these ask for it.
-pub record IsPlayWords (words : List (List ℕ)) (w : PlayWords) : Type 0 where
-  pub options : Options
-  pub are_options : AreOptions play_options words options
-  pub asked : asked_by options ≡ Some w
+unfoldable pub play_asked : Options → Option PlayWords
+play_asked o = if are_lists o then play_words o >>= where_play else None

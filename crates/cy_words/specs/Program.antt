@@ -1,42 +1,38 @@
 -- How the program's commands are told to `clap`.
-use Rattle.std.specs.Prelude.{ℕ, ◌≡◌, if◌then◌else◌, true, false, List, [], ◌∷◌, codes}
-use Rattle.std.specs.Prelude.{fold, map, Some, None}
+use Rattle.std.specs.Prelude.{ℕ, ◌≡◌, true, false, List, codes, fold, map, Option, Some, None}
 use Rattle.clap.specs.Walk.{Rule}
 use Rattle.clap.specs.Words.{app_of}
 use Rattle.clap.specs.declared.builder.command.Command.TheViews.{out-Command}
 use Rattle.clap.specs.declared.builder.command.Command.{Command}
 use Rattle.clap.specs.Simple.{App, new_app, new_rule, on_top, with_rule, with_subcommand}
+use Rattle.clap.specs.declared.builder.action.ArgAction.{ArgAction}
 use Rattle.clap.specs.declared.builder.action.ArgAction.TheVariants.{SetTrue}
-use Rattle.cy_words.specs.CheckWords.{check_options}
-use Rattle.cy_words.specs.Options.{Known}
-use Rattle.cy_words.specs.PlayWords.{play_options}
+use Rattle.cy_words.specs.Command.{forms}
+use Rattle.cy_words.specs.Options.{Flag, Kind, Known, Place}
 
--- An option, and a word that is known by its place.
-abbrev pub option_rule : Known → Rule
-option_rule k = record (new_rule k.name) {
-  long = Some k.name;
-  action = if k.has_value then None else Some SetTrue;
-}
+-- A word that a command knows: one at a place has no long name, and a flag has no value.
+abbrev pub long_of : List ℕ → Kind → Option (List ℕ)
+long_of name Place = None
+long_of name kind = Some name
 
--- A command that takes these.
-abbrev pub taking : List ℕ → List Rule → App
-taking name rules = fold with_rule (new_app name) rules
+abbrev pub action_of : Kind → Option ArgAction
+action_of Flag = Some SetTrue
+action_of kind = None
 
-abbrev pub check_app : App
-check_app = taking (codes "check") (map option_rule check_options)
+abbrev pub rule_of_known : Known → Rule
+rule_of_known k =
+    record (new_rule k.name) { long = long_of k.name k.kind; action = action_of k.kind }
 
-abbrev pub play_app : App
-play_app = taking (codes "play") (map option_rule play_options)
+-- A command that takes such words.
+pub record Head : Type 0 where
+  pub name : List ℕ
+  pub known : List Known
 
-abbrev pub info_app : App
-info_app = taking (codes "info") (new_rule (codes "file") ∷ [])
+abbrev pub with_known : App → Known → App
+with_known a k = with_rule a (rule_of_known k)
 
-abbrev pub pass_app : App
-pass_app = taking (codes "pass") (map new_rule (codes "record" ∷ codes "out" ∷ codes "trace"
-    ∷ codes "from" ∷ codes "to" ∷ []))
-
-abbrev pub make_app : App
-make_app = taking (codes "make") (map new_rule (codes "count" ∷ codes "prefix" ∷ []))
+abbrev pub app_for : Head → App
+app_for h = fold with_known (new_app h.name) h.known
 
 -- The program: its words are those behind its name, one of its commands stands first, and it has no
 -- help of its own.
@@ -47,9 +43,14 @@ bare a = on_top (λ s. record s {
   disable_help_subcommand = true;
 }) a
 
+abbrev pub heads : List Head
+heads = map (λ f. record { name = f.name; known = f.known }) forms
+
+abbrev pub with_head : App → Head → App
+with_head a h = with_subcommand a (app_for h).top
+
 abbrev pub program : App
-program = fold (λ a sub. with_subcommand a sub.top) (bare (new_app (codes "cyber")))
-    (play_app ∷ check_app ∷ info_app ∷ pass_app ∷ make_app ∷ [])
+program = fold with_head (bare (new_app (codes "cyber"))) heads
 
 -- The code's command is this one, and none of its arguments is one of its commands' too.
 abbrev pub IsCommand : App → Command → Type 0

@@ -9,8 +9,8 @@ use Rattle.cy_words.specs.declared.words.Command.TheVariants as asked
 use Rattle.cy_words.specs.CheckWords.{CheckWords}
 use Rattle.cy_words.specs.MakeWords.{MakeWords, most_made}
 use Rattle.cy_words.specs.PlayViews.{play_words_of}
-use Rattle.cy_words.specs.Words.{InfoWords}
 use Rattle.cy_words.specs.Command as command
+use Rattle.cy_words.specs.Command.{InfoWords}
 
 -- The words of each command.
 abbrev pub check_words_of : Check → CheckWords
@@ -31,7 +31,6 @@ command_asked (asked.Play w) = command.Play (play_words_of w)
 command_asked (asked.Make w) = command.Make (make_words_of w)
 
 abbrev pub IsInForm : code.Command → Type 0
-IsInForm (asked.Check w) = ⊤
-IsInForm (asked.Info w) = ⊤
 IsInForm (asked.Play w) = HasReader (play_words_of w).request.components
 IsInForm (asked.Make w) = (0 < w.count) × (w.count ≤ most_made)
+IsInForm c = ⊤

@@ -7,8 +7,9 @@ ghost use Rattle.cy_words.specs.Scan.{command_of};
 ghost use Rattle.cy_words.specs.Views.{command_asked, IsInForm};
 
 use crate::WordsError;
+use crate::options::Values;
 use crate::program::matches_of;
-use crate::words::{Command, command_of, still_command_of};
+use crate::words::{Command, asked_of, command_of, still_command_of};
 use cy_msg::Text;
 use std::alloc::{AllocError, Global};
 use std::marker::Model;
@@ -78,6 +79,6 @@ impl<'a> CommandWords<'a> {
         ensures form { IfOk result IsInForm }
     {
         let found = matches_of(alloc, self.words.as_slice())?;
-        Ok(Command::of(self.words[0], &found).unwrap())
+        Ok(asked_of(self.words[0], Values::Kept(&found)).unwrap())
     }
 }

@@ -1,7 +1,7 @@
 //! The words of the program `cyber`: which commands there are, and which words ask for each.
 //!
-//! `specs/Command` says what is asked for: by `specs/Options`, `specs/PlayWords`,
-//! `specs/CheckWords`, `specs/PassWords`, `specs/MakeWords` and `specs/Words`.
+//! `specs/Command` says what is asked for: by `specs/Options`, `specs/Words` and the words of each
+//! command, `specs/PlayWords`, `specs/PassWords`, `specs/CheckWords` and `specs/MakeWords`.
 #![tactic(auto)]
 
 mod check_words;

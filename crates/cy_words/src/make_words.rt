@@ -1,15 +1,14 @@
 // The words of `make`.
 ghost use Rattle.std.specs.Prelude.{◌≡◌, option_map};
-ghost use Rattle.clap.specs.Words.{found_of, rows_of};
-ghost use Rattle.cy_words.specs.Kept.{make_in};
-ghost use Rattle.cy_words.specs.MakeWords.{count_of, made_by, make_of};
+ghost use Rattle.cy_words.specs.MakeWords.{count_of, made_by, make_asked, make_known};
+ghost use Rattle.cy_words.specs.OptionViews.{values_of};
 ghost use Rattle.cy_words.specs.Views.{make_words_of};
 
-use crate::matches::value_of;
-use crate::play_words::number_of;
-use crate::words::names_something;
-use clap::ArgMatches;
-use cy_msg::Text;
+use crate::options::{Kind, Known, Values};
+use crate::play_words::spelled_number;
+
+/// What `make` knows.
+pub(crate) const MAKE: [Known; 2] = [("count", Kind::Place), ("prefix", Kind::Place)];
 
 /// The most messages of a record that is made.
 const MOST_MADE: u64 = 1_048_576;
@@ -30,7 +29,7 @@ pub struct Make<'a> {
 fn count_of(text: &str) -> Option<u32>
     ensures { result ≡ count_of text.now }
 {
-    let count = number_of(text)?;
+    let count = spelled_number(text)?;
     if count < 1 || MOST_MADE < count {
         None
     } else {
@@ -38,41 +37,24 @@ fn count_of(text: &str) -> Option<u32>
     }
 }
 
-impl<'a> Make<'a> {
-    // What a number and a prefix ask for.
-    fn with(count: &str, prefix: &'a str) -> Option<Self>
-        ensures { option_map make_words_of result ≡ made_by count.now prefix.now }
-    {
-        if prefix.len() > LONGEST_PREFIX {
-            return None;
-        }
-        Some(Make {
-            count: count_of(count)?,
-            prefix,
-        })
+// What a number and a prefix ask for.
+fn making<'a>(count: &str, prefix: &'a str) -> Option<Make<'a>>
+    ensures { option_map make_words_of result ≡ made_by count.now prefix.now }
+{
+    if prefix.len() > LONGEST_PREFIX {
+        return None;
     }
-
-    // What the values ask for that `clap` keeps.
-    pub(crate) fn of(matches: &ArgMatches<'a>) -> Option<Self>
-        ensures { option_map make_words_of result ≡ make_in (rows_of (found_of matches.now)) }
-    {
-        let count = value_of(matches, "count")?;
-        let prefix = value_of(matches, "prefix")?;
-        Make::with(count, prefix)
-    }
+    Some(Make {
+        count: count_of(count)?,
+        prefix,
+    })
 }
 
-/// What the words behind `make` ask for; None where they are not of its form.
-pub(crate) fn make_words<'a>(words: &'a [Text]) -> Option<Make<'a>>
-    ensures { option_map make_words_of result ≡ make_of words.now }
+/// What the words ask for.
+pub(crate) fn make_asked<'a>(values: Values<'_, 'a>) -> Option<Make<'a>>
+    ensures { option_map make_words_of result ≡ make_asked (values_of make_known values.entry) }
 {
-    let [count, prefix] = words else {
-        return None;
-    };
-    let prefix = prefix.as_str();
-    if names_something(prefix) {
-        Make::with(count.as_str(), prefix)
-    } else {
-        None
-    }
+    let count = values.of(&MAKE, "count")?;
+    let prefix = values.of(&MAKE, "prefix")?;
+    making(count, prefix)
 }

@@ -1,42 +1,55 @@
-// Words that are options.
+// Words behind the name of a command, by a table of what it knows.
 ghost use Rattle.std.specs.Prelude.{◌≡◌, ◌<◌, ◌≤◌, ◌==◌, Some, None, length, option_map, slice_set};
 ghost use Rattle.std.specs.List.{position};
 ghost use Rattle.std.specs.Str.{bytes_eq};
 ghost use Rattle.clap.specs.Words.{found_of, rows_of};
-ghost use Rattle.cy_words.specs.Options.{has_value};
-ghost use Rattle.cy_words.specs.OptionViews.{options_of, place_in, reading_of, table_of};
+ghost use Rattle.cy_words.specs.Options.{kind_of};
+ghost use Rattle.cy_words.specs.OptionViews.{kind_as, options_of, place_in, reading_of, table_of};
 ghost use Rattle.cy_words.specs.OptionViews.{values_of};
 ghost use Rattle.cy_words.specs.Kept.{options_in};
-ghost use Rattle.cy_words.specs.Options.{Alone, Apart};
-ghost use Rattle.cy_words.specs.Scan.{given_met, name_met, no_options, option_met, options_met};
-ghost use Rattle.cy_words.specs.Scan.{behind_hyphens, parts_met, put_known, word_met, words_met};
+ghost use Rattle.cy_words.specs.Options.{Apart, Filled};
+ghost use Rattle.cy_words.specs.Scan.{behind_hyphens, given_met, is_full, name_met, no_options};
+ghost use Rattle.cy_words.specs.Scan.{option_met, options_met, parts_met, place_met, put_known};
+ghost use Rattle.cy_words.specs.Scan.{word_met, words_met};
 
 use crate::matches::value_of;
 use crate::words::names_something;
 use clap::ArgMatches;
 use cy_msg::Text;
 
-/// An option that a command knows: its name, and whether it has a value. One without is a flag.
-pub(crate) type Known = (&'static str, bool);
+/// How a command knows a word.
+#[derive(Clone, Copy)]
+pub(crate) enum Kind {
+    /// By its place.
+    Place,
+    /// As an option with a value.
+    Value,
+    /// As an option without one.
+    Flag,
+}
 
-/// The most options of a command.
-pub(crate) const MOST_OPTIONS: usize = 16;
+/// A row of what a command knows: a name, and how. The places stand first.
+pub(crate) type Known = (&'static str, Kind);
 
-/// The values of the options that are given, in the order in which the command knows these. That
-/// of a flag is empty.
+/// The most rows of a command.
+pub(crate) const MOST_KNOWN: usize = 16;
+
+/// The values that are given, in the order of the rows. That of a flag is empty.
 #[derive(Clone, Copy)]
 pub(crate) struct Options<'a> {
-    values: [Option<&'a str>; MOST_OPTIONS],
+    values: [Option<&'a str>; MOST_KNOWN],
 }
 
-// The options that words gave so far, and the name whose value is the next word.
+// What words gave so far, the name whose value is the next word, and the rows from the next place
+// on.
 #[derive(Clone, Copy)]
-struct Reading<'a> {
+struct Reading<'k, 'a> {
     options: Options<'a>,
     pending: Option<&'a str>,
+    left: &'k [Known],
 }
 
-/// Where the values of options are from.
+/// Where values are from.
 #[derive(Clone, Copy)]
 pub(crate) enum Values<'v, 'a> {
     /// The words, one after another.
@@ -52,16 +65,16 @@ fn first_place(known: &[Known], name: &str) -> Option<usize>
     known.iter().position(|k| k.0 == name)
 }
 
-// The place of the option of a name.
+// The row of a name.
 fn place_of(known: &[Known], name: &str) -> Option<usize>
     ensures { result ≡ place_in (table_of known.now) name.now }
 {
     first_place(known, name)
 }
 
-// Whether the option of a name has a value, where the command knows it.
-fn has_value(known: &[Known], name: &str) -> Option<bool>
-    ensures { result ≡ has_value (table_of known.now) name.now }
+// What a name is, where the command knows it.
+fn kind_of(known: &[Known], name: &str) -> Option<Kind>
+    ensures { option_map kind_as result ≡ kind_of (table_of known.now) name.now }
 {
     let place = place_of(known, name)?;
     Some(known[place].1)
@@ -76,10 +89,10 @@ fn behind_hyphens(word: &str) -> Option<&str>
 
 // The values with another one at a place.
 fn with_value_at<'a>(
-    mut values: [Option<&'a str>; MOST_OPTIONS],
+    mut values: [Option<&'a str>; MOST_KNOWN],
     place: usize,
     value: &'a str,
-) -> [Option<&'a str>; MOST_OPTIONS]
+) -> [Option<&'a str>; MOST_KNOWN]
     requires { place < 16 }
     ensures values { result ≡ slice_set values.entry place (Some value.entry) }
     ensures within { place < length values.entry }
@@ -105,7 +118,7 @@ impl<'a> Options<'a> {
         })
     }
 
-    // The same for one that has a value.
+    // The same for an option with a value.
     #[tactic(auto, unfolding(crate::specs::Scan::given_met, crate::specs::Scan::put_known))]
     fn with_value(self, known: &[Known], name: &str, value: &'a str) -> Option<Self>
         requires { length known.now ≤ 16 }
@@ -113,86 +126,150 @@ impl<'a> Options<'a> {
             (table_of known.now) (Apart name.now value.now)
             (options_of (table_of known.now) self.entry) }
     {
-        match has_value(known, name) {
-            Some(true) if names_something(value) => self.with(known, name, value),
+        match kind_of(known, name) {
+            Some(Kind::Value) if names_something(value) => self.with(known, name, value),
+            _ => None,
+        }
+    }
+
+    // The same for a word at a place.
+    #[tactic(auto, unfolding(crate::specs::Scan::given_met, crate::specs::Scan::put_known))]
+    fn with_place(self, known: &[Known], name: &str, value: &'a str) -> Option<Self>
+        requires { length known.now ≤ 16 }
+        ensures { option_map (options_of (table_of known.now)) result ≡ given_met
+            (table_of known.now) (Filled name.now value.now)
+            (options_of (table_of known.now) self.entry) }
+    {
+        match kind_of(known, name) {
+            Some(Kind::Place) if names_something(value) => self.with(known, name, value),
             _ => None,
         }
     }
 
     // Once a name was met with no value in its word.
     #[tactic(auto, unfolding(crate::specs::Scan::name_met, crate::specs::Scan::given_met, crate::specs::Scan::put_known))]
-    fn named(self, known: &[Known], name: &'a str) -> Option<Reading<'a>>
+    fn named<'k>(self, known: &[Known], name: &'a str, left: &'k [Known]) -> Option<Reading<'k, 'a>>
         requires { length known.now ≤ 16 }
         ensures { option_map (reading_of (table_of known.now)) result ≡ name_met
-            (table_of known.now) name.now (options_of (table_of known.now) self.entry) }
+            (table_of known.now) name.now (table_of left.now)
+            (options_of (table_of known.now) self.entry) }
     {
-        if has_value(known, name)? {
-            return Some(Reading {
+        match kind_of(known, name)? {
+            Kind::Place => None,
+            Kind::Value => Some(Reading {
                 options: self,
                 pending: Some(name),
-            });
+                left,
+            }),
+            Kind::Flag => Some(Reading {
+                options: self.with(known, name, "")?,
+                pending: None,
+                left,
+            }),
         }
-        Some(Reading {
-            options: self.with(known, name, "")?,
-            pending: None,
-        })
     }
 
     // Once what stands behind the hyphens of an option was met.
     #[tactic(auto, unfolding(crate::specs::Scan::given_met))]
-    fn parted(self, known: &[Known], rest: &'a str) -> Option<Reading<'a>>
+    fn parted<'k>(
+        self,
+        known: &[Known],
+        rest: &'a str,
+        left: &'k [Known],
+    ) -> Option<Reading<'k, 'a>>
         requires { length known.now ≤ 16 }
         ensures { option_map (reading_of (table_of known.now)) result ≡ parts_met
-            (table_of known.now) rest.now (position (λ b. b == 61) rest.now)
+            (table_of known.now) rest.now (position (λ b. b == 61) rest.now) (table_of left.now)
             (options_of (table_of known.now) self.entry) }
     {
         match rest.split_once('=') {
             Some((name, value)) => Some(Reading {
                 options: self.with_value(known, name, value)?,
                 pending: None,
+                left,
             }),
-            None => self.named(known, rest),
+            None => self.named(known, rest, left),
         }
     }
 
-    // Once a word was met that is no value.
+    // Once a word was met that is no option.
+    #[tactic(auto, unfolding(crate::specs::Scan::place_met))]
+    fn placed<'k>(
+        self,
+        known: &[Known],
+        word: &'a str,
+        left: &'k [Known],
+    ) -> Option<Reading<'k, 'a>>
+        requires { length known.now ≤ 16 }
+        ensures { option_map (reading_of (table_of known.now)) result ≡ place_met
+            (table_of known.now) word.now (table_of left.now)
+            (options_of (table_of known.now) self.entry) }
+    {
+        let [(name, kind), left @ ..] = left else {
+            return None;
+        };
+        match kind {
+            Kind::Place => Some(Reading {
+                options: self.with_place(known, name, word)?,
+                pending: None,
+                left,
+            }),
+            _ => None,
+        }
+    }
+
+    // Once a word was met that is no value of an option.
     #[tactic(auto, unfolding(crate::specs::Scan::option_met))]
-    fn met(self, known: &[Known], word: &'a str) -> Option<Reading<'a>>
+    fn met<'k>(self, known: &[Known], word: &'a str, left: &'k [Known]) -> Option<Reading<'k, 'a>>
         requires { length known.now ≤ 16 }
         ensures { option_map (reading_of (table_of known.now)) result ≡ option_met
-            (table_of known.now) word.now (options_of (table_of known.now) self.entry) }
+            (table_of known.now) word.now (table_of left.now)
+            (options_of (table_of known.now) self.entry) }
     {
-        self.parted(known, behind_hyphens(word)?)
+        match behind_hyphens(word) {
+            Some(rest) => self.parted(known, rest, left),
+            None => self.placed(known, word, left),
+        }
     }
 }
 
 // Once one more word was met.
-fn word_met<'a>(known: &[Known], word: &'a str, before: Reading<'a>) -> Option<Reading<'a>>
+fn word_met<'k, 'a>(
+    known: &[Known],
+    word: &'a str,
+    before: Reading<'k, 'a>,
+) -> Option<Reading<'k, 'a>>
     requires { length known.now ≤ 16 }
     ensures { option_map (reading_of (table_of known.now)) result ≡ word_met (table_of known.now)
         word.now (options_of (table_of known.now) before.entry.options)
-        (option_map (λ name. name.now) before.entry.pending) }
+        (option_map (λ name. name.now) before.entry.pending) (table_of before.entry.left.now) }
 {
     match before.pending {
-        None => before.options.met(known, word),
+        None => before.options.met(known, word, before.left),
         Some(name) => Some(Reading {
             options: before.options.with_value(known, name, word)?,
             pending: None,
+            left: before.left,
         }),
     }
 }
 
-// The options that words give, and the name whose value would follow.
-fn words_met<'a>(known: &[Known], words: &'a [Text]) -> Option<Reading<'a>>
+// What words give.
+fn words_met<'k, 'a>(known: &'k [Known], words: &'a [Text]) -> Option<Reading<'k, 'a>>
     requires { length known.now ≤ 16 }
     ensures { option_map (reading_of (table_of known.now)) result ≡ words_met (table_of known.now)
-        words.now (record { options = no_options; pending = None }) }
+        words.now (record {
+          options = no_options;
+          pending = None;
+          left = table_of known.now;
+        }) }
 {
     let mut reading = Reading {
         options: Options {
-            values: [None; MOST_OPTIONS],
+            values: [None; MOST_KNOWN],
         },
         pending: None,
+        left: known,
     };
     for word in words {
         reading = word_met(known, word.as_str(), reading)?;
@@ -200,7 +277,20 @@ fn words_met<'a>(known: &[Known], words: &'a [Text]) -> Option<Reading<'a>>
     Some(reading)
 }
 
-/// The options that the words are, where a command knows these; None where they are no options.
+// Whether no place is left.
+fn is_full(left: &[Known]) -> bool
+    ensures { result ≡ is_full (table_of left.now) }
+{
+    let [(_, kind), ..] = left else {
+        return true;
+    };
+    match kind {
+        Kind::Place => false,
+        _ => true,
+    }
+}
+
+/// What the words give, where they are what a command knows.
 pub(crate) fn options_met<'a>(known: &[Known], words: &'a [Text]) -> Option<Options<'a>>
     requires { length known.now ≤ 16 }
     ensures { option_map (options_of (table_of known.now)) result
@@ -210,10 +300,14 @@ pub(crate) fn options_met<'a>(known: &[Known], words: &'a [Text]) -> Option<Opti
     if reading.pending.is_some() {
         return None;
     }
-    Some(reading.options)
+    if is_full(reading.left) {
+        Some(reading.options)
+    } else {
+        None
+    }
 }
 
-// The value of the option of a name.
+// The value of a name.
 fn met_value<'a>(options: &Options<'a>, known: &[Known], name: &str) -> Option<&'a str>
     requires { length known.now ≤ 16 }
     ensures { option_map (λ v. v.now) result
@@ -231,14 +325,15 @@ fn kept<'a>(matches: &ArgMatches<'a>, known: &[Known], name: &str) -> Option<&'a
         ≡ options_in (table_of known.now) (rows_of (found_of matches.now)) name.now }
 {
     let text = value_of(matches, name)?;
-    if has_value(known, name) != Some(false) {
-        return Some(text);
+    match kind_of(known, name) {
+        Some(Kind::Flag) if text == "true" => Some(""),
+        Some(Kind::Flag) => None,
+        _ => Some(text),
     }
-    if text == "true" { Some("") } else { None }
 }
 
 impl<'v, 'a> Values<'v, 'a> {
-    /// The value of the option of a name, where it is given.
+    /// The value of a name, where it is given.
     pub(crate) fn of(self, known: &[Known], name: &str) -> Option<&'a str>
         requires { length known.now ≤ 16 }
         ensures { option_map (λ v. v.now) result

@@ -1,35 +1,29 @@
 // The words of `play`.
 ghost use Rattle.std.specs.Prelude.{◌≡◌, is_some, option_map};
 ghost use Rattle.cy_request.specs.Request.{components_of};
-ghost use Rattle.clap.specs.Words.{found_of, rows_of};
-ghost use Rattle.cy_words.specs.Kept.{play_in};
-ghost use Rattle.cy_words.specs.PlayWords.{with_digit, number_of, number_or, is_list};
+ghost use Rattle.cy_words.specs.PlayWords.{with_digit, spelled_number, number_or, is_list};
 ghost use Rattle.cy_words.specs.PlayWords.{is_list_or_none, is_no_config, is_other, is_play};
 ghost use Rattle.cy_words.specs.PlayWords.{is_some_of};
-ghost use Rattle.cy_words.specs.PlayWords.{are_lists, asked_by, play_options, play_words};
-ghost use Rattle.cy_words.specs.PlayWords.{where_play};
-ghost use Rattle.cy_words.specs.PassWords.{play_of_all};
+ghost use Rattle.cy_words.specs.PlayWords.{are_lists, play_asked, play_known, play_of_all};
+ghost use Rattle.cy_words.specs.PlayWords.{play_words, where_play};
 ghost use Rattle.cy_words.specs.PlayViews.{play_words_of};
 ghost use Rattle.cy_words.specs.OptionViews.{values_of};
-ghost use Rattle.cy_words.specs.Scan.{play_of};
 
-use crate::options::{Known, Values, options_met};
-use clap::ArgMatches;
-use cy_msg::Text;
+use crate::options::{Kind, Known, Values};
 use cy_request::Components;
 
-/// The options of `play`.
+/// What `play` knows.
 pub(crate) const PLAY: [Known; 10] = [
-    ("dag", true),
-    ("sched", true),
-    ("record", true),
-    ("out", true),
-    ("trace", true),
-    ("channels", true),
-    ("drop", true),
-    ("begin", true),
-    ("end", true),
-    ("serial", false),
+    ("dag", Kind::Value),
+    ("sched", Kind::Value),
+    ("record", Kind::Value),
+    ("out", Kind::Value),
+    ("trace", Kind::Value),
+    ("channels", Kind::Value),
+    ("drop", Kind::Value),
+    ("begin", Kind::Value),
+    ("end", Kind::Value),
+    ("serial", Kind::Flag),
 ];
 
 /// What is asked of a play: its components, names of files, and which messages are let through.
@@ -71,9 +65,9 @@ fn with_digit(value: u64, byte: u8) -> Option<u64>
 }
 
 // A number of 1 to 20 digits, where it has 64 bits.
-#[tactic(auto, unfolding(crate::specs::PlayWords::number_of))]
-pub(crate) fn number_of(text: &str) -> Option<u64>
-    ensures { result ≡ number_of text.now }
+#[tactic(auto, unfolding(crate::specs::PlayWords::spelled_number))]
+pub(crate) fn spelled_number(text: &str) -> Option<u64>
+    ensures { result ≡ spelled_number text.now }
 {
     if text.is_empty() || text.len() > 20 {
         return None;
@@ -90,7 +84,7 @@ fn number_or(absent: u64, text: Option<&str>) -> Option<u64>
     ensures { result ≡ number_or absent (option_map (λ v. v.now) text.entry) }
 {
     match text {
-        Some(text) => number_of(text),
+        Some(text) => spelled_number(text),
         None => Some(absent),
     }
 }
@@ -134,8 +128,8 @@ fn is_no_config(name: &str, components: &Components) -> bool
 }
 
 impl<'a> Play<'a> {
-    // A serial play of all messages.
-    pub(crate) fn of_all(
+    /// A serial play of all messages.
+    pub fn of_all(
         components: Components<'a>,
         input: &'a str,
         output: &'a str,
@@ -184,42 +178,42 @@ impl<'a> Play<'a> {
 
 // The value of an option.
 fn value<'a>(values: Values<'_, 'a>, name: &str) -> Option<&'a str>
-    ensures { option_map (λ v. v.now) result ≡ values_of play_options values.entry name.now }
+    ensures { option_map (λ v. v.now) result ≡ values_of play_known values.entry name.now }
 {
     values.of(&PLAY, name)
 }
 
 // Whether an option is given.
 fn is_given(values: Values, name: &str) -> bool
-    ensures { result ≡ is_some (values_of play_options values.entry name.now) }
+    ensures { result ≡ is_some (values_of play_known values.entry name.now) }
 {
     value(values, name).is_some()
 }
 
 // The number that an option gives, or what stands for it where it isn't given.
 fn number(values: Values, absent: u64, name: &str) -> Option<u64>
-    ensures { result ≡ number_or absent (values_of play_options values.entry name.now) }
+    ensures { result ≡ number_or absent (values_of play_known values.entry name.now) }
 {
     number_or(absent, value(values, name))
 }
 
 // Whether an option has no list with an empty name.
 fn has_list(values: Values, name: &str) -> bool
-    ensures { result ≡ is_list_or_none (values_of play_options values.entry name.now) }
+    ensures { result ≡ is_list_or_none (values_of play_known values.entry name.now) }
 {
     is_list_or_none(value(values, name))
 }
 
 // Whether the lists of channels have no empty names.
 fn are_lists(values: Values) -> bool
-    ensures { result ≡ are_lists (values_of play_options values.entry) }
+    ensures { result ≡ are_lists (values_of play_known values.entry) }
 {
     has_list(values, "channels") && has_list(values, "drop")
 }
 
 // What the options say, where those are given that every play has.
 fn play_with<'a>(values: Values<'_, 'a>) -> Option<Play<'a>>
-    ensures { option_map play_words_of result ≡ play_words (values_of play_options values.entry) }
+    ensures { option_map play_words_of result ≡ play_words (values_of play_known values.entry) }
 {
     let dag = value(values, "dag")?;
     let input = value(values, "record")?;
@@ -244,30 +238,13 @@ fn play_with<'a>(values: Values<'_, 'a>) -> Option<Play<'a>>
     })
 }
 
-// What the options ask for.
-#[tactic(auto, unfolding(crate::specs::PlayWords::asked_by))]
-fn asked<'a>(values: Values<'_, 'a>) -> Option<Play<'a>>
-    ensures { option_map play_words_of result ≡ asked_by (values_of play_options values.entry) }
+/// What the options ask for.
+#[tactic(auto, unfolding(crate::specs::PlayWords::play_asked))]
+pub(crate) fn play_asked<'a>(values: Values<'_, 'a>) -> Option<Play<'a>>
+    ensures { option_map play_words_of result ≡ play_asked (values_of play_known values.entry) }
 {
     if !are_lists(values) {
         return None;
     }
     play_with(values)?.where_in_form()
-}
-
-impl<'a> Play<'a> {
-    // What the values ask for that `clap` keeps behind `play`.
-    pub(crate) fn of(matches: &ArgMatches<'a>) -> Option<Self>
-        ensures { option_map play_words_of result ≡ play_in (rows_of (found_of matches.now)) }
-    {
-        asked(Values::Kept(matches))
-    }
-}
-
-/// What the words behind `play` ask for; None where they are not of its form.
-pub(crate) fn play_words<'a>(words: &'a [Text]) -> Option<Play<'a>>
-    ensures { option_map play_words_of result ≡ play_of words.now }
-{
-    let options = options_met(&PLAY, words)?;
-    asked(Values::Met(&options))
 }

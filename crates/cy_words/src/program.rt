@@ -1,29 +1,32 @@
 // How the program's commands are told to `clap`.
-ghost use Rattle.std.specs.Prelude.{◌≡◌, Some, true, false, is_some, IfOk, fold, map, option_map};
-ghost use Rattle.clap.specs.Words.{App, app_of, found_of, new_rule, rows_of, rule_of};
+ghost use Rattle.std.specs.Prelude.{◌≡◌, Some, true, is_some, IfOk, fold, map, option_map};
+ghost use Rattle.std.specs.Prelude.{false};
+ghost use Rattle.clap.specs.Words.{App, app_of, found_of, rows_of, rule_of};
 ghost use Rattle.clap.specs.declared.builder.command.Command.TheViews.{out-Command};
-ghost use Rattle.clap.specs.Words.{subcommand_of, takes, with_rule, with_subcommand};
+ghost use Rattle.clap.specs.Words.{subcommand_of, takes, with_subcommand};
 ghost use Rattle.clap.specs.Walk.{texts};
-ghost use Rattle.cy_words.specs.Program.{IsCommand, check_app, info_app, make_app};
-ghost use Rattle.cy_words.specs.Program.{option_rule, pass_app, play_app, program};
-ghost use Rattle.cy_words.specs.Options.{flag, valued};
-ghost use Rattle.cy_words.specs.OptionViews.{known_as, table_of};
+ghost use Rattle.cy_words.specs.OptionViews.{head_as, known_as, table_of};
+ghost use Rattle.cy_words.specs.Options.{flagged, placed, valued};
+ghost use Rattle.cy_words.specs.Program.{IsCommand, app_for, program, rule_of_known};
+ghost use Rattle.cy_words.specs.Program.{with_head, with_known};
 
 use crate::WordsError;
-use crate::check_words::CHECK;
-use crate::options::Known;
-use crate::play_words::PLAY;
+use crate::options::{Kind, Known};
+use crate::words::{FORMS, Form};
 use clap::{Arg, ArgAction, ArgMatches, Command};
 use std::alloc::{AllocError, Global};
 
-// The words of `pass` and of `make`, in their order.
-const PASSED: [&str; 5] = ["record", "out", "trace", "from", "to"];
-
-const MADE: [&str; 2] = ["count", "prefix"];
+// A word at a place.
+fn place<'a>(alloc: Global, name: &'a str) -> Arg<'a>
+    ensures rule { rule_of result ≡ rule_of_known (placed name.entry.now) }
+    ensures local { result.global ≡ false }
+{
+    Arg::new(alloc, name)
+}
 
 // An option with a value.
 fn value_option<'a>(alloc: Global, name: &'a str) -> Arg<'a>
-    ensures rule { rule_of result ≡ option_rule (valued name.entry.now) }
+    ensures rule { rule_of result ≡ rule_of_known (valued name.entry.now) }
     ensures local { result.global ≡ false }
 {
     Arg::new(alloc, name).long(name)
@@ -31,87 +34,48 @@ fn value_option<'a>(alloc: Global, name: &'a str) -> Arg<'a>
 
 // An option without one.
 fn flag<'a>(alloc: Global, name: &'a str) -> Arg<'a>
-    ensures rule { rule_of result ≡ option_rule (flag name.entry.now) }
+    ensures rule { rule_of result ≡ rule_of_known (flagged name.entry.now) }
     ensures local { result.global ≡ false }
 {
     Arg::new(alloc, name).long(name).action(ArgAction::SetTrue)
 }
 
-// An option that a command knows.
-fn option<'a>(alloc: Global, known: Known) -> Arg<'a>
-    ensures rule { rule_of result ≡ option_rule (known_as known.entry) }
+// A word that a command knows.
+fn argument<'a>(alloc: Global, known: Known) -> Arg<'a>
+    ensures rule { rule_of result ≡ rule_of_known (known_as known.entry) }
     ensures local { result.global ≡ false }
 {
-    let (name, has_value) = known;
-    if has_value {
-        value_option(alloc, name)
-    } else {
-        flag(alloc, name)
+    let (name, kind) = known;
+    match kind {
+        Kind::Place => place(alloc, name),
+        Kind::Value => value_option(alloc, name),
+        Kind::Flag => flag(alloc, name),
     }
 }
 
-// A command with options.
-fn with_options<'a>(
+// A command with all words that it knows.
+fn with_words<'a>(
     alloc: Global,
     mut command: Command<'a>,
     known: &[Known],
 ) -> Result<Command<'a>, AllocError>
     ensures app { IfOk result (λ c. app_of c
-        ≡ fold with_rule (app_of command.entry) (map option_rule (table_of known.now))) }
+        ≡ fold with_known (app_of command.entry) (table_of known.now)) }
     ensures local { IfOk result (λ c. (out-Command c).has_globals
         ≡ (out-Command command.entry).has_globals) }
 {
     for one in known {
-        command = command.arg(option(alloc, *one))?;
+        command = command.arg(argument(alloc, *one))?;
     }
     Ok(command)
 }
 
-// A command with further words that are known by their places.
-fn with_places<'a>(
-    alloc: Global,
-    mut command: Command<'a>,
-    names: &[&'a str],
-) -> Result<Command<'a>, AllocError>
-    ensures app { IfOk result (λ c. app_of c
-        ≡ fold with_rule (app_of command.entry) (map new_rule (texts names.now))) }
-    ensures local { IfOk result (λ c. (out-Command c).has_globals
-        ≡ (out-Command command.entry).has_globals) }
+// The command of a form.
+fn command_for<'a>(alloc: Global, form: Form) -> Result<Command<'a>, AllocError>
+    ensures { IfOk result (IsCommand (app_for (head_as form.entry))) }
 {
-    for name in names {
-        command = command.arg(Arg::new(alloc, *name))?;
-    }
-    Ok(command)
-}
-
-fn check<'a>(alloc: Global) -> Result<Command<'a>, AllocError>
-    ensures { IfOk result (IsCommand check_app) }
-{
-    with_options(alloc, Command::new(alloc, "check"), &CHECK)
-}
-
-fn play<'a>(alloc: Global) -> Result<Command<'a>, AllocError>
-    ensures { IfOk result (IsCommand play_app) }
-{
-    with_options(alloc, Command::new(alloc, "play"), &PLAY)
-}
-
-fn info<'a>(alloc: Global) -> Result<Command<'a>, AllocError>
-    ensures { IfOk result (IsCommand info_app) }
-{
-    with_places(alloc, Command::new(alloc, "info"), &["file"])
-}
-
-fn pass<'a>(alloc: Global) -> Result<Command<'a>, AllocError>
-    ensures { IfOk result (IsCommand pass_app) }
-{
-    with_places(alloc, Command::new(alloc, "pass"), &PASSED)
-}
-
-fn make<'a>(alloc: Global) -> Result<Command<'a>, AllocError>
-    ensures { IfOk result (IsCommand make_app) }
-{
-    with_places(alloc, Command::new(alloc, "make"), &MADE)
+    let (name, known) = form;
+    with_words(alloc, Command::new(alloc, name), known)
 }
 
 // A program with a further command.
@@ -131,6 +95,21 @@ fn with_command<'a>(
     }
 }
 
+// A program with the commands of all forms.
+fn with_forms<'a>(
+    alloc: Global,
+    mut program: Command<'a>,
+    forms: &[Form],
+) -> Result<Command<'a>, AllocError>
+    ensures { IfOk result (λ c. app_of c
+        ≡ fold with_head (app_of program.entry) (map head_as forms.now)) }
+{
+    for form in forms {
+        program = with_command(program, command_for(alloc, *form))?;
+    }
+    Ok(program)
+}
+
 // The program: its words are those behind its name, a command stands first, and it has no help.
 fn program<'a>(alloc: Global) -> Result<Command<'a>, AllocError>
     ensures { IfOk result (λ c. app_of c ≡ program) }
@@ -139,11 +118,7 @@ fn program<'a>(alloc: Global) -> Result<Command<'a>, AllocError>
         .no_binary_name(true)
         .disable_help_flag(true)
         .disable_help_subcommand(true);
-    let one = with_command(bare, play(alloc))?;
-    let two = with_command(one, check(alloc))?;
-    let three = with_command(two, info(alloc))?;
-    let four = with_command(three, pass(alloc))?;
-    with_command(four, make(alloc))
+    with_forms(alloc, bare, &FORMS)
 }
 
 /// The matches of the command that the words name, which `clap` takes.

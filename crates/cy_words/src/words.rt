@@ -1,17 +1,17 @@
-// The words that the program takes, command by command.
-ghost use Rattle.std.specs.Prelude.{◌≡◌, ◌∷◌, option_map};
-ghost use Rattle.clap.specs.Words.{found_of, rows_of};
-ghost use Rattle.cy_words.specs.Kept.{asked_in, info_in};
-ghost use Rattle.cy_words.specs.Words.{is_word, info_of};
-ghost use Rattle.cy_words.specs.Scan.{command_of, still_command_of};
-ghost use Rattle.cy_words.specs.Views.{info_words_of, command_asked};
+// The words that the program takes, form by form.
+ghost use Rattle.std.specs.Prelude.{◌≡◌, ◌≤◌, length, find, IfSome, map, option_map};
+ghost use Rattle.std.specs.Str.{bytes_eq};
+ghost use Rattle.cy_words.specs.Command.{form_of, info_asked, info_known};
+ghost use Rattle.cy_words.specs.OptionViews.{head_as, table_of, values_of};
+ghost use Rattle.cy_words.specs.Scan.{asked_of, command_of, still_command_of};
+ghost use Rattle.cy_words.specs.Views.{command_asked, info_words_of};
+ghost use Rattle.cy_words.specs.Words.{is_word};
 
-use crate::check_words::{Check, check_words};
-use crate::make_words::{Make, make_words};
-use crate::matches::value_of;
-use crate::pass_words::pass_words;
-use crate::play_words::{Play, play_words};
-use clap::ArgMatches;
+use crate::check_words::{CHECK, Check, check_asked};
+use crate::make_words::{MAKE, Make, make_asked};
+use crate::options::{Kind, Known, Values, options_met};
+use crate::pass_words::{PASS, pass_asked};
+use crate::play_words::{PLAY, Play, play_asked};
 use cy_msg::Text;
 
 /// The most bytes of a word.
@@ -22,6 +22,17 @@ const LONGEST_WORD: usize = 16_777_216;
 pub struct Info<'a> {
     /// The record.
     pub file: &'a str,
+}
+
+// What `info` knows.
+const INFO: [Known; 1] = [("file", Kind::Place)];
+
+// What the words ask for.
+fn info_asked<'a>(values: Values<'_, 'a>) -> Option<Info<'a>>
+    ensures { option_map info_words_of result ≡ info_asked (values_of info_known values.entry) }
+{
+    let file = values.of(&INFO, "file")?;
+    Some(Info { file })
 }
 
 /// What the words ask for.
@@ -37,6 +48,34 @@ pub enum Command<'a> {
     Make(Make<'a>),
 }
 
+/// A form of words: the name that stands first, and what is known of the words behind it.
+pub(crate) type Form = (&'static str, &'static [Known]);
+
+/// The forms that there are.
+pub(crate) const FORMS: [Form; 5] = [
+    ("play", &PLAY),
+    ("pass", &PASS),
+    ("check", &CHECK),
+    ("info", &INFO),
+    ("make", &MAKE),
+];
+
+/// What values ask for behind the name of a form.
+#[tactic(auto, unfolding(crate::specs::Command::form_of))]
+pub(crate) fn asked_of<'a>(name: &str, values: Values<'_, 'a>) -> Option<Command<'a>>
+    ensures { option_map command_asked result
+        ≡ asked_of name.now (λ known. values_of known values.entry) }
+{
+    match name {
+        "play" => Some(Command::Play(play_asked(values)?)),
+        "pass" => Some(Command::Play(pass_asked(values)?)),
+        "check" => Some(Command::Check(check_asked(values)?)),
+        "info" => Some(Command::Info(info_asked(values)?)),
+        "make" => Some(Command::Make(make_asked(values)?)),
+        _ => None,
+    }
+}
+
 /// Whether a text may stand as a name.
 pub(crate) fn names_something(text: &str) -> bool
     ensures { result ≡ is_word text.now }
@@ -47,43 +86,29 @@ pub(crate) fn names_something(text: &str) -> bool
     }
 }
 
-// What the words behind `info` ask for.
-fn info_words<'a>(words: &'a [Text]) -> Option<Info<'a>>
-    ensures { option_map info_words_of result ≡ info_of words.now }
+// The first form of a name.
+fn first_form<'f>(forms: &'f [Form], name: &str) -> Option<&'f Form>
+    ensures { option_map (λ f. f.now) result ≡ find (λ f. bytes_eq name.now f.0.now) forms.now }
 {
-    let [file] = words else {
-        return None;
-    };
-    let file = file.as_str();
-    if names_something(file) {
-        Some(Info { file })
-    } else {
-        None
-    }
+    forms.iter().find(|form| name == form.0)
 }
 
-impl<'a> Info<'a> {
-    // What the values ask for that `clap` keeps.
-    fn of(matches: &ArgMatches<'a>) -> Option<Self>
-        ensures { option_map info_words_of result ≡ info_in (rows_of (found_of matches.now)) }
-    {
-        let file = value_of(matches, "file")?;
-        Some(Info { file })
-    }
+// The form of a name.
+fn form_in<'f>(forms: &'f [Form], name: &str) -> Option<&'f Form>
+    ensures { option_map (λ f. head_as f.now) result
+        ≡ find (λ h. bytes_eq name.now h.name) (map head_as forms.now) }
+{
+    first_form(forms, name)
 }
 
-// What the words behind the name of a command ask for.
-fn command_named<'a>(name: &str, words: &'a [Text]) -> Option<Command<'a>>
-    ensures { option_map command_asked result ≡ command_of (name.now ∷ words.now) }
+// What is known of the words behind a name.
+fn known_behind(name: &str) -> Option<&'static [Known]>
+    ensures known { option_map (λ k. table_of k.now) result
+        ≡ option_map (λ f. f.known) (form_of name.now) }
+    ensures few { IfSome result (λ k. length k.now ≤ 16) }
 {
-    match name {
-        "pass" => Some(Command::Play(pass_words(words)?)),
-        "check" => Some(Command::Check(check_words(words)?)),
-        "info" => Some(Command::Info(info_words(words)?)),
-        "play" => Some(Command::Play(play_words(words)?)),
-        "make" => Some(Command::Make(make_words(words)?)),
-        _ => None,
-    }
+    let form = form_in(&FORMS, name)?;
+    Some(form.1)
 }
 
 /// What the words ask for; None where they are of no known form. It takes no memory.
@@ -93,7 +118,9 @@ pub(crate) fn command_of<'a>(words: &'a [Text]) -> Option<Command<'a>>
     let [name, words @ ..] = words else {
         return None;
     };
-    command_named(name.as_str(), words)
+    let name = name.as_str();
+    let options = options_met(known_behind(name)?, words)?;
+    asked_of(name, Values::Met(&options))
 }
 
 /// What the words ask for where there are no threads; None where they are of no known form, or ask
@@ -104,22 +131,5 @@ pub(crate) fn still_command_of<'a>(words: &'a [Text]) -> Option<Command<'a>>
     match command_of(words)? {
         Command::Play(play) if !play.serial => None,
         command => Some(command),
-    }
-}
-
-impl<'a> Command<'a> {
-    // What the values ask for that `clap` keeps for the command of a name.
-    pub(crate) fn of(name: &str, matches: &ArgMatches<'a>) -> Option<Self>
-        ensures { option_map command_asked result
-            ≡ asked_in name.now (rows_of (found_of matches.now)) }
-    {
-        match name {
-            "pass" => Some(Command::Play(Play::of_pass(matches)?)),
-            "check" => Some(Command::Check(Check::of(matches)?)),
-            "info" => Some(Command::Info(Info::of(matches)?)),
-            "play" => Some(Command::Play(Play::of(matches)?)),
-            "make" => Some(Command::Make(Make::of(matches)?)),
-            _ => None,
-        }
     }
 }

@@ -12,7 +12,7 @@ use Rattle.cy_words.specs.MakeWords.{MakeWords}
 use Rattle.cy_words.specs.PlayWords.{PlayWords}
 use Rattle.cy_commands.specs.PlayWork.{replayed_in}
 use Rattle.cy_words.specs.CheckWords.{CheckWords}
-use Rattle.cy_words.specs.Words.{InfoWords}
+use Rattle.cy_words.specs.Command.{InfoWords}
 use Rattle.cy_commands.specs.Info.{told_of}
 use Rattle.cy_commands.specs.Check.{checked_in}
 use Rattle.cy_commands.specs.Status.{fault_status}

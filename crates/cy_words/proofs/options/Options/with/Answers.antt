@@ -1,4 +1,5 @@
-use Rattle.std.proofs.Common.{◌≡◌, ◌∙◌, None, Some, ap, arith, is_some, get_or, option_map, rules, true, false}
+use Rattle.std.proofs.Common.{◌≡◌, ◌∙◌, None, Some, ap, arith, is_some, get_or, option_map, rules, false}
+use Rattle.cy_words.specs.declared.options.Kind.TheVariants as kind
 use Rattle.cy_words.specs.OptionViews.{options_of, place_in, table_of}
 use Rattle.cy_words.proofs.Places.{place_within, put_again, put_first, put_unknown}
 use Rattle.cy_words.proofs.options.Options.with.Goals as goal
@@ -13,7 +14,7 @@ returns-in_err-place c =
 pub returns-then-is_some : goal.returns-then-is_some
 returns-then-is_some c =
     let is : place_in (table_of c.args.known.now) c.args.name.now ≡ Some c.in_ok-place.place = search rules in
-    put_again c.args.known.now c.args.name.now c.args.value.now c.args.self c.in_ok-place.place (c.args.name, true) is (search rules)
+    put_again c.args.known.now c.args.name.now c.args.value.now c.args.self c.in_ok-place.place (c.args.name, kind.Flag) is (search rules)
 
 pub with_value_at-requires : goal.with_value_at-requires
 with_value_at-requires c =
@@ -25,4 +26,4 @@ returns c =
     let is : place_in (table_of c.args.known.now) c.args.name.now ≡ Some c.in_ok-place.place = search rules in
     let none : is_some (get_or c.args.self.values c.in_ok-place.place None) ≡ false = search rules in
     ap (λ values. Some (options_of (table_of c.args.known.now) (record { values = values }))) c.with_value_at.ensures.values
-    ∙ put_first c.args.known.now c.args.name.now c.args.value c.args.self c.in_ok-place.place (c.args.name, true) is c.with_value_at.ensures.within none
+    ∙ put_first c.args.known.now c.args.name.now c.args.value c.args.self c.in_ok-place.place (c.args.name, kind.Flag) is c.with_value_at.ensures.within none

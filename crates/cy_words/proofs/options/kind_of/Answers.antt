@@ -1,13 +1,13 @@
-use Rattle.std.proofs.Common.{◌≡◌, ◌∙◌, None, Some, rules, sym}
-use Rattle.cy_words.specs.OptionViews.{place_in, table_of}
+use Rattle.std.proofs.Common.{◌≡◌, ◌∙◌, None, Some, ap, option_map, rules, sym}
+use Rattle.cy_words.specs.OptionViews.{kind_as, place_in, table_of}
 use Rattle.cy_words.proofs.Places.{has_there, none_has}
-use Rattle.cy_words.proofs.options.has_value.Goals as goal
+use Rattle.cy_words.proofs.options.kind_of.Goals as goal
 
 pub returns-in_err-place : goal.returns-in_err-place
 returns-in_err-place c =
     let none : place_in (table_of c.args.known.now) c.args.name.now ≡ None = search rules in
     let result : c.from_residual.result ≡ None = search rules in
-    result ∙ sym (none_has (table_of c.args.known.now) c.args.name.now none)
+    ap (option_map kind_as) result ∙ sym (none_has (table_of c.args.known.now) c.args.name.now none)
 
 pub returns : goal.returns
 returns c =
