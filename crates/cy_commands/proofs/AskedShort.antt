@@ -2,7 +2,7 @@
 use Rattle.cy_words.specs.Command.{Make}
 use Rattle.cy_words.proofs.InForm.{asked_fits}
 use Rattle.cy_make.specs.Texts.{TextsAreShort}
-use Rattle.cy_commands.specs.MakeWork.{AskedTextsAreShort}
+use Rattle.cy_commands.specs.Commands.MakeWork.{AskedTextsAreShort}
 
 pub short : TextsAreShort → AskedTextsAreShort
 short are words w c asked = are w.prefix c (asked_fits words (Make w) asked).2

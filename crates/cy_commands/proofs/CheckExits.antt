@@ -16,12 +16,11 @@ use Rattle.cy_commands.specs.declared.status.Status.{Status}
 use Rattle.cy_commands.specs.declared.status.Status.TheVariants.{Done}
 use Rattle.cy_words.specs.CheckWords.{CheckWords}
 use Rattle.cy_words.specs.Command.{Check}
-use Rattle.cy_commands.specs.Check.{checked_in}
+use Rattle.cy_commands.specs.Commands.CheckWork.{IsCheckWork, checked_in}
 use Rattle.cy_commands.specs.CheckEnds.{IsTextOf}
-use Rattle.cy_commands.specs.Unset.{IsStarved, IsDueUnset}
+use Rattle.cy_commands.specs.Unset.{IsDueUnset}
 use Rattle.cy_commands.specs.Due.{IsDueFor}
 use Rattle.cy_commands.proofs.Refusing as refusing
-use Rattle.cy_commands.proofs.Refusing.{starved, no_writes}
 
 -- the names that are asked for
 abbrev pub Asked : CheckWords → StoreView → List ℕ → Type 0
@@ -73,13 +72,5 @@ unset w old new e due line came told =
 
 -- the text is told
 pub done : (w : CheckWords) (says : Configuration) (old new : StoreView) (text : List ℕ) → ComesTo configured (checked_in w) (Asked w old) old new (Ok says) → IsTextOf w (configured says) text → IsDueFor (Check w) old new Done text
-done w says old new text came is = record {
-  work = record { writes = []; text = text };
-  accepted = record { read = configured says; accepted = came.accepted.1; contexts = is.contexts; placed = is.placed; silent = refl; text = is.is };
-  written = came.same ∙ no_writes old.files;
-  told = refl;
-}
-
--- there is no memory for the text
-pub no_text : (w : CheckWords) (says : Configuration) (old new : StoreView) (due : Status) (line : List ℕ) → ComesTo configured (checked_in w) (Asked w old) old new (Ok says) → IsStarved due line → IsDueFor (Check w) old new due line
-no_text w says old new due line came s = starved (Check w) old new due line came.same s
+done w says old new text came is =
+    refusing.told (Check w) configured (checked_in w) (IsCheckWork w) (Asked w old) old new says text (λ work a. a) came (record { contexts = is.contexts; placed = is.placed; silent = refl; text = is.is })

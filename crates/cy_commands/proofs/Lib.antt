@@ -1,6 +1,5 @@
 pub mod AskedShort
 pub mod CheckExits
-pub mod InfoExits
 pub mod MakeExits
 pub mod OneDue
 pub mod PlayExits

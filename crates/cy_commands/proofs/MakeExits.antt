@@ -30,10 +30,10 @@ use Rattle.cy_commands.specs.Due.{IsDueFor}
 use Rattle.cy_commands.specs.Lines.{store_line, memory_line}
 use Rattle.cy_commands.specs.MakeEnds.{IsMade, IsDueUnmade, IsDueUnplayed, result_suffix}
 use Rattle.cy_words.specs.MakeWords.{MakeWords}
-use Rattle.cy_commands.specs.MakeWork.{IsMakeWork, made_files, play_made}
+use Rattle.cy_commands.specs.Commands.MakeWork.{IsMakeWork, made_files, play_made}
 use Rattle.cy_commands.specs.PlayEnds.{HasRun, IsLine, name_of_play, source_by, writes_by}
 use Rattle.cy_words.specs.PlayWords.{PlayWords}
-use Rattle.cy_commands.specs.PlayWork.{play_line, replayed_in}
+use Rattle.cy_commands.specs.Commands.PlayWork.{play_line, replayed_in}
 use Rattle.cy_commands.proofs.PlayExits as play
 
 -- what `make` makes

@@ -24,12 +24,12 @@ use Rattle.cy_commands.specs.declared.status.Status.{Status}
 use Rattle.cy_commands.specs.declared.status.Status.TheVariants.{Done}
 use Rattle.cy_commands.specs.Unset.{IsDueUnset}
 use Rattle.cy_words.specs.Command.{Play}
-use Rattle.cy_commands.specs.Work.{Work}
+use Rattle.cy_commands.specs.Work.{IsMadeOf, Work}
 use Rattle.cy_commands.specs.Due.{IsDueFor}
 use Rattle.cy_commands.specs.Lines.{store_line}
 use Rattle.cy_commands.specs.PlayEnds.{SetsUp, HasRun, IsDueAfterPlay, IsLine, name_of_play, source_by, writes_by}
 use Rattle.cy_words.specs.PlayWords.{PlayWords}
-use Rattle.cy_commands.specs.PlayWork.{IsPlayWork, replayed_in, play_line, tape_record, run_trace}
+use Rattle.cy_commands.specs.Commands.PlayWork.{IsPlayWork, replayed_in, play_line, tape_record, run_trace}
 use Rattle.cy_commands.proofs.Refusing as refusing
 
 -- the files are not accepted
@@ -54,21 +54,24 @@ leaves w x world m =
     ∙ after_file trace_puts (insert m w.output (tape_record w s world.tape)) w.trace
     ∙ ap (insert (insert m w.output (tape_record w s world.tape)) w.trace) (written_at-end [] trace 0 refl)
 
-pub accepted : (w : PlayWords) (x : Replay) (world : Plain) (files : Option Files) → IfSome files (λ m. replayed_in w m ≡ Accepts (replayed x)) → IsSetUp w.request.filter x → HasRun w.serial x world → IsPlayWork w files (work_of w x world)
+pub accepted : (w : PlayWords) (x : Replay) (world : Plain) (files : Option Files) → IfSome files (λ m. replayed_in w m ≡ Accepts (replayed x)) → IsSetUp w.request.filter x → HasRun w.serial x world
+    → IsMadeOf (replayed_in w) (IsPlayWork w) files (work_of w x world)
 accepted w x world files read s h = record {
   read = replayed x;
   accepted = read;
-  list = x.list;
-  listed = s.listed;
-  contexts = x.placement.contexts;
-  placed = s.placed;
-  world = world;
-  played = record { run = h.run; lawful = h.lawful };
-  record_text = record_text w.output (source_by x) world.tape s.once h.writable;
-  read_back = h.read_back;
-  writes = refl;
-  leaves = leaves w x world;
-  text = refl;
+  made = record {
+    list = x.list;
+    listed = s.listed;
+    contexts = x.placement.contexts;
+    placed = s.placed;
+    world = world;
+    played = record { run = h.run; lawful = h.lawful };
+    record_text = record_text w.output (source_by x) world.tape s.once h.writable;
+    read_back = h.read_back;
+    writes = refl;
+    leaves = leaves w x world;
+    text = refl;
+  };
 }
 
 -- all was written

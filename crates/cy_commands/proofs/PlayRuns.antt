@@ -19,7 +19,7 @@ use Rattle.cy_recording.specs.RecordLaws.{PlacesAreThere}
 use Rattle.cy_replay.specs.declared.setup.Replay.{Replay}
 use Rattle.cy_trace.specs.TraceForm.{IsTraceText}
 use Rattle.cy_commands.specs.PlayEnds.{HasRun, source_by}
-use Rattle.cy_commands.specs.PlayWork.{IsRunOf, run_trace}
+use Rattle.cy_commands.specs.Commands.PlayWork.{IsRunOf, run_trace}
 use Rattle.cy_commands.proofs.Taped.{lawful_origins}
 
 -- no more is planned than a world keeps

@@ -1,5 +1,5 @@
--- How a command ends whose files are not accepted.
-use Rattle.std.proofs.Common.{ℕ, ◌≡◌, List, [], Bool, true, false, if◌then◌else◌, Option, Some, None, IfSome, Result, Err, refl, sym, ap, subst, ◌∙◌, inl, inr}
+-- How a command ends whose files are not accepted, and one that tells a text.
+use Rattle.std.proofs.Common.{ℕ, ◌≡◌, List, [], Bool, true, false, if◌then◌else◌, Option, Some, None, IfSome, Result, Ok, Err, refl, sym, ap, subst, ◌∙◌, inl, inr}
 use Rattle.std.specs.Option.{option_map}
 use Rattle.cy_store.specs.Files.{Files}
 use Rattle.cy_store.specs.Reads.{Reads, Absent}
@@ -12,11 +12,12 @@ use Rattle.cy_replay.specs.Comes.{ComesTo}
 use Rattle.cy_replay.specs.FaultText.{is_limit}
 use Rattle.cy_words.specs.Command.{Command}
 use Rattle.cy_commands.specs.declared.status.Status.{Status}
-use Rattle.cy_commands.specs.declared.status.Status.TheVariants.{Refused, Limit}
+use Rattle.cy_commands.specs.declared.status.Status.TheVariants.{Done, Refused, Limit}
 use Rattle.cy_commands.specs.Due.{IsDueFor, RefusesFiles}
-use Rattle.cy_commands.specs.Outcome.{IsReadBy, IsRefused, IsAbsent}
+use Rattle.cy_commands.specs.Commands.{IsAbsent, IsAccepted, IsReadBy, IsRefused, outcome_of}
 use Rattle.cy_commands.specs.Refused.{IsRefusal}
 use Rattle.cy_commands.specs.Unset.{IsStarved, IsDueUnset}
+use Rattle.cy_commands.specs.Work.{IsMadeOf, Work}
 
 -- the store is as it was
 view_same : (old new : StoreView) → new.files ≡ old.files → SameCounts old new → new ≡ old
@@ -33,9 +34,9 @@ refuses c old new false line r = r
 
 -- what a command reads, by the parts of `Outcome` that are its own
 pub record ReadsBy {A : Type 0} (c : Command) (reads : Files → Reads Refusal A) (Asked : List ℕ → Type 0) (files : Option Files) : Type 0 where
-  pub asked : (file : List ℕ) → Asked file → IsReadBy c files file
-  pub refused : (due : Status) (line : List ℕ) → IsRefusal reads files due line → IsRefused c files due line
-  pub absent : (file : List ℕ) → IfSome files (λ m. reads m ≡ Absent file) → IsAbsent c files file
+  pub asked : (file : List ℕ) → Asked file → IsReadBy (outcome_of c) files file
+  pub refused : (due : Status) (line : List ℕ) → IsRefusal reads files due line → IsRefused (outcome_of c) files due line
+  pub absent : (file : List ℕ) → IfSome files (λ m. reads m ≡ Absent file) → IsAbsent (outcome_of c) files file
 
 -- the files are not accepted
 pub unset : {X A : Type 0} (c : Command) (view : X → A) (reads : Files → Reads Refusal A) (Asked : List ℕ → Type 0) (old new : StoreView) (e : SetupError) (due : Status) (line : List ℕ)
@@ -63,3 +64,14 @@ unset c view reads Asked old new setup.Memory due line by came s = starved c old
 pub no_writes : (files : Option Files) → files ≡ option_map (after_writes []) files
 no_writes None = refl
 no_writes (Some m) = refl
+
+-- a text is told, and nothing written
+pub told : {X A : Type 0} (c : Command) (view : X → A) (reads : Files → Reads Refusal A) (makes : A → Work → Type 0) (Asked : List ℕ → Type 0) (old new : StoreView) (x : X) (text : List ℕ)
+    → ((work : Work) → IsMadeOf reads makes old.files work → IsAccepted (outcome_of c) old.files work) → ComesTo view reads Asked old new (Ok x)
+    → makes (view x) (record { writes = []; text = text }) → IsDueFor c old new Done text
+told c view reads makes Asked old new x text accepts came made = record {
+  work = record { writes = []; text = text };
+  accepted = accepts (record { writes = []; text = text }) (record { read = view x; accepted = came.accepted.1; made = made });
+  written = came.same ∙ no_writes old.files;
+  told = refl;
+}

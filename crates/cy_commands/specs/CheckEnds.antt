@@ -4,7 +4,7 @@ use Rattle.cy_msg.specs.declared.placement.ContextPlan.{ContextPlan}
 use Rattle.cy_sched.specs.Placing.{IsPlaced}
 use Rattle.cy_replay.specs.Configuration.{Configured}
 use Rattle.cy_words.specs.CheckWords.{CheckWords}
-use Rattle.cy_commands.specs.Check.{check_text_of}
+use Rattle.cy_commands.specs.Commands.CheckWork.{check_text_of}
 
 -- The text of what was read, with its components placed.
 pub record IsTextOf (w : CheckWords) (c : Configured) (text : List ℕ) : Type 0 where

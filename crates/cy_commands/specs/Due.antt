@@ -9,14 +9,14 @@ use Rattle.cy_commands.specs.declared.status.Status.TheVariants.{Done, Refused, 
 use Rattle.cy_commands.specs.declared.status.Status.TheVariants.{SinkFault, Limit, Memory}
 use Rattle.cy_words.specs.Command.{Command}
 use Rattle.cy_commands.specs.Work.{Work}
-use Rattle.cy_commands.specs.Outcome.{IsReadBy, IsAccepted, IsRefused, IsAbsent}
+use Rattle.cy_commands.specs.Commands.{IsAbsent, IsAccepted, IsReadBy, IsRefused, outcome_of}
 use Rattle.cy_commands.specs.Lines.{usage_line, memory_line, store_line}
 
 -- Done: the files are accepted, what the command makes of them is written, and its text is the line
 -- that is due.
 pub record IsDone (c : Command) (old new : StoreView) (line : List ℕ) : Type 0 where
   pub work : Work
-  pub accepted : IsAccepted c old.files work
+  pub accepted : IsAccepted (outcome_of c) old.files work
   pub written : new.files ≡ option_map (after_writes work.writes) old.files
   pub told : line ≡ work.text
 
@@ -25,21 +25,22 @@ pub record IsDone (c : Command) (old new : StoreView) (line : List ℕ) : Type 0
 pub record RefusesFiles (c : Command) (old new : StoreView) (due : Status) (line : List ℕ) : Type 0
   where
     pub same : new ≡ old
-    pub refused : IsRefused c old.files due line
+    pub refused : IsRefused (outcome_of c) old.files due line
 
 -- A file was not read: the store's faults rose, or its misses did and the file isn't there. No file
 -- is changed.
 pub record FailsToRead (c : Command) (old new : StoreView) (line : List ℕ) : Type 0 where
   pub name : List ℕ
-  pub read : IsReadBy c old.files name
-  pub rose : Rose old.faults new.faults ⊎ (Rose old.misses new.misses × IsAbsent c old.files name)
+  pub read : IsReadBy (outcome_of c) old.files name
+  pub rose : Rose old.faults new.faults
+      ⊎ (Rose old.misses new.misses × IsAbsent (outcome_of c) old.files name)
   pub same : new.files ≡ old.files
   pub told : line ≡ store_line name
 
 -- A write failed: those before it were done, and the file that it names is told.
 pub record FailsToWrite (c : Command) (old new : StoreView) (line : List ℕ) : Type 0 where
   pub work : Work
-  pub accepted : IsAccepted c old.files work
+  pub accepted : IsAccepted (outcome_of c) old.files work
   pub failed : Write
   pub rose : WriteRose old new
   pub stops : StopsAt work.writes failed old.files new.files
@@ -48,7 +49,7 @@ pub record FailsToWrite (c : Command) (old new : StoreView) (line : List ℕ) : 
 -- Memory ran out between two writes.
 pub record StopsForMemory (c : Command) (old new : StoreView) : Type 0 where
   pub work : Work
-  pub accepted : IsAccepted c old.files work
+  pub accepted : IsAccepted (outcome_of c) old.files work
   pub stops : StopsBefore work.writes old.files new.files
 
 -- A status is due for a command, with the line that tells it: what the files and the store's counts

@@ -1,15 +1,11 @@
 pub mod Begun
-pub mod Check
 pub mod CheckEnds
+pub mod Commands
 pub mod Due
-pub mod Info
 pub mod Line
 pub mod Lines
 pub mod MakeEnds
-pub mod MakeWork
-pub mod Outcome
 pub mod PlayEnds
-pub mod PlayWork
 pub mod Refused
 pub mod Status
 pub mod Unset

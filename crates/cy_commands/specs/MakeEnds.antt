@@ -9,7 +9,7 @@ use Rattle.cy_make.specs.declared.error.MakeError.{MakeError}
 use Rattle.cy_make.specs.declared.error.MakeError.TheVariants as make_error
 use Rattle.cy_make.specs.Texts.{suffix_of}
 use Rattle.cy_make.specs.Inputs.{record_name}
-use Rattle.cy_commands.specs.declared.make.Names.{Names}
+use Rattle.cy_commands.specs.declared.commands.make.Names.{Names}
 use Rattle.cy_commands.specs.declared.failure.Failure.{Failure}
 use Rattle.cy_commands.specs.declared.failure.Failure.TheVariants as failure
 use Rattle.cy_commands.specs.declared.failure.File.{File}
@@ -18,9 +18,9 @@ use Rattle.cy_commands.specs.declared.status.Status.{Status}
 use Rattle.cy_commands.specs.declared.status.Status.TheVariants.{StoreFault, Memory}
 use Rattle.cy_commands.specs.Lines.{store_line, memory_line}
 use Rattle.cy_words.specs.MakeWords.{MakeWords}
-use Rattle.cy_commands.specs.MakeWork.{play_made, made_files}
+use Rattle.cy_commands.specs.Commands.MakeWork.{play_made, made_files}
 use Rattle.cy_words.specs.PlayWords.{PlayWords, all_messages, play_of_all}
-use Rattle.cy_commands.specs.PlayWork.{replayed_in}
+use Rattle.cy_commands.specs.Commands.PlayWork.{replayed_in}
 
 -- A replay is that of the files that are made.
 pub record IsMade (w : MakeWords) (x : Replay) : Type 0 where

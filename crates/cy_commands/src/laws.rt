@@ -1,5 +1,5 @@
 // What holds of all that is asked for: proved here, and nothing to run.
-ghost use Rattle.cy_commands.specs.MakeWork.{AskedTextsAreShort};
+ghost use Rattle.cy_commands.specs.Commands.MakeWork.{AskedTextsAreShort};
 
 use cy_make::made_texts_are_short;
 

@@ -1,21 +1,19 @@
 //! The commands of the program `cyber`: what each makes of the files that it reads, and which
 //! status is due then. A play on threads begins and ends here too; how it runs is in `cyber_cli`.
 //!
-//! `specs/Due` says which status is due, `specs/Outcome` what the files are to each command: by
-//! `specs/PlayWork`, `specs/MakeWork`, `specs/Check` and `specs/Info`. Which words ask for which
-//! command says `cy_words`, how a status is told `cyber_cli`.
+//! `specs/Due` says which status is due, `specs/Commands` what each command reads and makes, by a
+//! file of its own below. Which words ask for which command says `cy_words`, how a status is told
+//! `cyber_cli`.
 #![tactic(auto)]
 
 mod alone;
 mod begun;
-mod check;
+mod commands;
 mod due;
 mod failure;
 mod fault_text;
-mod info;
 mod laws;
 mod line;
-mod make;
 mod play;
 mod status;
 mod unset;

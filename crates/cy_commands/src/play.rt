@@ -22,7 +22,7 @@ ghost use Rattle.cy_commands.specs.Line.{bytes_of_line};
 ghost use Rattle.cy_commands.specs.PlayEnds.{SetsUp, HasRun, IsDueAfterPlay, IsTold, IsLine};
 ghost use Rattle.cy_commands.specs.PlayEnds.{name_of_play, unwritten, writes_by};
 ghost use Rattle.cy_words.specs.PlayViews.{play_words_of};
-ghost use Rattle.cy_commands.specs.PlayWork.{replayed_in};
+ghost use Rattle.cy_commands.specs.Commands.PlayWork.{replayed_in};
 ghost use Rattle.cy_trace.specs.Summary.{calls_from, summary_line as line_of};
 
 use crate::due::{Due, out_of_memory, store_failed};

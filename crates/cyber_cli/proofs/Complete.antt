@@ -8,17 +8,10 @@ use Rattle.cy_commands.specs.declared.status.Status.{Status}
 use Rattle.cy_commands.specs.declared.status.Status.TheVariants.{Done, Refused, Usage, StoreFault, SinkFault, Limit, Memory}
 use Rattle.cy_store.specs.Reads.{Reads, Accepts, Refuses, Absent}
 use Rattle.cy_replay.specs.declared.error.Refusal.{Refusal}
-use Rattle.cy_words.specs.MakeWords.{MakeWords}
-use Rattle.cy_words.specs.PlayWords.{PlayWords}
-use Rattle.cy_commands.specs.PlayWork.{replayed_in}
-use Rattle.cy_words.specs.CheckWords.{CheckWords}
-use Rattle.cy_words.specs.Command.{InfoWords}
-use Rattle.cy_commands.specs.Info.{told_of}
-use Rattle.cy_commands.specs.Check.{checked_in}
 use Rattle.cy_commands.specs.Status.{fault_status}
-use Rattle.cy_words.specs.Command.{Command, Check, Info, Play, Make}
+use Rattle.cy_words.specs.Command.{Command}
 use Rattle.cy_commands.specs.Work.{Work}
-use Rattle.cy_commands.specs.Outcome.{IsAccepted, IsTaken, IsRefused, IsAbsent}
+use Rattle.cy_commands.specs.Commands.{IsAbsent, IsAccepted, IsRefused, IsTaken, Making, Outcome, Reading, outcome_of}
 use Rattle.cy_commands.specs.Due.{IsDue, IsDueFor, IsMisused}
 use Rattle.cyber_cli.specs.Told.{Sinks, IsTold, IsUntold}
 use Rattle.cyber_cli.specs.Ends.{Answers, CallsFor, IsComplete}
@@ -49,22 +42,20 @@ no_sink_fault due line old new answer t e out err =
     elim (untold_rose due line old new (subst (IsTold due line old new) e t)) [ inl r ↦ out r | inr r ↦ err r ]
 
 -- what an accepted work says of the files
-taken : (c : Command) (m : Files) (work : Work) → IsAccepted c (Some m) work → IsTaken c m
-taken (Check w) m work a = (a.read, a.accepted)
-taken (Info w) m work a = (a.read, a.accepted)
-taken (Play w) m work a = (a.read, a.accepted)
-taken (Make w) m work a = tt
+taken : (o : Outcome) (m : Files) (work : Work) → IsAccepted o (Some m) work → IsTaken o m
+taken (Reading names reads makes) m work a = (a.read, a.accepted)
+taken (Making makes) m work a = tt
 
 -- what is due is called for, where no faults rose
 called : (c : Command) (old new : StoreView) (m : Files) (due : Status) (line : List ℕ) → old.files ≡ Some m → (Rose old.faults new.faults → ⊥)
-    → IsDueFor c old new due line → (due ≡ Memory) ⊎ CallsFor c m due
-called c old new m Done line told quiet d = inr (taken c m d.work (subst (λ (files : Option Files). IsAccepted c files d.work) told d.accepted))
-called c old new m Refused line told quiet d = inr (line, subst (λ (files : Option Files). IsRefused c files Refused line) told d.refused)
+    → IsDueFor c old new due line → (due ≡ Memory) ⊎ CallsFor (outcome_of c) m due
+called c old new m Done line told quiet d = inr (taken (outcome_of c) m d.work (subst (λ (files : Option Files). IsAccepted (outcome_of c) files d.work) told d.accepted))
+called c old new m Refused line told quiet d = inr (line, subst (λ (files : Option Files). IsRefused (outcome_of c) files Refused line) told d.refused)
 called c old new m Usage line told quiet d = absurd d
 called c old new m StoreFault line told quiet (inl read) =
     elim read.rose [
       | inl rose ↦ absurd (quiet rose)
-      | inr missed ↦ inr (read.name, subst (λ (files : Option Files). IsAbsent c files read.name) told missed.1)
+      | inr missed ↦ inr (read.name, subst (λ (files : Option Files). IsAbsent (outcome_of c) files read.name) told missed.1)
     ]
 called c old new m StoreFault line told quiet (inr written) =
     elim written.rose [
@@ -72,7 +63,7 @@ called c old new m StoreFault line told quiet (inr written) =
       | inr missed ↦ absurd (let e : None ≡ Some m = sym missed.1 ∙ told in cc)
     ]
 called c old new m SinkFault line told quiet d = absurd d
-called c old new m Limit line told quiet d = inr (line, subst (λ (files : Option Files). IsRefused c files Limit line) told d.refused)
+called c old new m Limit line told quiet d = inr (line, subst (λ (files : Option Files). IsRefused (outcome_of c) files Limit line) told d.refused)
 called c old new m Memory line told quiet d = inl refl
 
 -- what the files come to calls for one status
@@ -81,48 +72,26 @@ status_of (Accepts c) = Done
 status_of (Refuses r) = fault_status r.fault
 status_of (Absent name) = StoreFault
 
-check_status : (w : CheckWords) (m : Files) (due : Status) → CallsFor (Check w) m due → due ≡ status_of (checked_in w m)
-check_status w m Done h = ap status_of (sym h.1)
-check_status w m Refused h = h.1.status ∙ ap status_of (sym h.1.refused)
-check_status w m Usage h = absurd h
-check_status w m StoreFault h = ap status_of (sym h.1)
-check_status w m SinkFault h = absurd h
-check_status w m Limit h = h.1.status ∙ ap status_of (sym h.1.refused)
-check_status w m Memory h = absurd h
+-- and where none is read, Done is called for
+abbrev one_status : Outcome → Files → Status
+one_status (Reading names reads makes) m = status_of (reads m)
+one_status (Making makes) m = Done
 
-info_status : (w : InfoWords) (m : Files) (due : Status) → CallsFor (Info w) m due → due ≡ status_of (told_of w m)
-info_status w m Done h = ap status_of (sym h.1)
-info_status w m Refused h = h.1.status ∙ ap status_of (sym h.1.refused)
-info_status w m Usage h = absurd h
-info_status w m StoreFault h = ap status_of (sym h.1)
-info_status w m SinkFault h = absurd h
-info_status w m Limit h = h.1.status ∙ ap status_of (sym h.1.refused)
-info_status w m Memory h = absurd h
+is_one : (o : Outcome) (m : Files) (due : Status) → CallsFor o m due → due ≡ one_status o m
+is_one (Reading names reads makes) m Done h = ap status_of (sym h.1)
+is_one (Reading names reads makes) m Refused h = h.1.status ∙ ap status_of (sym h.1.refused)
+is_one (Reading names reads makes) m StoreFault h = ap status_of (sym h.1)
+is_one (Reading names reads makes) m Limit h = h.1.status ∙ ap status_of (sym h.1.refused)
+is_one (Making makes) m Done h = refl
+is_one (Making makes) m Refused h = absurd h.1
+is_one (Making makes) m StoreFault h = absurd h.1
+is_one (Making makes) m Limit h = absurd h.1
+is_one o m Usage h = absurd h
+is_one o m SinkFault h = absurd h
+is_one o m Memory h = absurd h
 
-play_status : (w : PlayWords) (m : Files) (due : Status) → CallsFor (Play w) m due → due ≡ status_of (replayed_in w m)
-play_status w m Done h = ap status_of (sym h.1)
-play_status w m Refused h = h.1.status ∙ ap status_of (sym h.1.refused)
-play_status w m Usage h = absurd h
-play_status w m StoreFault h = ap status_of (sym h.1)
-play_status w m SinkFault h = absurd h
-play_status w m Limit h = h.1.status ∙ ap status_of (sym h.1.refused)
-play_status w m Memory h = absurd h
-
--- and `make` is always done
-make_status : (w : MakeWords) (m : Files) (due : Status) → CallsFor (Make w) m due → due ≡ Done
-make_status w m Done h = refl
-make_status w m Refused h = absurd h.1
-make_status w m Usage h = absurd h
-make_status w m StoreFault h = absurd h.1
-make_status w m SinkFault h = absurd h
-make_status w m Limit h = absurd h.1
-make_status w m Memory h = absurd h
-
-one_call : (c : Command) (m : Files) (a b : Status) → CallsFor c m a → CallsFor c m b → a ≡ b
-one_call (Check w) m a b x y = check_status w m a x ∙ sym (check_status w m b y)
-one_call (Info w) m a b x y = info_status w m a x ∙ sym (info_status w m b y)
-one_call (Play w) m a b x y = play_status w m a x ∙ sym (play_status w m b y)
-one_call (Make w) m a b x y = make_status w m a x ∙ sym (make_status w m b y)
+one_call : (o : Outcome) (m : Files) (a b : Status) → CallsFor o m a → CallsFor o m b → a ≡ b
+one_call o m a b x y = is_one o m a x ∙ sym (is_one o m b y)
 
 pub complete : (asked : Option Command) (old_store new_store : StoreView) (old new : Sinks) (answer : Status) → Answers asked old_store new_store old new answer
     → IsComplete asked old_store new_store old new answer
@@ -130,7 +99,7 @@ complete asked old_store new_store old new answer a c m due is told call store o
     elim (told_so a.due a.line old new answer a.is_told) [
       | inl same ↦ elim (called c old_store new_store m a.due a.line told store is_due) [
         | inl memory ↦ inr (same ∙ memory)
-        | inr calls ↦ inl (same ∙ one_call c m a.due due calls call)
+        | inr calls ↦ inl (same ∙ one_call (outcome_of c) m a.due due calls call)
       ]
       | inr other ↦ elim other [
         | inl fault ↦ absurd (no_sink_fault a.due a.line old new answer a.is_told fault out err)

@@ -6,7 +6,7 @@ use Rattle.cy_words.specs.Command.{Command}
 use Rattle.cy_commands.specs.declared.status.Status.{Status}
 use Rattle.cy_commands.specs.declared.status.Status.TheVariants.{Done, Refused, StoreFault, Limit}
 use Rattle.cy_commands.specs.declared.status.Status.TheVariants.{Memory}
-use Rattle.cy_commands.specs.Outcome.{IsTaken, IsRefused, IsAbsent}
+use Rattle.cy_commands.specs.Commands.{IsAbsent, IsRefused, IsTaken, Outcome, outcome_of}
 use Rattle.cy_commands.specs.Due.{IsDue}
 use Rattle.cyber_cli.specs.Told.{Sinks, IsTold}
 
@@ -20,18 +20,18 @@ pub record Answers (asked : Option Command) (old_store new_store : StoreView) (o
 
 -- What the files call for: Done where they are accepted, the status of their refusal, StoreFault
 -- where one isn't there.
-abbrev pub CallsFor : Command → Files → Status → Type 0
-CallsFor c m Done = IsTaken c m
-CallsFor c m Refused = (line : List ℕ) × IsRefused c (Some m) Refused line
-CallsFor c m Limit = (line : List ℕ) × IsRefused c (Some m) Limit line
-CallsFor c m StoreFault = (name : List ℕ) × IsAbsent c (Some m) name
-CallsFor c m other = ⊥
+abbrev pub CallsFor : Outcome → Files → Status → Type 0
+CallsFor o m Done = IsTaken o m
+CallsFor o m Refused = (line : List ℕ) × IsRefused o (Some m) Refused line
+CallsFor o m Limit = (line : List ℕ) × IsRefused o (Some m) Limit line
+CallsFor o m StoreFault = (name : List ℕ) × IsAbsent o (Some m) name
+CallsFor o m other = ⊥
 
 -- Where a command is asked for, the store tells its files and no count of faults rose, the
 -- answer is what the files call for, or Memory.
 abbrev pub IsComplete : Option Command → StoreView → StoreView → Sinks → Sinks → Status → Type 0
 IsComplete asked old_store new_store old new answer = (c : Command) (m : Files) (due : Status)
-    → asked ≡ Some c → old_store.files ≡ Some m → CallsFor c m due
+    → asked ≡ Some c → old_store.files ≡ Some m → CallsFor (outcome_of c) m due
     → (Rose old_store.faults new_store.faults → ⊥) → (Rose old.out.faults new.out.faults → ⊥)
     → (Rose old.err.faults new.err.faults → ⊥)
     → (answer ≡ due) ⊎ (answer ≡ Memory)

@@ -5,7 +5,7 @@ use Rattle.cy_writer.specs.RecordWrites.{file_writes}
 use Rattle.cy_commands.specs.PlayEnds.{source_by}
 use Rattle.cy_commands.specs.declared.failure.File.TheVariants as file
 use Rattle.cy_words.specs.PlayViews.{play_words_of}
-use Rattle.cy_commands.specs.PlayWork.{run_trace}
+use Rattle.cy_commands.specs.Commands.PlayWork.{run_trace}
 use Rattle.cy_commands.proofs.PlayWriting.{puts_of, blames, first_fails, first_starves, first_done, second_fails, second_starves, both_done}
 use Rattle.cy_commands.proofs.play.write_both.Goals as goal
 

@@ -1,6 +1,8 @@
 use Rattle.cy_words.specs.Views.{check_words_of}
-use Rattle.cy_commands.proofs.CheckExits.{unset, done, no_text}
-use Rattle.cy_commands.proofs.check.run_check.Goals as goal
+use Rattle.cy_words.specs.Command.{Check}
+use Rattle.cy_commands.proofs.Refusing.{starved}
+use Rattle.cy_commands.proofs.CheckExits.{unset, done}
+use Rattle.cy_commands.proofs.commands.check.run_check.Goals as goal
 
 pub returns-in-Err : goal.returns-in-Err
 returns-in-Err g c = unset (check_words_of c.args.check.now) _ _ c.in-Err.error _ _ c.in-Err.ensures.comes c.due_unset.ensures
@@ -10,4 +12,4 @@ returns-in-Ok-text g c = done (check_words_of c.args.check.now) c.in-Ok.configur
 
 pub returns-in-Err-text : goal.returns-in-Err-text
 returns-in-Err-text g c =
-    no_text (check_words_of c.args.check.now) c.in-Ok.configuration _ _ _ _ c.in-Ok.ensures.comes record { status = c.out_of_memory.ensures.status; told = c.out_of_memory.ensures.line }
+    starved (Check (check_words_of c.args.check.now)) _ _ _ _ c.in-Ok.ensures.comes.same record { status = c.out_of_memory.ensures.status; told = c.out_of_memory.ensures.line }

@@ -1,7 +1,7 @@
 use Rattle.std.proofs.lemmas.Result.{err_from_is_err_and}
 use Rattle.cy_words.specs.Views.{check_words_of}
 use Rattle.cy_commands.proofs.CheckExits.{files_stop, not_wired, all_read}
-use Rattle.cy_commands.proofs.check.read_files.Goals as goal
+use Rattle.cy_commands.proofs.commands.check.read_files.Goals as goal
 
 pub returns-in_err-configuration-clause-comes : goal.returns-in_err-configuration-clause-comes
 returns-in_err-configuration-clause-comes g c =

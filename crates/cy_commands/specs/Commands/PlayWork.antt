@@ -1,9 +1,8 @@
 -- What `play` makes of its files.
 use Rattle.std.specs.Prelude.{ℕ, ◌≡◌, ⊤, Bool, true, false, List, [], ◌∷◌, ◌++◌, length, map}
-use Rattle.std.specs.Prelude.{Option, IfSome}
 use Rattle.std.specs.FinMap.{insert}
 use Rattle.cy_store.specs.Files.{Files}
-use Rattle.cy_store.specs.Reads.{Reads, Accepts}
+use Rattle.cy_store.specs.Reads.{Reads}
 use Rattle.cy_store.specs.Write.{Write, after_writes}
 use Rattle.cy_msg.specs.Placement.{scan_of}
 use Rattle.cy_msg.specs.declared.placement.ContextPlan.{ContextPlan}
@@ -70,12 +69,10 @@ pub record IsPlayed (serial : Bool) (read : Replayed) (list : PlayList)
   pub run : IsRunOf serial (routes_of read.wired.plans) (scan_of contexts) list.tokens w
   pub lawful : LawfulRun list.tokens (routes_of read.wired.plans) w
 
--- The files are accepted, and this is what `play` makes of them: the record and the trace of one
+-- What `play` makes of what was read: the record and the trace of one
 -- lawful run, each of the form that is read back, written in their order, after which both files
 -- hold them and every other name is as before; and the line with the run's numbers.
-pub record IsPlayWork (w : PlayWords) (files : Option Files) (work : Work) : Type 0 where
-  pub read : Replayed
-  pub accepted : IfSome files (λ m. replayed_in w m ≡ Accepts read)
+pub record IsPlayWork (w : PlayWords) (read : Replayed) (work : Work) : Type 0 where
   pub list : PlayList
   pub listed : IsPlayList read.contents (choice_of w.request.filter read.wired) list
   pub contexts : List ContextPlan

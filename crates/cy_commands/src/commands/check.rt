@@ -4,7 +4,7 @@ ghost use Rattle.cy_sched.specs.SchedFile.{IsPlaceable};
 ghost use Rattle.cy_replay.specs.Comes.{ComesTo};
 ghost use Rattle.cy_replay.specs.Configuration.{IsAsked};
 ghost use Rattle.cy_replay.specs.Steps.{configured};
-ghost use Rattle.cy_commands.specs.Check.{checked_in, unknown_in};
+ghost use Rattle.cy_commands.specs.Commands.CheckWork.{checked_in, unknown_in};
 ghost use Rattle.cy_words.specs.Command as command;
 ghost use Rattle.cy_commands.specs.Due.{IsDueFor};
 ghost use Rattle.cy_commands.specs.Line.{bytes_of_line};

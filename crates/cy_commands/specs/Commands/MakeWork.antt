@@ -11,11 +11,11 @@ use Rattle.cy_make.specs.Texts.{suffix_of, text_of}
 use Rattle.cy_make.specs.Inputs.{record_name, made_record, input_writes, with_inputs}
 use Rattle.cy_replay.specs.declared.text.TheConstants.{LONGEST_CONFIG}
 use Rattle.cy_request.specs.Request.{OfFiles}
-use Rattle.cy_commands.specs.Work.{Work}
+use Rattle.cy_commands.specs.Work.{IsMadeOf, Work}
 use Rattle.cy_words.specs.Command.{Asks, Make}
 use Rattle.cy_words.specs.MakeWords.{MakeWords}
 use Rattle.cy_words.specs.PlayWords.{PlayWords, play_of_all}
-use Rattle.cy_commands.specs.PlayWork.{IsPlayWork}
+use Rattle.cy_commands.specs.Commands.PlayWork.{IsPlayWork, replayed_in}
 
 -- A serial play of all messages of the record that is made, through the components that are made,
 -- with the default scheduler.
@@ -31,7 +31,8 @@ made_files w = with_inputs w.count w.prefix empty
 -- have their texts and every other name is as before; and it prints the line of `play`.
 pub record IsMakeWork (w : MakeWords) (work : Work) : Type 0 where
   pub played : Work
-  pub by_play : IsPlayWork (play_made w) (Some (made_files w)) played
+  pub by_play : IsMadeOf (replayed_in (play_made w)) (IsPlayWork (play_made w))
+      (Some (made_files w)) played
   pub record_text : IsRecordText (channels_of w.count) (messages_to w.count)
       (made_record w.count w.prefix)
   pub writes : work.writes ≡ input_writes w.count w.prefix ++ played.writes

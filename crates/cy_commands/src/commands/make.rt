@@ -7,7 +7,7 @@ ghost use Rattle.cy_commands.specs.Line.{bytes_of_line};
 ghost use Rattle.cy_commands.specs.Lines.{store_line};
 ghost use Rattle.cy_commands.specs.MakeEnds.{IsMade, IsDueUnmade, names_of};
 ghost use Rattle.cy_commands.specs.MakeEnds.{IsDueUnplayed, play_named, result_suffix};
-ghost use Rattle.cy_commands.specs.MakeWork.{play_made};
+ghost use Rattle.cy_commands.specs.Commands.MakeWork.{play_made};
 ghost use Rattle.cy_commands.specs.PlayEnds.{HasRun};
 ghost use Rattle.cy_words.specs.PlayViews.{play_words_of};
 ghost use Rattle.cy_words.specs.Views.{make_words_of};

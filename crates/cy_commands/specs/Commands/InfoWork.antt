@@ -1,7 +1,7 @@
 -- What `info` tells of a record.
-use Rattle.std.specs.Prelude.{◌≡◌, [], Option, IfSome}
+use Rattle.std.specs.Prelude.{◌≡◌, []}
 use Rattle.cy_store.specs.Files.{Files}
-use Rattle.cy_store.specs.Reads.{Reads, Accepts}
+use Rattle.cy_store.specs.Reads.{Reads}
 use Rattle.cy_reader.specs.Record.{Contents}
 use Rattle.cy_reader.specs.Info.{info_text}
 use Rattle.cy_replay.specs.declared.error.Refusal.{Refusal}
@@ -14,8 +14,6 @@ abbrev pub told_of : InfoWords → Files → Reads Refusal Contents
 told_of w files = record_in w.file files
 
 -- It prints the text of the record and writes nothing.
-pub record IsInfoWork (w : InfoWords) (files : Option Files) (work : Work) : Type 0 where
-  pub read : Contents
-  pub accepted : IfSome files (λ m. told_of w m ≡ Accepts read)
+pub record IsInfoWork (read : Contents) (work : Work) : Type 0 where
   pub silent : work.writes ≡ []
   pub text : work.text ≡ info_text read

@@ -1,5 +1,5 @@
 -- What `check` makes of configuration files.
-use Rattle.std.specs.Prelude.{ℕ, ◌≡◌, List, [], map, Option, IfSome, unwrap_or}
+use Rattle.std.specs.Prelude.{ℕ, ◌≡◌, List, [], map, unwrap_or}
 use Rattle.cy_store.specs.Files.{Files}
 use Rattle.cy_store.specs.Reads.{Reads, Accepts, ◌>>=◌}
 use Rattle.cy_msg.specs.declared.placement.ContextPlan.{ContextPlan}
@@ -31,9 +31,7 @@ check_text_of w c contexts = text_of c.dag.components c.configs contexts w.dag c
     (unwrap_or w.sched []) (unknown_in c.sched)
 
 -- It prints that text and writes nothing.
-pub record IsCheckWork (w : CheckWords) (files : Option Files) (work : Work) : Type 0 where
-  pub read : Configured
-  pub accepted : IfSome files (λ m. checked_in w m ≡ Accepts read)
+pub record IsCheckWork (w : CheckWords) (read : Configured) (work : Work) : Type 0 where
   pub contexts : List ContextPlan
   pub placed : IsPlaced read.sched (map (λ c. c.name) read.dag.components) contexts
   pub silent : work.writes ≡ []

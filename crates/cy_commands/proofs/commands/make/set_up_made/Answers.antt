@@ -3,7 +3,7 @@ use Rattle.cy_store.specs.Memory.{Memory, shows_of}
 use Rattle.cy_words.specs.PlayViews.{play_words_of}
 use Rattle.cy_words.specs.Views.{make_words_of}
 use Rattle.cy_commands.proofs.MakeExits.{made, has_reader}
-use Rattle.cy_commands.proofs.make.set_up_made.Goals as goal
+use Rattle.cy_commands.proofs.commands.make.set_up_made.Goals as goal
 
 pub read_files-replay-requires : goal.read_files-replay-requires
 read_files-replay-requires c = has_reader (make_words_of c.args.make.now) (play_words_of c.args.play.now) c.requires.play

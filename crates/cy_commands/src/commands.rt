@@ -1,0 +1,49 @@
+// Each command, as far as nothing is played.
+ghost use Rattle.std.specs.Prelude.{Some};
+ghost use Rattle.cy_request.specs.Request.{HasReader};
+ghost use Rattle.cy_commands.specs.Begun.{HasBegun, IsReady};
+ghost use Rattle.cy_words.specs.Command as asked;
+ghost use Rattle.cy_words.specs.PlayViews.{play_words_of};
+ghost use Rattle.cy_words.specs.Views.{command_asked, IsInForm};
+
+mod check;
+mod info;
+mod make;
+
+use crate::begun::Begun;
+use crate::play::read_files;
+use crate::unset::due_unset;
+use check::run_check;
+use cy_store::Store;
+use cy_words::{Command, Play};
+use info::run_info;
+use make::run_make;
+use std::alloc::Global;
+
+// Reads the files of a play, and sets up what is played.
+fn begin_play<'a, S: Store>(alloc: Global, play: &Play<'a>, store: &mut S) -> Begun<'a>
+    requires { HasReader (play_words_of play.now).request.components }
+    ensures ready { IsReady result }
+    ensures begun { HasBegun (Some (asked.Play (play_words_of play.now))) (S.shows store.old)
+        (S.shows store.new) result }
+{
+    match read_files(alloc, store, play) {
+        Ok(replay) => Begun::SetUp(*play, replay),
+        Err(error) => Begun::Ended(due_unset(alloc, error)),
+    }
+}
+
+/// Begins a command.
+pub fn begin_command<'a, S: Store>(alloc: Global, command: &Command<'a>, store: &mut S) -> Begun<'a>
+    requires { IsInForm command.now }
+    ensures ready { IsReady result }
+    ensures begun { HasBegun (Some (command_asked command.now)) (S.shows store.old)
+        (S.shows store.new) result }
+{
+    match command {
+        Command::Check(check) => Begun::Ended(run_check(alloc, check, store)),
+        Command::Info(info) => Begun::Ended(run_info(alloc, info, store)),
+        Command::Play(play) => begin_play(alloc, play, store),
+        Command::Make(make) => Begun::Ended(run_make(alloc, make, store)),
+    }
+}
