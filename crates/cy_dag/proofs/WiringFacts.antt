@@ -14,10 +14,10 @@ use Rattle.cy_comp.specs.Wiring.{IsWiring, trigger_after, trigger_of as triggere
 use Rattle.cy_comp.specs.declared.kind.Kind.{Kind}
 use Rattle.cy_comp.specs.declared.kind.Kind.TheVariants as kind
 use Rattle.cy_comp.specs.declared.plan.Plan.{Plan}
-use Rattle.cy_dag.specs.Classes.{readers_needed}
+use Rattle.cy_dag.specs.Classes.{class_of, readers_needed}
 use Rattle.cy_dag.specs.DagFile.{HaveQueues, components_refusal}
 use Rattle.cy_dag.specs.Triggers.{after, cycle_refusal, earlier_writer, trigger_in, trigger_of, triggers_of, writer_named, writers_at, writers_refusal}
-use Rattle.cy_dag.specs.Wiring.{AreConfigs, channels_of, class_of, mentions_of, names_of, number_in, plan_of, plans_of, queue_of_first}
+use Rattle.cy_dag.specs.Wiring.{AreConfigs, channels_of, mentions_of, names_of, number_in, plan_of, plans_of, queue_of_first}
 use Rattle.cy_dag.specs.declared.config.Config.{Config}
 use Rattle.cy_dag.specs.declared.dag.DagComponent.{DagComponent}
 use Rattle.cy_dag.specs.declared.dag.DagReader.{DagReader}

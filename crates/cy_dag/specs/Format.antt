@@ -1,10 +1,10 @@
 -- The fields of a DAG file and of component files.
-use Rattle.std.specs.Prelude.{ℕ, List, [], ◌∷◌, codes, Option}
+use Rattle.std.specs.Prelude.{ℕ, List, [], ◌∷◌, map, codes, Option}
 use Rattle.cy_config.specs.Tables.{Rows, single, repeated, u32_kind, field_in}
 use Rattle.cy_config.specs.declared.field.Kind.TheVariants as kind
 use Rattle.cy_config.specs.declared.field.Field.{Field}
+use Rattle.cy_dag.specs.Classes.{parameters_of}
 use Rattle.cy_dag.specs.declared.class.Class.{Class}
-use Rattle.cy_dag.specs.declared.class.Class.TheVariants as class
 use Rattle.cy_dag.specs.declared.format.DagMessage.{DagMessage}
 use Rattle.cy_dag.specs.declared.format.DagMessage.TheVariants.{File, Module, Component, Settings}
 use Rattle.cy_dag.specs.declared.format.DagMessage.TheVariants.{Reader, TimerComponent}
@@ -79,21 +79,14 @@ dag_field m name = field_in (rows_of m) name
 
 -- A component file: its channel, the type of its messages, and the parameters of its class, which
 -- are judged by themselves.
-abbrev pub parameter : List ℕ → List ℕ × Field Class
-parameter name = (name, single kind.Anything)
-
-abbrev pub parameters_of : Class → Rows Class
-parameters_of class.Filter = parameter (codes "lo") ∷ parameter (codes "hi") ∷ []
-parameters_of class.Window = parameter (codes "n") ∷ []
-parameters_of class.Hold = parameter (codes "delay") ∷ []
-parameters_of class.Take = parameter (codes "n") ∷ []
-parameters_of _ = []
+abbrev pub parameter_rows : Class → Rows Class
+parameter_rows c = map (λ p. (p.name, single kind.Anything)) (parameters_of c)
 
 abbrev pub config_rows : Class → Rows Class
 config_rows c =
     (codes "out", single kind.Text)
     ∷ (codes "out_type", single kind.Text)
-    ∷ parameters_of c
+    ∷ parameter_rows c
 
 abbrev pub config_field : Class → List ℕ → Option (Field Class)
 config_field c name = field_in (config_rows c) name

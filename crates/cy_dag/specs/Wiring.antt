@@ -6,34 +6,18 @@ use Rattle.std.specs.List.{list_any, flat_map, position, zip}
 use Rattle.std.specs.Str.{bytes_eq}
 use Rattle.cy_comp.specs.declared.plan.Plan.{Plan}
 use Rattle.cy_comp.specs.declared.kind.Kind.{Kind}
-use Rattle.cy_comp.specs.declared.kind.Kind.TheVariants as kind
 use Rattle.cy_comp.specs.Kind.{is_kind_in_range}
 use Rattle.cy_comp.specs.declared.wiring.Wiring.{Wiring}
 use Rattle.cy_config.specs.Refusals.{first_of}
-use Rattle.cy_dag.specs.Classes.{class_named}
+use Rattle.cy_dag.specs.Classes.{class_named, class_of}
 use Rattle.cy_dag.specs.DagFile.{count_of, refuse_if}
 use Rattle.cy_dag.specs.Triggers.{writers_refusal, triggers_of, cycle_refusal}
 use Rattle.cy_dag.specs.declared.class.Class.{Class}
-use Rattle.cy_dag.specs.declared.class.Class.TheVariants.{Pass, Filter, Sum, Count, Max, Window}
-use Rattle.cy_dag.specs.declared.class.Class.TheVariants.{Change, Select, Hold, Take}
 use Rattle.cy_dag.specs.declared.config.Config.{Config}
 use Rattle.cy_dag.specs.declared.dag.DagComponent.{DagComponent}
 use Rattle.cy_dag.specs.declared.dag.DagReader.{DagReader}
 use Rattle.cy_dag.specs.declared.error.DagError.{DagError}
 use Rattle.cy_dag.specs.declared.error.DagError.TheVariants.{TooManyChannels}
-
--- The class of a kind, without its parameters.
-abbrev pub class_of : Kind → Class
-class_of kind.Pass = Pass
-class_of (kind.Filter lo hi) = Filter
-class_of kind.Sum = Sum
-class_of kind.Count = Count
-class_of kind.Max = Max
-class_of (kind.Window n) = Window
-class_of kind.Change = Change
-class_of kind.Select = Select
-class_of (kind.Hold delay) = Hold
-class_of (kind.Take n) = Take
 
 -- A kind is of a class, with parameters in their ranges.
 abbrev pub IsKindOf : Class → Kind → Type 0

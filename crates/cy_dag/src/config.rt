@@ -2,12 +2,11 @@
 ghost use Rattle.std.specs.Prelude.{◌≡◌, ◌≤ℤ◌, codes, IfOk, IfErr, Some, None};
 ghost use Rattle.cy_dag.specs.Classes.{class_named};
 ghost use Rattle.cy_dag.specs.ConfigFile.{IsConfig, class_refusal, config_of, config_refusal};
-ghost use Rattle.cy_dag.specs.ConfigFile.{kind_of, kind_refusal, parameter_refusal, value_of};
+ghost use Rattle.cy_dag.specs.ConfigFile.{kind_in, parameter_refusal, value_of};
 ghost use Rattle.cy_dag.specs.ConfigFile.{values_refusal};
 ghost use Rattle.cy_dag.specs.DagFile.{text_in};
 ghost use Rattle.cy_dag.specs.Refusals.{IsDue};
 ghost use Rattle.cy_dag.specs.Wiring.{IsKindOf, IsOfClass};
-ghost use Rattle.cy_dag.specs.declared.class.Class.TheVariants.{Filter};
 ghost use Rattle.cy_dag.specs.declared.error.DagError.TheVariants as dag_error;
 
 use crate::DagError;
@@ -84,7 +83,7 @@ fn values(
     class: Class,
 ) -> Result<(Kind, Text, Text), DagError>
     ensures accepted { IfOk result (λ _. values_refusal component class tree.now ≡ None) }
-    ensures values { IfOk result (λ v. (v.0 ≡ kind_of class tree.now)
+    ensures values { IfOk result (λ v. (v.0 ≡ kind_in class tree.now)
         × (v.1 ≡ text_in (codes "out") tree.now) × (v.2 ≡ text_in (codes "out_type") tree.now)) }
     ensures of_class { IfOk result (λ v. IsKindOf class v.0) }
     ensures refused { IfErr result (IsDue (values_refusal component class tree.now)) }
@@ -92,61 +91,13 @@ fn values(
     if text_under(tree, "out").is_none() {
         return Err(missing(alloc, component, "out"));
     }
-    let kind = kind(alloc, tree, component, class)?;
+    let kind = class.kind(alloc, tree, component)?;
     let out = text(alloc, tree, "out")?;
     Ok((kind, out, text(alloc, tree, "out_type")?))
 }
 
-// A class with the parameters that a file gives it.
-fn kind(alloc: Global, tree: &Tree, component: u32, class: Class) -> Result<Kind, DagError>
-    ensures accepted { IfOk result (λ _. kind_refusal component class tree.now ≡ None) }
-    ensures kind { IfOk result (λ kind. kind ≡ kind_of class tree.now) }
-    ensures of_class { IfOk result (IsKindOf class) }
-    ensures refused { IfErr result (IsDue (kind_refusal component class tree.now)) }
-{
-    Ok(match class {
-        Class::Pass => Kind::Pass,
-        Class::Filter => return filter(alloc, tree, component),
-        Class::Sum => Kind::Sum,
-        Class::Count => Kind::Count,
-        Class::Max => Kind::Max,
-        Class::Window => Kind::Window {
-            n: parameter(alloc, tree, component, "n", 1, 4_096)? as u32,
-        },
-        Class::Change => Kind::Change,
-        Class::Select => Kind::Select,
-        Class::Hold => Kind::Hold {
-            delay: parameter(alloc, tree, component, "delay", 0, MOST_U64)? as u64,
-        },
-        Class::Take => Kind::Take {
-            n: parameter(alloc, tree, component, "n", 1, 4_294_967_295)? as u32,
-        },
-    })
-}
-
-const MOST_U64: i128 = 18_446_744_073_709_551_615;
-
-const LEAST_I64: i128 = -9_223_372_036_854_775_808;
-
-const MOST_I64: i128 = 9_223_372_036_854_775_807;
-
-// A filter with its range.
-fn filter(alloc: Global, tree: &Tree, component: u32) -> Result<Kind, DagError>
-    ensures accepted { IfOk result (λ _. kind_refusal component Filter tree.now ≡ None) }
-    ensures kind { IfOk result (λ kind. kind ≡ kind_of Filter tree.now) }
-    ensures of_class { IfOk result (IsKindOf Filter) }
-    ensures refused { IfErr result (IsDue (kind_refusal component Filter tree.now)) }
-{
-    let lo = parameter(alloc, tree, component, "lo", LEAST_I64, MOST_I64)?;
-    let hi = parameter(alloc, tree, component, "hi", LEAST_I64, MOST_I64)?;
-    Ok(Kind::Filter {
-        lo: lo as i64,
-        hi: hi as i64,
-    })
-}
-
 // The value of a parameter, in a range.
-fn parameter(
+pub(crate) fn parameter(
     alloc: Global,
     tree: &Tree,
     component: u32,

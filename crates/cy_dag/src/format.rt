@@ -1,7 +1,6 @@
 // The fields of a DAG file and of component files.
-ghost use Rattle.std.specs.Prelude.{◌≡◌, is_some};
-ghost use Rattle.cy_dag.specs.Format.{config_field, dag_field, parameters_of};
-ghost use Rattle.cy_config.specs.Tables.{field_in};
+ghost use Rattle.std.specs.Prelude.{◌≡◌};
+ghost use Rattle.cy_dag.specs.Format.{config_field, dag_field};
 ghost use Rattle.cy_dag.specs.declared.format.DagMessage.TheVariants.{Component, File, Module};
 ghost use Rattle.cy_dag.specs.declared.format.DagMessage.TheVariants.{Reader, Settings};
 ghost use Rattle.cy_dag.specs.declared.format.DagMessage.TheVariants.{TimerComponent};
@@ -126,21 +125,8 @@ impl Described for Class {
     fn field(self, name: &str) -> Option<Field<Class>> {
         match name {
             "out" | "out_type" => Some(Field::single(Kind::Text)),
-            _ if has_parameter(self, name) => Some(Field::single(Kind::Anything)),
+            _ if self.has_parameter(name) => Some(Field::single(Kind::Anything)),
             _ => None,
         }
-    }
-}
-
-// Whether a class has a parameter of a name.
-fn has_parameter(class: Class, name: &str) -> bool
-    ensures { result ≡ is_some (field_in (parameters_of class) name.now) }
-{
-    match class {
-        Class::Filter => name == "lo" || name == "hi",
-        Class::Window => name == "n",
-        Class::Take => name == "n",
-        Class::Hold => name == "delay",
-        _ => false,
     }
 }
