@@ -1,6 +1,7 @@
 -- What a wiring keeps.
 use Rattle.std.specs.Prelude.{ℕ, zero, suc, ◌+◌, ◌≡◌, ◌≤◌, ◌<◌, ◌==◌, if◌then◌else◌, true, List, []}
 use Rattle.std.specs.Prelude.{◌∷◌, length, slice_get, Option, Some, None, option_and_then}
+use Rattle.cy_comp.specs.declared.kind.Kind.TheVariants.{Pass}
 use Rattle.cy_comp.specs.declared.plan.Plan.{Plan}
 use Rattle.cy_comp.specs.Kind.{messages_needed, is_kind_in_range}
 
@@ -48,3 +49,10 @@ pub record IsWiring (names : List (List ℕ)) (plans : List Plan) : Type 0 where
   pub own_outs : (i j : ℕ) (a b : Plan) → slice_get plans i ≡ Some a → slice_get plans j ≡ Some b
       → a.out ≡ b.out → i ≡ j
   pub no_cycle : (n c : ℕ) → trigger_after plans (suc n) c ≡ Some c → ⊥
+
+-- A component that passes the messages of channel 0 on to channel 1.
+pub record PassesOn (plan : Plan) : Type 0 where
+  pub kind : plan.kind ≡ Pass
+  pub reader : plan.readers ≡ 0 ∷ []
+  pub out : plan.out ≡ 1
+  pub queue : 1 ≤ plan.queue

@@ -15,10 +15,9 @@ pub struct Wiring {
 }
 
 impl Wiring {
-    ghost use Rattle.std.specs.Prelude.{◌≡◌, ◌≢◌, ◌<◌, ◌≤◌, [], ◌∷◌, length};
+    ghost use Rattle.std.specs.Prelude.{◌≡◌, [], ◌∷◌, length};
     ghost use Rattle.cy_comp.specs.declared.plan.Plan.{Plan};
-    ghost use Rattle.cy_comp.specs.declared.kind.Kind.TheVariants.{Pass};
-    ghost use Rattle.cy_comp.specs.Wiring.{IsWiring};
+    ghost use Rattle.cy_comp.specs.Wiring.{IsWiring, PassesOn};
 
     /// The wiring of these components over channels with these names.
     pub fn new(names: Names, plans: Items<Plan>) -> Self
@@ -34,12 +33,9 @@ impl Wiring {
     #[tactic(auto, using(crate::proofs::Alone::alone))]
     pub fn of_one(names: Names, plans: Items<Plan>) -> Self
         ghost plan: { Plan }
-        requires plan { plans ≡ plan ∷ [] }
-        requires kind { plan.kind ≡ Pass }
-        requires reader { plan.readers ≡ 0 ∷ [] }
-        requires out { plan.out ≡ 1 }
-        requires names { length names ≡ 2 }
-        requires queue { 1 ≤ plan.queue }
+        requires alone { plans ≡ plan ∷ [] }
+        requires channels { length names ≡ 2 }
+        requires passes { PassesOn plan }
         ensures names { result.names ≡ names }
         ensures plans { result.plans ≡ plans }
     {
