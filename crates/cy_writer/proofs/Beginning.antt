@@ -1,5 +1,5 @@
 -- How a writer starts, by how its file was begun.
-use Rattle.std.proofs.Common.{◌≡◌, ℕ, ◌+◌, ◌≤◌, List, [], ◌∷◌, ◌++◌, length, Result, Ok, Err, Some, IsErrOf, refl, sym, ap, subst, ◌∙◌, arith, length-append}
+use Rattle.std.proofs.Common.{◌≡◌, ℕ, ◌≤◌, List, ◌∷◌, length, Result, Ok, Err, Some, sym, ap, subst, ◌∙◌, arith, length-append}
 use Rattle.cy_store.specs.Files.{Holds}
 use Rattle.cy_store.specs.Write.{Create}
 use Rattle.cy_store.specs.Store.{StoreView}

@@ -1,5 +1,5 @@
 -- What a step comes to that stops for want of memory, and what it leaves of a writer.
-use Rattle.std.proofs.Common.{◌≡◌, ℕ, List, [], length, get_or, slice_set, Result, Ok, Err, IsErrOf, refl, sym, ap, ◌∙◌}
+use Rattle.std.proofs.Common.{◌≡◌, ℕ, List, length, get_or, slice_set, Result, Err, ap, ◌∙◌}
 use Rattle.std.proofs.lemmas.List.{set-get_or}
 use Rattle.cy_writer.specs.declared.error.WriteError.{WriteError}
 use Rattle.cy_writer.specs.declared.error.WriteError.TheVariants as write_error

@@ -1,9 +1,7 @@
-use Rattle.std.proofs.Common.{rules, ◌≡◌, ◌++◌, [], IsOkUnless, refl, ap, ◌∙◌, drop}
+use Rattle.std.proofs.Common.{rules, ◌≡◌, ◌++◌, refl, ap, ◌∙◌, drop}
 use Rattle.cy_section.specs.declared.types.SectionKind.TheVariants as kind
 use Rattle.cy_section.specs.Section.{head_bytes}
 use Rattle.std.proofs.lemmas.Result.{IfOk-from_err}
-use Rattle.cy_writer.specs.Kept.{BeginsAt}
-use Rattle.cy_writer.specs.declared.error.WriteError.TheVariants as write_error
 use Rattle.cy_writer.proofs.Chunks.{still_first, begun, begun_first, head_alone, head_whole}
 use Rattle.cy_writer.proofs.chunk.Chunk.begin.Goals as goal
 

@@ -1,6 +1,6 @@
 use Rattle.std.proofs.Common.{◌∙◌}
 use Rattle.std.proofs.lemmas.Result.{err_from_is_err_and, IfOk-from_err}
-use Rattle.std.proofs.Common.{Option, IsSomeAnd, subst, sym}
+use Rattle.std.proofs.Common.{Option, IsSomeAnd, subst}
 use Rattle.cy_writer.specs.declared.writing.Writing.{Writing}
 use Rattle.cy_writer.specs.Stands.{StandsFor}
 use Rattle.cy_writer.proofs.Unput.{puts_without_memory, goes_on_without_memory, refuses_channel, stays_broken}
