@@ -1,9 +1,10 @@
 -- The lengths of fields and sections.
-use Rattle.std.proofs.Common.{◌≡◌, ℕ, ◌+◌, ◌*◌, ◌-◌, ◌/◌, ◌^◌, ◌≤◌, ◌<◌, List, [], ◌∷◌, ◌++◌, ◌∙◌, sym, length, take, drop, replicate, arith, refl, ap, length-append, lit≤, lit<}
+use Rattle.std.proofs.Common.{◌≡◌, ℕ, ◌+◌, ◌*◌, ◌-◌, ◌/◌, ◌^◌, ◌≤◌, ◌<◌, List, [], ◌∷◌, ◌++◌, ◌∙◌, sym, length, take, drop, replicate, arith, refl, ap, length-append, lit≤, lit<, le_trans}
 use Rattle.std.proofs.lemmas.List.{length-drop, length-replicate, drop-replicate, take_all, flat_map_more}
 use Rattle.cy_wire.specs.Wire.{varint_bytes, field_u64, field_bytes}
 use Rattle.cy_wire.proofs.Varints.{varint_bytes-small, varint_bytes-large, length-varint_bytes}
-use Rattle.cy_section.specs.Section.{section, head_bytes, header_body, header_section, message_field, chunk_body, truth_number}
+use Rattle.cy_section.specs.Rows.{numbered, numbers_body, header_rows}
+use Rattle.cy_section.specs.Section.{section, head_bytes, header_body, header_section, message_field, chunk_body}
 use Rattle.cy_section.specs.declared.types.SectionKind.{SectionKind}
 use Rattle.cy_section.specs.declared.types.SectionKind.TheVariants as kind
 use Rattle.cy_section.specs.declared.types.Header.{Header}
@@ -47,29 +48,23 @@ pub ruleset small_varints = (varint_bytes-small, length-tag)
 -- the steps of counting the bytes of a number, for `using`
 pub ruleset varint_lengths = (length-tag, length-varint_bytes-large, length-varint_bytes)
 
--- one more low field
-one_more : (xs ys : List ℕ) (n : ℕ) → length xs ≤ n → length ys ≤ 11 → length (xs ++ ys) ≤ n + 11
-one_more xs ys n few short = omega (arith, length-append xs ys)
+-- the fields of numbers have at most 20 bytes each
+pub length-numbers_body : (fields : List (ℕ × ℕ)) → length (numbers_body fields) ≤ 20 * length fields
+length-numbers_body [] = lit≤ tt
+length-numbers_body (f ∷ fields) =
+    omega (
+      arith,
+      length-append (field_u64 f.0 f.1) (numbers_body fields),
+      length-append (varint_bytes (8 * f.0)) (varint_bytes f.1),
+      length-varint_bytes (8 * f.0),
+      length-varint_bytes f.1,
+      length-numbers_body fields,
+    )
 
--- the fields of a header have at most 165 bytes
-pub length-header_body : (h : Header) → length (header_body h) ≤ 165
-unfolding header_body
-length-header_body h =
-    let a : length (field_u64 1 h.major_version) ≤ 11 = length-field_u64 1 h.major_version (lit≤ tt) in
-    let b = one_more _ (field_u64 2 h.minor_version) 11 a (length-field_u64 2 h.minor_version (lit≤ tt)) in
-    let c = one_more _ (field_u64 3 h.compress) 22 b (length-field_u64 3 h.compress (lit≤ tt)) in
-    let d = one_more _ (field_u64 4 h.chunk_interval) 33 c (length-field_u64 4 h.chunk_interval (lit≤ tt)) in
-    let e = one_more _ (field_u64 5 h.segment_interval) 44 d (length-field_u64 5 h.segment_interval (lit≤ tt)) in
-    let f = one_more _ (field_u64 6 h.index_position) 55 e (length-field_u64 6 h.index_position (lit≤ tt)) in
-    let g = one_more _ (field_u64 7 h.chunk_number) 66 f (length-field_u64 7 h.chunk_number (lit≤ tt)) in
-    let i = one_more _ (field_u64 8 h.channel_number) 77 g (length-field_u64 8 h.channel_number (lit≤ tt)) in
-    let j = one_more _ (field_u64 9 h.begin_time) 88 i (length-field_u64 9 h.begin_time (lit≤ tt)) in
-    let k = one_more _ (field_u64 10 h.end_time) 99 j (length-field_u64 10 h.end_time (lit≤ tt)) in
-    let l = one_more _ (field_u64 11 h.message_number) 110 k (length-field_u64 11 h.message_number (lit≤ tt)) in
-    let m = one_more _ (field_u64 12 h.size) 121 l (length-field_u64 12 h.size (lit≤ tt)) in
-    let n = one_more _ (field_u64 13 (truth_number h.is_complete)) 132 m (length-field_u64 13 (truth_number h.is_complete) (lit≤ tt)) in
-    let o = one_more _ (field_u64 14 h.chunk_raw_size) 143 n (length-field_u64 14 h.chunk_raw_size (lit≤ tt)) in
-    one_more _ (field_u64 15 h.segment_raw_size) 154 o (length-field_u64 15 h.segment_raw_size (lit≤ tt))
+-- those of a header leave room for its head
+pub length-header_body : (h : Header) → length (header_body h) ≤ 2048
+unfolding header_body header_rows
+length-header_body h = le_trans (length-numbers_body (numbered (header_rows h))) (lit≤ tt)
 
 -- a header's section has 2064 bytes
 pub length-header_section : (h : Header) → length (header_section h) ≡ 2064

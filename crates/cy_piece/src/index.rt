@@ -8,7 +8,7 @@ ghost use Rattle.cy_section.specs.declared.types.SectionKind.TheVariants as kind
 
 use crate::Piece;
 use crate::head::{no_memory, put_section};
-use crate::put::FIELD_ROOM;
+use crate::put::number_fields;
 use cy_section::{
     ChannelCache, ChunkBodyCache, ChunkHeaderCache, Index, IndexEntry, SectionError, SectionKind,
 };
@@ -50,11 +50,7 @@ fn chunk_header_cache(
     let Some(cache) = value else {
         return Ok(());
     };
-    let mut body = Writer::with_capacity(alloc, 4 * FIELD_ROOM)?;
-    body.field_u64(1, cache.message_number)?;
-    body.field_u64(2, cache.begin_time)?;
-    body.field_u64(3, cache.end_time)?;
-    body.field_u64(4, cache.raw_size)?;
+    let body = number_fields(alloc, &cache.fields())?;
     to.field_bytes(102, body.done())
 }
 
@@ -72,8 +68,7 @@ fn chunk_body_cache(
     let Some(cache) = value else {
         return Ok(());
     };
-    let mut body = Writer::new(alloc);
-    body.field_u64(1, cache.message_number)?;
+    let body = number_fields(alloc, &cache.fields())?;
     to.field_bytes(103, body.done())
 }
 

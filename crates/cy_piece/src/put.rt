@@ -1,6 +1,7 @@
 // Writes the sections of a few numbers and texts: the header, a chunk's header, a channel.
 ghost use Rattle.std.specs.Prelude.{◌≡◌, ◌-◌, ◌≤◌, ◌++◌, length, replicate, IfOk, OnOk, OnErr};
 ghost use Rattle.std.specs.Prelude.{IsOkUnless};
+ghost use Rattle.cy_section.specs.Rows.{numbers_body};
 ghost use Rattle.cy_section.specs.Section.{section, header_body, header_section};
 ghost use Rattle.cy_section.specs.Section.{chunk_header_body, channel_body};
 ghost use Rattle.cy_piece.specs.Puts.{PutsHeader};
@@ -13,42 +14,18 @@ use cy_wire::{WireError, Writer};
 use std::alloc::Global;
 
 /// The room that a writer wants for a field that holds a number, in bytes.
-pub(crate) const FIELD_ROOM: usize = 20;
+const FIELD_ROOM: usize = 20;
 
-#[tactic(auto, unfolding(cy_section::specs::Section::header_body))]
-fn header_fields(alloc: Global, value: &Header) -> Result<Writer, WireError>
-    ensures ok { IfOk result (λ w. w ≡ header_body value.now) }
+/// Writes fields that hold numbers: of each its field number, with wire type 0, and its number.
+pub(crate) fn number_fields(alloc: Global, fields: &[(u32, u64)]) -> Result<Writer, WireError>
+    ensures ok { IfOk result (λ w. w ≡ numbers_body fields.now) }
     ensures only_memory { IsOkUnless result WireError.Memory }
 {
-    let mut body = Writer::with_capacity(alloc, 15 * FIELD_ROOM)?;
-    body.field_u64(1, u64::from(value.major_version))?;
-    body.field_u64(2, u64::from(value.minor_version))?;
-    body.field_u64(3, u64::from(value.compress))?;
-    body.field_u64(4, value.chunk_interval)?;
-    body.field_u64(5, value.segment_interval)?;
-    body.field_u64(6, value.index_position)?;
-    body.field_u64(7, value.chunk_number)?;
-    body.field_u64(8, value.channel_number)?;
-    body.field_u64(9, value.begin_time)?;
-    body.field_u64(10, value.end_time)?;
-    body.field_u64(11, value.message_number)?;
-    body.field_u64(12, value.size)?;
-    body.field_u64(13, u64::from(value.is_complete))?;
-    body.field_u64(14, value.chunk_raw_size)?;
-    body.field_u64(15, value.segment_raw_size)?;
-    Ok(body)
-}
-
-#[tactic(auto, unfolding(cy_section::specs::Section::chunk_header_body))]
-fn chunk_header_fields(alloc: Global, value: &ChunkHeader) -> Result<Writer, WireError>
-    ensures ok { IfOk result (λ w. w ≡ chunk_header_body value.now) }
-    ensures only_memory { IsOkUnless result WireError.Memory }
-{
-    let mut body = Writer::with_capacity(alloc, 4 * FIELD_ROOM)?;
-    body.field_u64(1, value.begin_time)?;
-    body.field_u64(2, value.end_time)?;
-    body.field_u64(3, value.message_number)?;
-    body.field_u64(4, value.raw_size)?;
+    let mut body = Writer::with_capacity(alloc, fields.len().saturating_mul(FIELD_ROOM))?;
+    for (number, value) in fields {
+        body.varint(u64::from(*number) * 8)?;
+        body.varint(*value)?;
+    }
     Ok(body)
 }
 
@@ -65,12 +42,12 @@ fn channel_fields(alloc: Global, value: &Channel) -> Result<Writer, WireError>
 }
 
 /// The header's head and fields, without the zeros that follow.
-#[tactic(auto, using(crate::proofs::Lengths::header_fits), unfolding(cy_section::specs::Section::section))]
+#[tactic(auto, using(crate::proofs::Lengths::header_fits), unfolding(cy_section::specs::Section::section, cy_section::specs::Section::header_body))]
 fn header_front(alloc: Global, value: &Header) -> Result<Writer, WireError>
     ensures ok { IfOk result (λ w. w ≡ section kind.Header (header_body value.now)) }
     ensures only_memory { IsOkUnless result WireError.Memory }
 {
-    let fields = header_fields(alloc, value)?;
+    let fields = number_fields(alloc, &value.fields())?;
     let mut front = Writer::new(alloc);
     front.bytes(&head_of(SectionKind::Header, fields.done().len() as u64))?;
     front.bytes(fields.done())?;
@@ -98,13 +75,14 @@ pub fn put_header(to: &mut Piece, value: &Header) -> Result<(), SectionError>
 }
 
 /// Appends a chunk's header. Want of memory changes nothing.
+#[tactic(auto, unfolding(cy_section::specs::Section::chunk_header_body))]
 pub fn put_chunk_header(to: &mut Piece, value: &ChunkHeader) -> Result<(), SectionError>
     ensures ok { OnOk result (to.new ≡ to.old ++ section kind.ChunkHeader
         (chunk_header_body value.now)) }
     ensures err { OnErr result (to.new ≡ to.old) }
     ensures only_memory { IsOkUnless result SectionError.Memory }
 {
-    let body = chunk_header_fields(to.alloc(), value).map_err(no_memory)?;
+    let body = number_fields(to.alloc(), &value.fields()).map_err(no_memory)?;
     put_section(to, SectionKind::ChunkHeader, body.done())
 }
 

@@ -1,5 +1,5 @@
 -- The entries of an index that was written are read.
-use Rattle.std.proofs.Common.{◌≡◌, ℕ, ◌+◌, ◌-◌, ◌^◌, ◌<◌, ◌≤◌, List, [], ◌∷◌, ◌++◌, length, refl, ap, ◌∙◌, arith, append_assoc, append-nil, length-append, lit≤, mod-eq_of_lt, Option, Some, None, Ok}
+use Rattle.std.proofs.Common.{◌≡◌, ℕ, ◌+◌, ◌-◌, ◌^◌, ◌<◌, ◌≤◌, List, [], ◌∷◌, ◌++◌, length, refl, ap, ◌∙◌, arith, append_assoc, append-nil, lit≤, le_trans, mod-eq_of_lt, Option, Some, None, Ok}
 use Rattle.std.specs.Prelude.{IfSome}
 use Rattle.std.specs.List.{AllByRecursion}
 use Rattle.std.proofs.lemmas.List.Concat.{flat_map-cons}
@@ -10,15 +10,17 @@ use Rattle.cy_section.specs.declared.types.ChannelCache.{ChannelCache}
 use Rattle.cy_section.specs.declared.types.ChunkHeaderCache.{ChunkHeaderCache}
 use Rattle.cy_section.specs.declared.types.ChunkBodyCache.{ChunkBodyCache}
 use Rattle.cy_section.specs.declared.types.IndexEntry.{IndexEntry}
+use Rattle.cy_section.specs.Rows.{numbered, chunk_header_cache_rows, chunk_body_cache_rows}
 use Rattle.cy_section.specs.Section.{optional_field, channel_cache_body, chunk_header_cache_body, chunk_body_cache_body, entry_field, index_body}
-use Rattle.cy_section.specs.Reading.{made_of, channel_in, channel_cache_at, chunk_header_cache_in, chunk_header_cache_at, chunk_body_cache_in, chunk_body_cache_at, entry_in, entry_at, entries_of, index_at}
+use Rattle.cy_section.specs.Reading.{made_of, channel_in, channel_cache_at, entry_in, entry_at, entries_of, index_at}
 use Rattle.cy_read_back.specs.Sections.{ChannelCacheFits, ChunkHeaderCacheFits, ChunkBodyCacheFits, EntryFits, entry_bytes}
-use Rattle.cy_piece.proofs.Lengths.{length-field_u64}
+use Rattle.cy_piece.proofs.Lengths.{length-numbers_body}
 use Rattle.cy_section.proofs.Texts.{text_of-text}
 use Rattle.cy_section.proofs.Indexes.{entries_of-entry}
-use Rattle.cy_read_back.proofs.WrittenRead.{number_then, bytes_then, nothing_then, span_is, low_half}
+use Rattle.cy_read_back.proofs.WrittenRead.{number_then, bytes_then, nothing_then, span_is}
+use Rattle.cy_read_back.proofs.RowsRead.{chunk_header_cache_at-body, chunk_body_cache_at-body}
 
--- the three caches
+-- what an entry keeps of a channel
 channel_cache_at-body : (at : ℕ) (c : ChannelCache) → ChannelCacheFits c → channel_cache_at (record { start = at; bytes = channel_cache_body c }) ≡ Ok c
 unfolding channel_cache_at channel_in channel_cache_body last_number number_in last_span span_in
 channel_cache_at-body at c fits =
@@ -38,31 +40,6 @@ channel_cache_at-body at c fits =
     (bytes_then at4 4 c.proto_desc [] _ (lit≤ tt) (lit≤ tt) fits.proto_desc (nothing_then (at4 + length e))))) in
     rw (grouped, read) (rw (text_of-text name fits.name_is_text, text_of-text type fits.type_is_text) refl)
 
-chunk_header_cache_at-body : (at : ℕ) (c : ChunkHeaderCache) → ChunkHeaderCacheFits c
-    → chunk_header_cache_at (record { start = at; bytes = chunk_header_cache_body c }) ≡ Ok c
-unfolding chunk_header_cache_at chunk_header_cache_body last_number number_in
-chunk_header_cache_at-body at c fits =
-    let a = field_u64 1 c.message_number in
-    let b = field_u64 2 c.begin_time in
-    let d = field_u64 3 c.end_time in
-    let e = field_u64 4 c.raw_size in
-    let at2 = at + length a in
-    let at3 = at2 + length b in
-    let at4 = at3 + length d in
-    let grouped : ((a ++ b) ++ d) ++ e ≡ a ++ (b ++ (d ++ (e ++ []))) = simp (append_assoc, append-nil) in
-    let read = number_then at 1 c.message_number (b ++ (d ++ (e ++ []))) _ (lit≤ tt) (lit≤ tt) fits.message_number
-    (number_then at2 2 c.begin_time (d ++ (e ++ [])) _ (lit≤ tt) (lit≤ tt) fits.begin_time
-    (number_then at3 3 c.end_time (e ++ []) _ (lit≤ tt) (lit≤ tt) fits.end_time
-    (number_then at4 4 c.raw_size [] _ (lit≤ tt) (lit≤ tt) fits.raw_size (nothing_then (at4 + length e))))) in
-    ap (λ (bytes : List ℕ). made_of chunk_header_cache_in (fields_of at bytes)) grouped ∙ ap (made_of chunk_header_cache_in) read
-
-chunk_body_cache_at-body : (at : ℕ) (c : ChunkBodyCache) → ChunkBodyCacheFits c → chunk_body_cache_at (record { start = at; bytes = chunk_body_cache_body c }) ≡ Ok c
-unfolding chunk_body_cache_at chunk_body_cache_body last_number number_in
-chunk_body_cache_at-body at c fits =
-    let a = field_u64 1 c.message_number in
-    let read = number_then at 1 c.message_number [] _ (lit≤ tt) (lit≤ tt) fits.message_number (nothing_then (at + length a)) in
-    ap (λ (bytes : List ℕ). made_of chunk_body_cache_in (fields_of at bytes)) (let grouped : a ≡ a ++ [] = simp append-nil in grouped) ∙ ap (made_of chunk_body_cache_in) read
-
 -- the span of a part that is written as a field at a place, and that field, where there is the part
 abbrev span_there : {X : Type 0} → ℕ → ℕ → (X → List ℕ) → X → WireSpan
 span_there at n body x = record { start = at + (length (field_bytes n (body x)) - length (body x)); bytes = body x }
@@ -79,23 +56,13 @@ part_then at n body None rest fields low high fits e =
 part_then at n body (Some x) rest fields low high fits e = bytes_then at n (body x) rest fields low high fits e
 
 -- the bodies of the caches are short
-pub short_header : (c : ChunkHeaderCache) → length (chunk_header_cache_body c) ≤ 44
-unfolding chunk_header_cache_body
-short_header c =
-    omega (
-      arith,
-      length-append (field_u64 1 c.message_number ++ field_u64 2 c.begin_time ++ field_u64 3 c.end_time) (field_u64 4 c.raw_size),
-      length-append (field_u64 1 c.message_number ++ field_u64 2 c.begin_time) (field_u64 3 c.end_time),
-      length-append (field_u64 1 c.message_number) (field_u64 2 c.begin_time),
-      length-field_u64 1 c.message_number (lit≤ tt),
-      length-field_u64 2 c.begin_time (lit≤ tt),
-      length-field_u64 3 c.end_time (lit≤ tt),
-      length-field_u64 4 c.raw_size (lit≤ tt),
-    )
+pub short_header : (c : ChunkHeaderCache) → length (chunk_header_cache_body c) ≤ 2048
+unfolding chunk_header_cache_body chunk_header_cache_rows
+short_header c = le_trans (length-numbers_body (numbered (chunk_header_cache_rows c))) (lit≤ tt)
 
-pub short_body : (c : ChunkBodyCache) → length (chunk_body_cache_body c) ≤ 11
-unfolding chunk_body_cache_body
-short_body c = length-field_u64 1 c.message_number (lit≤ tt)
+pub short_body : (c : ChunkBodyCache) → length (chunk_body_cache_body c) ≤ 2048
+unfolding chunk_body_cache_body chunk_body_cache_rows
+short_body c = le_trans (length-numbers_body (numbered (chunk_body_cache_rows c))) (lit≤ tt)
 
 channel_fits : (o : Option ChannelCache) → IfSome o ChannelCacheFits → IfSome o (λ c. length (channel_cache_body c) < 2 ^ 64)
 channel_fits None fits = tt
@@ -147,7 +114,7 @@ entry_at-written at e fits =
     let at4 = at3 + length c in
     let at5 = at4 + length h in
     let grouped : (((a ++ b) ++ c) ++ h) ++ d ≡ a ++ (b ++ (c ++ (h ++ (d ++ [])))) = simp (append_assoc, append-nil) in
-    let read = number_then at 1 e.kind (b ++ (c ++ (h ++ (d ++ [])))) _ (lit≤ tt) (lit≤ tt) (low_half e.kind fits.kind)
+    let read = number_then at 1 e.kind (b ++ (c ++ (h ++ (d ++ [])))) _ (lit≤ tt) (lit≤ tt) (omega (arith, fits.kind))
     (number_then at2 2 e.position (c ++ (h ++ (d ++ []))) _ (lit≤ tt) (lit≤ tt) fits.position
     (part_then at3 101 channel_cache_body e.channel_cache (h ++ (d ++ [])) _ (lit≤ tt) (lit≤ tt) (channel_fits e.channel_cache fits.channel_cache)
     (part_then at4 102 chunk_header_cache_body e.chunk_header_cache (d ++ []) _ (lit≤ tt) (lit≤ tt) (header_fits e.chunk_header_cache)

@@ -1,3 +1,4 @@
+pub mod RowsRead
 pub mod WrittenRead
 pub mod HeadsRead
 pub mod IndexRead

@@ -1,21 +1,22 @@
 -- Within the limits, each number and length of a record's text has the bits that it needs.
-use Rattle.std.proofs.Common.{◌≡◌, ℕ, ◌+◌, ◌*◌, ◌^◌, ◌<◌, ◌≤◌, List, [], ◌∷◌, ◌++◌, length, map, refl, sym, subst, arith, append_assoc, append-nil, length-append, lit<, lit≤, Bool, true, false}
+use Rattle.std.proofs.Common.{◌≡◌, ℕ, ◌+◌, ◌*◌, ◌^◌, ◌<◌, ◌≤◌, List, [], ◌∷◌, ◌++◌, length, map, refl, sym, subst, arith, append_assoc, append-nil, length-append, lit<, lit≤, le_trans, Bool, true, false}
 use Rattle.std.specs.Prelude.{sum_by, filter, nat_le, ◌&&◌, IsTrue}
 use Rattle.std.specs.List.{AllByRecursion}
 use Rattle.std.specs.Str.{IsUtf8, bytes_eq}
 use Rattle.std.proofs.lemmas.Bool.{leb-true}
 use Rattle.std.proofs.lemmas.List.Sums.{sum_by-cons, sum-map}
-use Rattle.cy_wire.specs.Wire.{field_u64, field_bytes}
+use Rattle.cy_wire.specs.Wire.{field_bytes}
 use Rattle.cy_wire.proofs.Varints.{length-varint_bytes}
 use Rattle.cy_section.specs.declared.types.BodyMessage.{BodyMessage}
 use Rattle.cy_section.specs.declared.types.Channel.{Channel}
 use Rattle.cy_section.specs.declared.types.ChannelCache.{ChannelCache}
 use Rattle.cy_section.specs.declared.types.ChunkHeader.{ChunkHeader}
+use Rattle.cy_section.specs.Rows.{numbered, chunk_header_rows}
 use Rattle.cy_section.specs.Section.{channel_body, chunk_header_body, chunk_body, message_field, channel_cache_body}
 use Rattle.cy_section.specs.Chunks.{messages_in, takes, all_taken, chunk_raw_size, chunk_interval, is_nonempty, is_full, are_chunks}
 use Rattle.cy_section.specs.RecordText.{least_time, greatest_time, raw_size, count_on, chunk_header_of}
 use Rattle.cy_read_back.specs.Sections.{ChannelFits, ChunkHeaderFits, MessageFits}
-use Rattle.cy_piece.proofs.Lengths.{length-field_u64, length-field_bytes, length-message_field, length-of-message_field, length-message_fields}
+use Rattle.cy_piece.proofs.Lengths.{length-numbers_body, length-message_field, length-of-message_field, length-message_fields}
 use Rattle.cy_reader.specs.Sections.{longest_section}
 use Rattle.cy_reader.specs.Record.{size_of, with_section, longest_name, longest_content, largest_channels}
 use Rattle.cy_read_back.specs.Records.{IsReadableChannel, IsReadableMessage}
@@ -110,12 +111,13 @@ raw_within : (ms : List BodyMessage) → raw_size ms ≤ length (chunk_body ms)
 raw_within ms = subst (λ (n : ℕ). n ≤ length (chunk_body ms)) (sym (sum-map (λ (m : BodyMessage). length m.content) ms)) (contents_within ms)
 
 pub chunk_header_fits : (chunk : List BodyMessage) → AllByRecursion IsReadableMessage chunk → length (chunk_body chunk) ≤ longest_section → ChunkHeaderFits (chunk_header_of chunk)
-chunk_header_fits chunk all short = record {
-  begin_time = least_fits chunk all;
-  end_time = greatest_fits chunk all;
-  message_number = omega (arith, many_bytes chunk);
-  raw_size = omega (arith, raw_within chunk);
-}
+unfolding chunk_header_rows
+chunk_header_fits chunk all short =
+    let begin = least_fits chunk all in
+    let end = greatest_fits chunk all in
+    let many = many_bytes chunk in
+    let raw = raw_within chunk in
+    search (arith, begin, end, many, raw)
 
 -- what a message's fields take
 pub message_fits : (m : BodyMessage) → IsShort m → IsUtf8 m.channel_name → m.time < 2 ^ 64 → MessageFits m
@@ -126,14 +128,7 @@ message_fits m short is time =
       name = omega arith;
       time = time;
       content = omega arith;
-      whole = omega (
-        arith,
-        length-append (field_bytes 1 m.channel_name ++ field_u64 2 m.time) (field_bytes 3 m.content),
-        length-append (field_bytes 1 m.channel_name) (field_u64 2 m.time),
-        length-field_bytes 1 m.channel_name (lit≤ tt),
-        length-field_u64 2 m.time (lit≤ tt),
-        length-field_bytes 3 m.content (lit≤ tt),
-      );
+      whole = omega (arith, length-message_fields m.channel_name m.time m.content, length-varint_bytes (length m.channel_name), length-varint_bytes m.time, length-varint_bytes (length m.content));
       name_is_text = is;
     }
 
@@ -160,46 +155,20 @@ channels_fit (c ∷ cs) are small = (channel_fits c are.0 small.0, channels_fit 
 pub channel_short : (c : Channel) → size_of (with_section c) ≤ largest_channels → length (channel_body c) ≤ longest_section
 unfolding channel_body
 channel_short c small =
-    omega (
-      arith,
-      length-append (field_bytes 1 c.name ++ field_bytes 2 c.message_type) (field_bytes 3 c.proto_desc),
-      length-append (field_bytes 1 c.name) (field_bytes 2 c.message_type),
-      length-field_bytes 1 c.name (lit≤ tt),
-      length-field_bytes 2 c.message_type (lit≤ tt),
-      length-field_bytes 3 c.proto_desc (lit≤ tt),
-    )
+    simp length-append (omega (arith, length-varint_bytes 10, length-varint_bytes (length c.name), length-varint_bytes 18, length-varint_bytes (length c.message_type), length-varint_bytes 26, length-varint_bytes (length c.proto_desc)))
 
 pub header_short : (h : ChunkHeader) → length (chunk_header_body h) ≤ longest_section
-unfolding chunk_header_body
-header_short h =
-    omega (
-      arith,
-      length-append (field_u64 1 h.begin_time ++ field_u64 2 h.end_time ++ field_u64 3 h.message_number) (field_u64 4 h.raw_size),
-      length-append (field_u64 1 h.begin_time ++ field_u64 2 h.end_time) (field_u64 3 h.message_number),
-      length-append (field_u64 1 h.begin_time) (field_u64 2 h.end_time),
-      length-field_u64 1 h.begin_time (lit≤ tt),
-      length-field_u64 2 h.end_time (lit≤ tt),
-      length-field_u64 3 h.message_number (lit≤ tt),
-      length-field_u64 4 h.raw_size (lit≤ tt),
-    )
+unfolding chunk_header_body chunk_header_rows
+header_short h = le_trans (length-numbers_body (numbered (chunk_header_rows h))) (lit≤ tt)
 
 -- a field with bytes, and what the index keeps of a channel
 pub length-any_field : (number : ℕ) (bytes : List ℕ) → length (field_bytes number bytes) ≤ length bytes + 20
 length-any_field number bytes = simp length-append (omega (arith, length-varint_bytes (8 * number + 2), length-varint_bytes (length bytes)))
 
-pub cache_short : (c : ChannelCache) → length (channel_cache_body c) ≤ length c.name + length c.message_type + length c.proto_desc + 44
+pub cache_short : (c : ChannelCache) → length (channel_cache_body c) ≤ length c.name + length c.message_type + length c.proto_desc + 80
 unfolding channel_cache_body
 cache_short c =
-    omega (
-      arith,
-      length-append (field_u64 1 c.message_number ++ field_bytes 2 c.name ++ field_bytes 3 c.message_type) (field_bytes 4 c.proto_desc),
-      length-append (field_u64 1 c.message_number ++ field_bytes 2 c.name) (field_bytes 3 c.message_type),
-      length-append (field_u64 1 c.message_number) (field_bytes 2 c.name),
-      length-field_u64 1 c.message_number (lit≤ tt),
-      length-field_bytes 2 c.name (lit≤ tt),
-      length-field_bytes 3 c.message_type (lit≤ tt),
-      length-field_bytes 4 c.proto_desc (lit≤ tt),
-    )
+    simp length-append (omega (arith, length-varint_bytes 8, length-varint_bytes c.message_number, length-varint_bytes 18, length-varint_bytes (length c.name), length-varint_bytes 26, length-varint_bytes (length c.message_type), length-varint_bytes 34, length-varint_bytes (length c.proto_desc)))
 
 -- no more messages stand on one channel than there are
 kept_within : {X : Type 0} (p : X → Bool) (xs : List X) → length (filter p xs) ≤ length xs

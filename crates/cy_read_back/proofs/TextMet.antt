@@ -16,7 +16,8 @@ use Rattle.cy_section.specs.Chunks.{messages_in}
 use Rattle.cy_section.specs.RecordText.{Part, bytes_of, parts_of, channel_part, chunk_header_part, chunk_body_part, chunk_header_of}
 use Rattle.cy_section.specs.Reading.{PlacedMessage, chunk_header_at, channel_at, messages_of}
 use Rattle.cy_read_back.specs.Sections.{ChannelFits, ChunkHeaderFits, MessageFits}
-use Rattle.cy_read_back.proofs.WrittenRead.{channel_at-body, chunk_header_at-body, chunk_body_read}
+use Rattle.cy_read_back.proofs.RowsRead.{chunk_header_at-body}
+use Rattle.cy_read_back.proofs.WrittenRead.{channel_at-body, chunk_body_read}
 use Rattle.cy_reader.specs.declared.error.LoadError.{LoadError}
 use Rattle.cy_reader.specs.Sections.{WholeSection}
 use Rattle.cy_reader.specs.Record.{◌>>=◌, Met, Message, nothing, of_section, size_of, within_limits, with_section, channel_given, channel_met, name_mentioned, message_met, messages_met, body_met, section_met, sections_met, longest_name, longest_content, most_channels, largest_channels}

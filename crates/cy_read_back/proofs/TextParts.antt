@@ -10,11 +10,13 @@ use Rattle.cy_section.specs.declared.types.ChannelCache.{ChannelCache}
 use Rattle.cy_section.specs.declared.types.ChunkHeaderCache.{ChunkHeaderCache}
 use Rattle.cy_section.specs.declared.types.ChunkBodyCache.{ChunkBodyCache}
 use Rattle.cy_section.specs.declared.types.SectionKind.TheVariants as kind
+use Rattle.cy_section.specs.Rows.{chunk_header_rows, chunk_header_cache_rows, chunk_body_cache_rows}
 use Rattle.cy_section.specs.Section.{section, channel_body, chunk_header_body, chunk_body, channel_cache_body, chunk_header_cache_body, chunk_body_cache_body}
 use Rattle.cy_section.specs.Chunks.{messages_in}
 use Rattle.cy_section.specs.RecordText.{Part, bytes_of, parts_of, entries_from, channel_part, chunk_header_part, chunk_body_part, chunk_header_of, least_time, greatest_time, raw_size, count_on}
 use Rattle.cy_read_back.specs.Sections.{ChannelFits, ChunkHeaderFits, EntryFits}
-use Rattle.cy_piece.proofs.Lengths.{length-section, length-field_u64}
+use Rattle.cy_wire.proofs.Varints.{length-varint_bytes}
+use Rattle.cy_piece.proofs.Lengths.{length-section}
 use Rattle.cy_read_back.proofs.IndexRead.{short_header, short_body}
 use Rattle.cy_reader.specs.Sections.{longest_section}
 use Rattle.cy_reader.specs.Record.{size_of, with_section, largest_channels}
@@ -109,15 +111,7 @@ PartFits p = (at : ℕ) → at < 2 ^ 64 → EntryFits (p.entry at)
 -- an entry is short where its caches are
 entry_short : (number position : ℕ) (c h b : List ℕ) → length c + length h + length b ≤ 1073741824 → length (field_u64 1 number ++ field_u64 2 position ++ c ++ h ++ b) < 2 ^ 64
 entry_short number position c h b short =
-    omega (
-      arith,
-      length-append (field_u64 1 number ++ field_u64 2 position ++ c ++ h) b,
-      length-append (field_u64 1 number ++ field_u64 2 position ++ c) h,
-      length-append (field_u64 1 number ++ field_u64 2 position) c,
-      length-append (field_u64 1 number) (field_u64 2 position),
-      length-field_u64 1 number (lit≤ tt),
-      length-field_u64 2 position (lit≤ tt),
-    )
+    simp length-append (omega (arith, length-varint_bytes 8, length-varint_bytes number, length-varint_bytes 16, length-varint_bytes position))
 
 channel_entry : (ms : List BodyMessage) (c : Channel) → length ms < 2 ^ 64 → ChannelFits c → size_of (with_section c) ≤ largest_channels → PartFits (channel_part ms c)
 channel_entry ms c few fits small at inside =
@@ -141,26 +135,28 @@ channel_entry ms c few fits small at inside =
     }
 
 header_entry : (chunk : List BodyMessage) → ChunkHeaderFits (chunk_header_of chunk) → PartFits (chunk_header_part chunk)
+unfolding chunk_header_rows chunk_header_cache_rows
 header_entry chunk fits at inside =
     let cache : ChunkHeaderCache = record { message_number = length chunk; begin_time = least_time chunk; end_time = greatest_time chunk; raw_size = raw_size chunk } in
     record {
       kind = lit< tt;
       position = inside;
       channel_cache = tt;
-      chunk_header_cache = record { message_number = fits.message_number; begin_time = fits.begin_time; end_time = fits.end_time; raw_size = fits.raw_size };
+      chunk_header_cache = (fits.1.1.0, (fits.0, (fits.1.0, (fits.1.1.1.0, tt))));
       chunk_body_cache = tt;
       whole = entry_short 1 at [] (field_bytes 102 (chunk_header_cache_body cache)) [] (omega (arith, length-any_field 102 (chunk_header_cache_body cache), short_header cache));
     }
 
-body_entry : (chunk : List BodyMessage) → length chunk < 2 ^ 64 → PartFits (chunk_body_part chunk)
-body_entry chunk few at inside =
+body_entry : (chunk : List BodyMessage) → ChunkHeaderFits (chunk_header_of chunk) → PartFits (chunk_body_part chunk)
+unfolding chunk_header_rows chunk_body_cache_rows
+body_entry chunk fits at inside =
     let cache : ChunkBodyCache = record { message_number = length chunk } in
     record {
       kind = lit< tt;
       position = inside;
       channel_cache = tt;
       chunk_header_cache = tt;
-      chunk_body_cache = record { message_number = few };
+      chunk_body_cache = (fits.1.1.0, tt);
       whole = entry_short 2 at [] [] (field_bytes 103 (chunk_body_cache_body cache)) (omega (arith, length-any_field 103 (chunk_body_cache_body cache), short_body cache));
     }
 
@@ -171,7 +167,7 @@ channel_entries ms (c ∷ cs) few fits small = (channel_entry ms c few fits.0 sm
 
 chunk_entries : (chunks : List (List BodyMessage)) → AllByRecursion (λ chunk. ChunkHeaderFits (chunk_header_of chunk)) chunks → AllByRecursion PartFits (chunk_parts chunks)
 chunk_entries [] fits = tt
-chunk_entries (chunk ∷ chunks) fits = (header_entry chunk fits.0, (body_entry chunk fits.0.message_number, chunk_entries chunks fits.1))
+chunk_entries (chunk ∷ chunks) fits = (header_entry chunk fits.0, (body_entry chunk fits.0, chunk_entries chunks fits.1))
 
 pub all_parts_fit : (channels : List Channel) (chunks : List (List BodyMessage)) → length (messages_in chunks) < 2 ^ 64 → AllByRecursion ChannelFits channels
     → AllByRecursion (λ c. size_of (with_section c) ≤ largest_channels) channels → AllByRecursion (λ chunk. ChunkHeaderFits (chunk_header_of chunk)) chunks

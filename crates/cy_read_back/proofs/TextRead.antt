@@ -1,5 +1,5 @@
 -- A record's text is read whole.
-use Rattle.std.proofs.Common.{◌≡◌, ℕ, suc, ◌+◌, ◌-◌, ◌^◌, ◌<◌, ◌≤◌, List, [], ◌∷◌, ◌++◌, length, map, take, drop, replicate, refl, sym, ap, ◌∙◌, subst, arith, append_assoc, append-nil, length-append, lit<, true, Option, Some, None, Ok}
+use Rattle.std.proofs.Common.{◌≡◌, ℕ, suc, ◌+◌, ◌-◌, ◌^◌, ◌<◌, ◌≤◌, List, [], ◌∷◌, ◌++◌, length, map, take, drop, replicate, refl, sym, ap, ◌∙◌, subst, arith, append_assoc, append-nil, length-append, true, Option, Some, None, Ok}
 use Rattle.std.specs.Prelude.{IsTrue, sum_by}
 use Rattle.std.specs.List.{AllByRecursion}
 use Rattle.std.proofs.lemmas.Bool.{le-ltb}
@@ -9,13 +9,14 @@ use Rattle.cy_section.specs.declared.types.BodyMessage.{BodyMessage}
 use Rattle.cy_section.specs.declared.types.Channel.{Channel}
 use Rattle.cy_section.specs.declared.types.Header.{Header}
 use Rattle.cy_section.specs.declared.types.SectionKind.TheVariants as kind
+use Rattle.cy_section.specs.Rows.{header_rows}
 use Rattle.cy_section.specs.Section.{section, header_body, header_section, chunk_body, index_body}
 use Rattle.cy_section.specs.Chunks.{messages_in, all_taken}
 use Rattle.cy_section.specs.RecordText.{IsRecordText, parts_of, bytes_of, record_bytes, complete_header, chunk_header_of}
 use Rattle.cy_read_back.specs.Sections.{HeaderFits, ChunkHeaderFits}
 use Rattle.cy_piece.proofs.Lengths.{length-section, length-header_section, length-header_body}
 use Rattle.cy_read_back.proofs.HeadsRead.{number-of_head, size-of_head}
-use Rattle.cy_read_back.proofs.WrittenRead.{header_at-body}
+use Rattle.cy_read_back.proofs.RowsRead.{header_at-body}
 use Rattle.cy_reader.specs.declared.heads.PlacedHead.{PlacedHead}
 use Rattle.cy_reader.specs.Sections.{Sections, longest_section, sections_from}
 use Rattle.cy_reader.specs.Heads.{PlacedIndex, end_of, index_at, index_of, index_head, header_head, section_head, heads_of}
@@ -132,27 +133,15 @@ counts_fit channels chunks file t =
     (omega arith, omega arith, omega arith)
 
 header_fits : (channels : List Channel) (chunks : List (List BodyMessage)) (file : List ℕ) → IsText channels chunks file → HeaderFits (header_of channels chunks)
+unfolding header_rows
 header_fits channels chunks file t =
     let short = t.short in
     let few = t.few in
     let long = length_is channels chunks file t in
     let counts = counts_fit channels chunks file t in
-    record {
-      major_version = lit< tt;
-      minor_version = lit< tt;
-      compress = lit< tt;
-      chunk_interval = lit< tt;
-      segment_interval = lit< tt;
-      index_position = omega arith;
-      chunk_number = omega arith;
-      channel_number = omega arith;
-      begin_time = least_fits (messages_in chunks) t.each_message;
-      end_time = greatest_fits (messages_in chunks) t.each_message;
-      message_number = omega arith;
-      size = omega arith;
-      chunk_raw_size = lit< tt;
-      segment_raw_size = lit< tt;
-    }
+    let begin = least_fits (messages_in chunks) t.each_message in
+    let end = greatest_fits (messages_in chunks) t.each_message in
+    search (arith, begin, end, short, few, long, counts)
 
 -- its header stands at its front
 header_there : (h : Header) (rest file : List ℕ) → file ≡ header_section h ++ rest → StandsThere file [] kind.Header (header_body h) (replicate (2048 - length (header_body h)) 0 ++ rest) 0

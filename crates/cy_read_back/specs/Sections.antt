@@ -12,6 +12,8 @@ use Rattle.cy_section.specs.declared.types.ChunkHeaderCache.{ChunkHeaderCache}
 use Rattle.cy_section.specs.declared.types.ChunkBodyCache.{ChunkBodyCache}
 use Rattle.cy_section.specs.declared.types.IndexEntry.{IndexEntry}
 use Rattle.cy_section.specs.declared.types.SectionKind.{SectionKind}
+use Rattle.cy_section.specs.Rows.{Fit, header_rows, chunk_header_rows, chunk_header_cache_rows}
+use Rattle.cy_section.specs.Rows.{chunk_body_cache_rows}
 use Rattle.cy_section.specs.Section.{header_body, chunk_header_body, chunk_body, channel_body}
 use Rattle.cy_section.specs.Section.{head_bytes, optional_field, channel_cache_body}
 use Rattle.cy_section.specs.Section.{chunk_header_cache_body, chunk_body_cache_body, index_body}
@@ -19,29 +21,18 @@ use Rattle.cy_section.specs.Head.{head_at}
 use Rattle.cy_section.specs.Reading.{header_at, chunk_header_at, chunk_body_at}
 use Rattle.cy_section.specs.Reading.{channel_at, index_at}
 
--- Numbers of 32 bits, and of 64.
-pub record HeaderFits (h : Header) : Type 0 where
-  pub major_version : h.major_version < 2 ^ 32
-  pub minor_version : h.minor_version < 2 ^ 32
-  pub compress : h.compress < 2 ^ 32
-  pub chunk_interval : h.chunk_interval < 2 ^ 64
-  pub segment_interval : h.segment_interval < 2 ^ 64
-  pub index_position : h.index_position < 2 ^ 64
-  pub chunk_number : h.chunk_number < 2 ^ 64
-  pub channel_number : h.channel_number < 2 ^ 64
-  pub begin_time : h.begin_time < 2 ^ 64
-  pub end_time : h.end_time < 2 ^ 64
-  pub message_number : h.message_number < 2 ^ 64
-  pub size : h.size < 2 ^ 64
-  pub chunk_raw_size : h.chunk_raw_size < 2 ^ 64
-  pub segment_raw_size : h.segment_raw_size < 2 ^ 64
+-- Numbers of 32 bits, and of 64, as the rows have them.
+abbrev pub HeaderFits : Header → Type 0
+HeaderFits h = Fit (header_rows h)
 
--- Numbers of 64 bits.
-pub record ChunkHeaderFits (c : ChunkHeader) : Type 0 where
-  pub begin_time : c.begin_time < 2 ^ 64
-  pub end_time : c.end_time < 2 ^ 64
-  pub message_number : c.message_number < 2 ^ 64
-  pub raw_size : c.raw_size < 2 ^ 64
+abbrev pub ChunkHeaderFits : ChunkHeader → Type 0
+ChunkHeaderFits c = Fit (chunk_header_rows c)
+
+abbrev pub ChunkHeaderCacheFits : ChunkHeaderCache → Type 0
+ChunkHeaderCacheFits c = Fit (chunk_header_cache_rows c)
+
+abbrev pub ChunkBodyCacheFits : ChunkBodyCache → Type 0
+ChunkBodyCacheFits c = Fit (chunk_body_cache_rows c)
 
 -- Texts, and bytes whose number has 64 bits.
 pub record ChannelFits (c : Channel) : Type 0 where
@@ -72,15 +63,6 @@ pub record ChannelCacheFits (c : ChannelCache) : Type 0 where
   pub whole : length (channel_cache_body c) < 2 ^ 64
   pub name_is_text : IsUtf8 c.name
   pub type_is_text : IsUtf8 c.message_type
-
-pub record ChunkHeaderCacheFits (c : ChunkHeaderCache) : Type 0 where
-  pub message_number : c.message_number < 2 ^ 64
-  pub begin_time : c.begin_time < 2 ^ 64
-  pub end_time : c.end_time < 2 ^ 64
-  pub raw_size : c.raw_size < 2 ^ 64
-
-pub record ChunkBodyCacheFits (c : ChunkBodyCache) : Type 0 where
-  pub message_number : c.message_number < 2 ^ 64
 
 -- The fields of an entry.
 abbrev pub entry_bytes : IndexEntry → List ℕ

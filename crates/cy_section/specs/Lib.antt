@@ -1,3 +1,4 @@
+pub mod Rows
 pub mod Section
 pub mod Chunks
 pub mod RecordText

@@ -9,7 +9,7 @@ use Rattle.cy_wire.specs.declared.error.WireError.{WireError}
 use Rattle.cy_wire.specs.declared.error.WireError.TheVariants as wire_error
 use Rattle.cy_wire.specs.Field.{WireField, Fields, fields_of}
 use Rattle.cy_wire.specs.Message.{WireSpan, number_in, last_span, spans_of, span_of, bytes_of}
-use Rattle.cy_wire.specs.Message.{u64_of, u32_of, truth_of}
+use Rattle.cy_wire.specs.Message.{u64_of, u32_of}
 use Rattle.cy_section.specs.declared.error.SectionError.{SectionError}
 use Rattle.cy_section.specs.declared.error.SectionError.TheVariants.{Wire, NameNotText, Memory}
 use Rattle.cy_section.specs.declared.types.Header.{Header}
@@ -20,6 +20,8 @@ use Rattle.cy_section.specs.declared.types.ChannelCache.{ChannelCache}
 use Rattle.cy_section.specs.declared.types.ChunkHeaderCache.{ChunkHeaderCache}
 use Rattle.cy_section.specs.declared.types.ChunkBodyCache.{ChunkBodyCache}
 use Rattle.cy_section.specs.declared.types.IndexEntry.{IndexEntry}
+use Rattle.cy_section.specs.Rows.{header_from, chunk_header_from, chunk_header_cache_from}
+use Rattle.cy_section.specs.Rows.{chunk_body_cache_from}
 
 -- One reading after another: the first fault stands.
 infixl 10 ◌>>=◌
@@ -51,39 +53,16 @@ unfoldable pub text_of : WireSpan → Result (List ℕ) SectionError
 text_of span = if utf8_valid_len span.bytes == length span.bytes then Ok span.bytes else Err
     (NameNotText span.start)
 
-abbrev pub header_in : List WireField → Result Header SectionError
-header_in fields = Ok (record {
-  major_version = u32_of 1 fields;
-  minor_version = u32_of 2 fields;
-  compress = u32_of 3 fields;
-  chunk_interval = u64_of 4 fields;
-  segment_interval = u64_of 5 fields;
-  index_position = u64_of 6 fields;
-  chunk_number = u64_of 7 fields;
-  channel_number = u64_of 8 fields;
-  begin_time = u64_of 9 fields;
-  end_time = u64_of 10 fields;
-  message_number = u64_of 11 fields;
-  size = u64_of 12 fields;
-  is_complete = truth_of 13 fields;
-  chunk_raw_size = u64_of 14 fields;
-  segment_raw_size = u64_of 15 fields;
-})
+-- A message of numbers, made of the last number of each field, or 0.
+abbrev pub numbers_in : {A : Type 0} → ((ℕ → ℕ) → A) → List WireField → Result A SectionError
+numbers_in made fields = Ok (made (λ number. u64_of number fields))
 
 -- The header whose body stands at a place.
 unfoldable pub header_at : ℕ → List ℕ → Result Header SectionError
-header_at at body = made_of header_in (fields_of at body)
-
-abbrev pub chunk_header_in : List WireField → Result ChunkHeader SectionError
-chunk_header_in fields = Ok (record {
-  begin_time = u64_of 1 fields;
-  end_time = u64_of 2 fields;
-  message_number = u64_of 3 fields;
-  raw_size = u64_of 4 fields;
-})
+header_at at body = made_of (numbers_in header_from) (fields_of at body)
 
 unfoldable pub chunk_header_at : ℕ → List ℕ → Result ChunkHeader SectionError
-chunk_header_at at body = made_of chunk_header_in (fields_of at body)
+chunk_header_at at body = made_of (numbers_in chunk_header_from) (fields_of at body)
 
 -- A channel of these parts: its name is looked at before its type.
 abbrev pub channel_of : WireSpan → WireSpan → WireSpan → Result Channel SectionError
@@ -161,22 +140,13 @@ channel_cache_at span = do
     proto_desc = channel.proto_desc;
   })
 
-abbrev pub chunk_header_cache_in : List WireField → Result ChunkHeaderCache SectionError
-chunk_header_cache_in fields = Ok (record {
-  message_number = u64_of 1 fields;
-  begin_time = u64_of 2 fields;
-  end_time = u64_of 3 fields;
-  raw_size = u64_of 4 fields;
-})
-
 unfoldable pub chunk_header_cache_at : WireSpan → Result ChunkHeaderCache SectionError
-chunk_header_cache_at span = made_of chunk_header_cache_in (fields_of span.start span.bytes)
-
-abbrev pub chunk_body_cache_in : List WireField → Result ChunkBodyCache SectionError
-chunk_body_cache_in fields = Ok (record { message_number = u64_of 1 fields })
+chunk_header_cache_at span =
+    made_of (numbers_in chunk_header_cache_from) (fields_of span.start span.bytes)
 
 unfoldable pub chunk_body_cache_at : WireSpan → Result ChunkBodyCache SectionError
-chunk_body_cache_at span = made_of chunk_body_cache_in (fields_of span.start span.bytes)
+chunk_body_cache_at span =
+    made_of (numbers_in chunk_body_cache_from) (fields_of span.start span.bytes)
 
 -- A part that may be missing.
 abbrev pub if_given : {A : Type 0} → (WireSpan → Result A SectionError) → Option WireSpan

@@ -1,5 +1,5 @@
 -- The bytes of a whole record, for any channels and any messages.
-use Rattle.std.specs.Prelude.{ℕ, ◌+◌, ◌≡◌, if◌then◌else◌, true, false, List, [], ◌∷◌, ◌++◌, length}
+use Rattle.std.specs.Prelude.{ℕ, ◌+◌, ◌≡◌, if◌then◌else◌, true, List, [], ◌∷◌, ◌++◌, length}
 use Rattle.std.specs.Prelude.{map, sum, filter, Some, None, min, max}
 use Rattle.std.specs.List.{flat_map, list_any}
 use Rattle.std.specs.Str.{bytes_eq}
@@ -9,6 +9,7 @@ use Rattle.cy_section.specs.declared.types.ChunkHeader.{ChunkHeader}
 use Rattle.cy_section.specs.declared.types.BodyMessage.{BodyMessage}
 use Rattle.cy_section.specs.declared.types.Channel.{Channel}
 use Rattle.cy_section.specs.declared.types.IndexEntry.{IndexEntry}
+use Rattle.cy_section.specs.Rows.{no_header}
 use Rattle.cy_section.specs.Section.{section, header_section, channel_body, chunk_header_body}
 use Rattle.cy_section.specs.Section.{chunk_body, index_body, kind_number}
 use Rattle.cy_section.specs.Chunks.{AreChunksOf, messages_in, chunk_raw_size, chunk_interval}
@@ -113,24 +114,12 @@ header_end = 2064
 abbrev pub index_section : List Part → List ℕ
 index_section parts = section kind.Index (index_body (entries_from header_end parts))
 
--- The header of a record that is still being written.
+-- The header of a record that is still being written: all else in it is 0, and it is not complete.
 abbrev pub incomplete_header : Header
-incomplete_header = record {
+incomplete_header = record no_header {
   major_version = 1;
-  minor_version = 0;
-  compress = 0;
   chunk_interval = chunk_interval;
-  segment_interval = 0;
-  index_position = 0;
-  chunk_number = 0;
-  channel_number = 0;
-  begin_time = 0;
-  end_time = 0;
-  message_number = 0;
-  size = 0;
-  is_complete = false;
   chunk_raw_size = chunk_raw_size;
-  segment_raw_size = 0;
 }
 
 -- The header of a whole record, with the counted numbers.

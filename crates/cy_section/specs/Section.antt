@@ -1,7 +1,6 @@
 -- The bytes of each section of a record: a head of 16 bytes and a body in the wire form, every
 -- field written in number order.
-use Rattle.std.specs.Prelude.{ℕ, ◌-◌, Bool, if◌then◌else◌, List, [], ◌++◌, length}
-use Rattle.std.specs.Prelude.{replicate, Option, Some, None}
+use Rattle.std.specs.Prelude.{ℕ, ◌-◌, List, [], ◌++◌, length, replicate, Option, Some, None}
 use Rattle.std.specs.List.{flat_map}
 use Rattle.byteorder.specs.Endian.{little_bytes}
 use Rattle.cy_wire.specs.Wire.{field_u64, field_bytes}
@@ -15,6 +14,8 @@ use Rattle.cy_section.specs.declared.types.ChannelCache.{ChannelCache}
 use Rattle.cy_section.specs.declared.types.ChunkHeaderCache.{ChunkHeaderCache}
 use Rattle.cy_section.specs.declared.types.ChunkBodyCache.{ChunkBodyCache}
 use Rattle.cy_section.specs.declared.types.IndexEntry.{IndexEntry}
+use Rattle.cy_section.specs.Rows.{numbers_body, numbered, header_rows, chunk_header_rows}
+use Rattle.cy_section.specs.Rows.{chunk_header_cache_rows, chunk_body_cache_rows}
 
 -- The number of a section's type.
 abbrev pub kind_number : SectionKind → ℕ
@@ -33,20 +34,9 @@ head_bytes k size = little_bytes 4 (kind_number k) ++ little_bytes 4 0 ++ little
 unfoldable pub section : SectionKind → List ℕ → List ℕ
 section k body = head_bytes k (length body) ++ body
 
--- A truth value as a number.
-abbrev pub truth_number : Bool → ℕ
-truth_number b = if b then 1 else 0
-
+-- The header's fields.
 unfoldable pub header_body : Header → List ℕ
-header_body h =
-    field_u64 1 h.major_version ++ field_u64 2 h.minor_version ++ field_u64 3 h.compress
-    ++ field_u64 4 h.chunk_interval
-    ++ field_u64 5 h.segment_interval ++ field_u64 6 h.index_position ++ field_u64 7 h.chunk_number
-    ++ field_u64 8 h.channel_number ++ field_u64 9 h.begin_time ++ field_u64 10 h.end_time
-    ++ field_u64 11 h.message_number
-    ++ field_u64 12 h.size ++ field_u64 13 (truth_number h.is_complete)
-    ++ field_u64 14 h.chunk_raw_size
-    ++ field_u64 15 h.segment_raw_size
+header_body h = numbers_body (numbered (header_rows h))
 
 -- The header section, with the zeros that follow it up to byte 2064.
 unfoldable pub header_section : Header → List ℕ
@@ -54,8 +44,7 @@ header_section h = section kind.Header (header_body h)
     ++ replicate (2048 - length (header_body h)) 0
 
 unfoldable pub chunk_header_body : ChunkHeader → List ℕ
-chunk_header_body c = field_u64 1 c.begin_time ++ field_u64 2 c.end_time
-    ++ field_u64 3 c.message_number ++ field_u64 4 c.raw_size
+chunk_header_body c = numbers_body (numbered (chunk_header_rows c))
 
 -- A message as one field of a chunk's body.
 unfoldable pub message_field : BodyMessage → List ℕ
@@ -73,11 +62,10 @@ channel_cache_body c = field_u64 1 c.message_number ++ field_bytes 2 c.name
     ++ field_bytes 3 c.message_type ++ field_bytes 4 c.proto_desc
 
 unfoldable pub chunk_header_cache_body : ChunkHeaderCache → List ℕ
-chunk_header_cache_body c = field_u64 1 c.message_number ++ field_u64 2 c.begin_time
-    ++ field_u64 3 c.end_time ++ field_u64 4 c.raw_size
+chunk_header_cache_body c = numbers_body (numbered (chunk_header_cache_rows c))
 
 unfoldable pub chunk_body_cache_body : ChunkBodyCache → List ℕ
-chunk_body_cache_body c = field_u64 1 c.message_number
+chunk_body_cache_body c = numbers_body (numbered (chunk_body_cache_rows c))
 
 -- A field where there is something to write.
 abbrev pub optional_field : {X : Type 0} → ℕ → (X → List ℕ) → Option X → List ℕ

@@ -1,8 +1,9 @@
 //! The sections of a Cyber RT record: what a whole record is made of, and how each is read.
 //!
-//! `specs/Section` has the bytes of each section, `specs/Chunks` where a chunk ends,
-//! `specs/RecordText` the bytes of a record. `specs/Head` and `specs/Reading` have what is read: a
-//! head, and the value of a body, or the first fault with its place, which `specs/FaultText` tells.
+//! `specs/Rows` has the messages that hold numbers alone, a row a field, `specs/Section` the bytes
+//! of each section, `specs/Chunks` where a chunk ends, `specs/RecordText` the bytes of a record.
+//! `specs/Head` and `specs/Reading` have what is read: a head, and the value of a body, or the
+//! first fault with its place, which `specs/FaultText` tells.
 #![tactic(auto)]
 
 mod body;

@@ -15,8 +15,8 @@ use cy_msg::{Bytes, Text};
 use cy_wire::{Field, Reader, Span};
 use std::alloc::Global;
 
-/// One more than the greatest field number of a message of numbers.
-const NUMBERS: usize = 16;
+/// One more than the greatest field number that a message of numbers may have.
+const NUMBERS: usize = 32;
 
 // Keeps the number of a field, which is the last one so far with its field number.
 fn keep_number(numbers: &mut [u64; NUMBERS], field: &Field<'_>)
@@ -31,7 +31,7 @@ fn keep_number(numbers: &mut [u64; NUMBERS], field: &Field<'_>)
     }
 }
 
-// The last number of each field below 16, by the field's number: 0 where there is none.
+// The last number of each field below 32, by the field's number: 0 where there is none.
 pub(crate) fn numbers_of(body: &[u8], at: u64) -> Result<[u64; NUMBERS], SectionError>
     requires { at + length body.now < 2 ^ 64 }
     ensures { ReadsNumbers result (fields_of at body.now) }

@@ -1,4 +1,8 @@
-// The five kinds of section, as values.
+// The five kinds of section, as values, and the fields of those that hold numbers alone.
+ghost use Rattle.std.specs.Prelude.{◌≡◌};
+ghost use Rattle.cy_section.specs.Rows.{numbered, header_rows, chunk_header_rows};
+ghost use Rattle.cy_section.specs.Rows.{chunk_header_cache_rows, chunk_body_cache_rows};
+
 use cy_msg::{Bytes, Items, Text};
 
 /// The type of a section, as its head has it.
@@ -24,8 +28,9 @@ pub struct Head {
     pub size: u64,
 }
 
-/// The header of a record. Times and intervals are in nanoseconds, sizes and places in bytes.
-#[derive(Clone, Copy)]
+/// The header of a record. Times and intervals are in nanoseconds, sizes and places in bytes. By
+/// default every number in it is 0.
+#[derive(Clone, Copy, Default)]
 pub struct Header {
     pub major_version: u32,
     pub minor_version: u32,
@@ -50,6 +55,32 @@ pub struct Header {
     pub segment_raw_size: u64,
 }
 
+impl Header {
+    /// Its fields in the wire form: of each its number, and the number that it holds.
+    #[tactic(auto, unfolding(crate::specs::Rows::header_rows))]
+    pub fn fields(&self) -> [(u32, u64); 15]
+        ensures { result ≡ numbered (header_rows self.now) }
+    {
+        [
+            (1, u64::from(self.major_version)),
+            (2, u64::from(self.minor_version)),
+            (3, u64::from(self.compress)),
+            (4, self.chunk_interval),
+            (5, self.segment_interval),
+            (6, self.index_position),
+            (7, self.chunk_number),
+            (8, self.channel_number),
+            (9, self.begin_time),
+            (10, self.end_time),
+            (11, self.message_number),
+            (12, self.size),
+            (13, u64::from(self.is_complete)),
+            (14, self.chunk_raw_size),
+            (15, self.segment_raw_size),
+        ]
+    }
+}
+
 /// The header of a chunk.
 #[derive(Clone, Copy)]
 pub struct ChunkHeader {
@@ -60,6 +91,21 @@ pub struct ChunkHeader {
     pub message_number: u64,
     /// The bytes of its messages' contents together.
     pub raw_size: u64,
+}
+
+impl ChunkHeader {
+    /// Its fields in the wire form: of each its number, and the number that it holds.
+    #[tactic(auto, unfolding(crate::specs::Rows::chunk_header_rows))]
+    pub fn fields(&self) -> [(u32, u64); 4]
+        ensures { result ≡ numbered (chunk_header_rows self.now) }
+    {
+        [
+            (1, self.begin_time),
+            (2, self.end_time),
+            (3, self.message_number),
+            (4, self.raw_size),
+        ]
+    }
 }
 
 /// A message as a chunk's body has it.
@@ -104,10 +150,35 @@ pub struct ChunkHeaderCache {
     pub raw_size: u64,
 }
 
+impl ChunkHeaderCache {
+    /// Its fields in the wire form: of each its number, and the number that it holds.
+    #[tactic(auto, unfolding(crate::specs::Rows::chunk_header_cache_rows))]
+    pub fn fields(&self) -> [(u32, u64); 4]
+        ensures { result ≡ numbered (chunk_header_cache_rows self.now) }
+    {
+        [
+            (1, self.message_number),
+            (2, self.begin_time),
+            (3, self.end_time),
+            (4, self.raw_size),
+        ]
+    }
+}
+
 /// What the index keeps of a chunk's body.
 #[derive(Clone, Copy)]
 pub struct ChunkBodyCache {
     pub message_number: u64,
+}
+
+impl ChunkBodyCache {
+    /// Its fields in the wire form: of each its number, and the number that it holds.
+    #[tactic(auto, unfolding(crate::specs::Rows::chunk_body_cache_rows))]
+    pub fn fields(&self) -> [(u32, u64); 1]
+        ensures { result ≡ numbered (chunk_body_cache_rows self.now) }
+    {
+        [(1, self.message_number)]
+    }
 }
 
 /// An entry of the index: a section's type and the place of its head, and what is kept of it.

@@ -6,12 +6,13 @@ use Rattle.std.proofs.lemmas.List.{length-drop, drop-drop, drop_all, drop_at, ta
 use Rattle.cy_store.specs.Files.{Files, Holds}
 use Rattle.std.specs.FinMap.{get, insert}
 use Rattle.cy_store.specs.Write.{Create, after_writes, written_at}
-use Rattle.cy_wire.specs.Wire.{varint_within, varint_bytes}
+use Rattle.cy_wire.specs.Wire.{varint_within, varint_bytes, field_u64}
 use Rattle.cy_wire.proofs.Varints.{varint_within-small, varint_within-large, varint_within-zero, length-varint_bytes, some-varint_bytes}
 use Rattle.cy_section.specs.declared.types.SectionKind.TheVariants as kind
 use Rattle.cy_section.specs.declared.types.ChunkHeader.{ChunkHeader}
 use Rattle.cy_section.specs.declared.types.BodyMessage.{BodyMessage}
 use Rattle.cy_section.specs.declared.types.Channel.{Channel}
+use Rattle.cy_section.specs.Rows.{chunk_header_rows}
 use Rattle.cy_section.specs.Section.{section, header_section, chunk_header_body, channel_body, chunk_body}
 use Rattle.cy_section.specs.RecordText.{parts_of, index_section, incomplete_header, complete_header, chunk_header_of, chunk_header_part, chunk_body_part, greatest_time, raw_size}
 use Rattle.cy_piece.proofs.Lengths.{length-section}
@@ -46,8 +47,10 @@ varint_bytes-longer m n h = varint_within-longer 9 m n h
 length-chunk_header_body : (h : ChunkHeader) → length (chunk_header_body h)
     ≡ length (varint_bytes 8) + length (varint_bytes h.begin_time) + length (varint_bytes 16) + length (varint_bytes h.end_time)
     + length (varint_bytes 24) + length (varint_bytes h.message_number) + length (varint_bytes 32) + length (varint_bytes h.raw_size)
-unfolding chunk_header_body
-length-chunk_header_body h = simp length-append (omega arith)
+unfolding chunk_header_body chunk_header_rows
+length-chunk_header_body h =
+    let fields : chunk_header_body h ≡ field_u64 1 h.begin_time ++ (field_u64 2 h.end_time ++ (field_u64 3 h.message_number ++ (field_u64 4 h.raw_size ++ []))) = refl in
+    rw fields (simp length-append (omega arith))
 
 greatest_time-later : (xs ys : List BodyMessage) → greatest_time xs ≤ greatest_time (xs ++ ys)
 greatest_time-later [] ys = omega arith

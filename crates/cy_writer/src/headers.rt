@@ -27,20 +27,9 @@ pub(crate) fn incomplete() -> Header
 {
     Header {
         major_version: 1,
-        minor_version: 0,
-        compress: 0,
         chunk_interval: CHUNK_INTERVAL,
-        segment_interval: 0,
-        index_position: 0,
-        chunk_number: 0,
-        channel_number: 0,
-        begin_time: 0,
-        end_time: 0,
-        message_number: 0,
-        size: 0,
-        is_complete: false,
         chunk_raw_size: CHUNK_RAW_SIZE,
-        segment_raw_size: 0,
+        ..Header::default()
     }
 }
 

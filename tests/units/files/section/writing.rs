@@ -11,23 +11,22 @@ use cy_section::{
 use std::alloc::Global;
 use std::test::Fail;
 
-const HEADER: Header = Header {
-    major_version: 1,
-    minor_version: 0,
-    compress: 0,
-    chunk_interval: 20_000_000_000,
-    segment_interval: 0,
-    index_position: 2182,
-    chunk_number: 1,
-    channel_number: 2,
-    begin_time: 100,
-    end_time: 100,
-    message_number: 2,
-    size: 2271,
-    is_complete: true,
-    chunk_raw_size: 200_000_000,
-    segment_raw_size: 0,
-};
+fn header() -> Header {
+    Header {
+        major_version: 1,
+        chunk_interval: 20_000_000_000,
+        index_position: 2182,
+        chunk_number: 1,
+        channel_number: 2,
+        begin_time: 100,
+        end_time: 100,
+        message_number: 2,
+        size: 2271,
+        is_complete: true,
+        chunk_raw_size: 200_000_000,
+        ..Header::default()
+    }
+}
 
 const CHUNK_HEADER: ChunkHeader = ChunkHeader {
     begin_time: 100,
@@ -107,7 +106,7 @@ fn index(alloc: Global) -> Result<Index, NamesError> {
 /// Appends the section of this kind of the small record.
 fn put(alloc: Global, to: &mut Piece, kind: SectionKind) -> Result<(), Fail> {
     match kind {
-        SectionKind::Header => put_header(to, &HEADER)?,
+        SectionKind::Header => put_header(to, &header())?,
         SectionKind::ChunkHeader => put_chunk_header(to, &CHUNK_HEADER)?,
         SectionKind::ChunkBody => put_chunk_body(to, &chunk(alloc)?)?,
         SectionKind::Index => put_index(to, &index(alloc)?)?,
@@ -190,7 +189,7 @@ fn writes_messages_one_by_one(rt: HostRuntime) -> Result<(), Fail> {
 #[test]
 fn writes_all_or_nothing(rt: HostRuntime) {
     let mut piece = Piece::new(rt.alloc());
-    let header = put_header(&mut piece, &HEADER);
+    let header = put_header(&mut piece, &header());
     let before = piece.bytes().len();
     assert_eq!(rt; before, if header.is_ok() { 2064 } else { 0 });
     let message = put_message(&mut piece, "/in", 100, b"\x08\x0e");

@@ -1,6 +1,7 @@
 use Rattle.cy_read_back.proofs.HeadsRead.{head_at-head}
 use Rattle.cy_read_back.proofs.IndexRead.{index_at-body}
-use Rattle.cy_read_back.proofs.WrittenRead.{header_at-body, chunk_header_at-body, channel_at-body, chunk_body_at-body}
+use Rattle.cy_read_back.proofs.RowsRead.{header_at-body, chunk_header_at-body}
+use Rattle.cy_read_back.proofs.WrittenRead.{channel_at-body, chunk_body_at-body}
 use Rattle.cy_read_back.proofs.laws.sections_read_back.Goals as goal
 
 pub returns : goal.returns

@@ -11,7 +11,7 @@ use Rattle.cy_section.proofs.read.numbers_of.Goals as goal
 
 pub loop-field-init : goal.loop-field-init
 unfolding last_number
-loop-field-init c = ([], rw c.new-reader.ensures (none_before (fields_of c.args.at c.args.body.now)), refl, λ k few. get_or-zeros 16 k)
+loop-field-init c = ([], rw c.new-reader.ensures (none_before (fields_of c.args.at c.args.body.now)), refl, λ k few. get_or-zeros 32 k)
 
 pub returns-in_err-field : goal.returns-in_err-field
 returns-in_err-field c =
