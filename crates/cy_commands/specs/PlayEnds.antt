@@ -24,8 +24,8 @@ use Rattle.cy_commands.specs.declared.status.Status.{Status}
 use Rattle.cy_commands.specs.declared.status.Status.TheVariants.{StoreFault, Memory}
 use Rattle.cy_commands.specs.Lines.{store_line, memory_line}
 use Rattle.cy_words.specs.PlayWords.{PlayWords}
-use Rattle.cy_commands.specs.Commands.PlayWork.{IsRunOf, replayed_in, source_in, run_trace, play_writes}
-use Rattle.cy_commands.specs.Commands.PlayWork.{play_line}
+use Rattle.cy_commands.specs.Commands.PlayWork.{IsRunOf, replayed_in, source_in}
+use Rattle.cy_commands.specs.Commands.PlayWork.{play_line, play_writes, run_trace}
 
 -- What the files of a play come to: a replay, or an error.
 abbrev pub SetsUp : PlayWords → StoreView → StoreView → Result Replay SetupError → Type 0
