@@ -17,8 +17,8 @@ use Rattle.cy_commands.specs.declared.status.Status.TheVariants.{Done}
 use Rattle.cy_words.specs.CheckWords.{CheckWords}
 use Rattle.cy_words.specs.Command.{Check}
 use Rattle.cy_commands.specs.Commands.CheckWork.{IsCheckWork, checked_in}
-use Rattle.cy_commands.specs.CheckEnds.{IsTextOf}
-use Rattle.cy_commands.specs.Unset.{IsDueUnset}
+use Rattle.cy_commands.specs.private.CheckEnds.{IsTextOf}
+use Rattle.cy_commands.specs.private.Unset.{IsDueUnset}
 use Rattle.cy_commands.specs.Due.{IsDueFor}
 use Rattle.cy_commands.proofs.Refusing as refusing
 

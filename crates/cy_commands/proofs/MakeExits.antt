@@ -28,7 +28,7 @@ use Rattle.cy_words.specs.Command.{Make}
 use Rattle.cy_commands.specs.Work.{Work}
 use Rattle.cy_commands.specs.Due.{IsDueFor}
 use Rattle.cy_commands.specs.Lines.{store_line, memory_line}
-use Rattle.cy_commands.specs.MakeEnds.{IsMade, IsDueUnmade, IsDueUnplayed, result_suffix}
+use Rattle.cy_commands.specs.private.MakeEnds.{IsMade, IsDueUnmade, IsDueUnplayed, result_suffix}
 use Rattle.cy_words.specs.MakeWords.{MakeWords}
 use Rattle.cy_commands.specs.Commands.MakeWork.{IsMakeWork, made_files, play_made}
 use Rattle.cy_commands.specs.PlayEnds.{HasRun, IsLine, name_of_play, source_by, writes_by}

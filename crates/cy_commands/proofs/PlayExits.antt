@@ -22,7 +22,7 @@ use Rattle.cy_commands.specs.declared.failure.Failure.{Failure}
 use Rattle.cy_commands.specs.declared.failure.Failure.TheVariants as failure
 use Rattle.cy_commands.specs.declared.status.Status.{Status}
 use Rattle.cy_commands.specs.declared.status.Status.TheVariants.{Done}
-use Rattle.cy_commands.specs.Unset.{IsDueUnset}
+use Rattle.cy_commands.specs.private.Unset.{IsDueUnset}
 use Rattle.cy_words.specs.Command.{Play}
 use Rattle.cy_commands.specs.Work.{IsMadeOf, Work}
 use Rattle.cy_commands.specs.Due.{IsDueFor}

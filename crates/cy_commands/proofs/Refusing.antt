@@ -16,7 +16,7 @@ use Rattle.cy_commands.specs.declared.status.Status.TheVariants.{Done, Refused, 
 use Rattle.cy_commands.specs.Due.{IsDueFor, RefusesFiles}
 use Rattle.cy_commands.specs.Commands.{IsAbsent, IsAccepted, IsReadBy, IsRefused, outcome_of}
 use Rattle.cy_commands.specs.Refused.{IsRefusal}
-use Rattle.cy_commands.specs.Unset.{IsStarved, IsDueUnset}
+use Rattle.cy_commands.specs.private.Unset.{IsStarved, IsDueUnset}
 use Rattle.cy_commands.specs.Work.{IsMadeOf, Work}
 
 -- the store is as it was

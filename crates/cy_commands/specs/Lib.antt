@@ -1,12 +1,10 @@
+pub mod private
 pub mod Begun
-pub mod CheckEnds
 pub mod Commands
 pub mod Due
 pub mod Line
 pub mod Lines
-pub mod MakeEnds
 pub mod PlayEnds
 pub mod Refused
 pub mod Status
-pub mod Unset
 pub mod Work

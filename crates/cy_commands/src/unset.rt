@@ -3,7 +3,7 @@ ghost use Rattle.std.specs.Prelude.{◌≡◌, IfOk};
 ghost use Rattle.cy_commands.specs.Line.{bytes_of_line};
 ghost use Rattle.cy_commands.specs.Lines.{store_line as line_of_store};
 ghost use Rattle.cy_commands.specs.Status.{fault_status};
-ghost use Rattle.cy_commands.specs.Unset.{IsDueUnset};
+ghost use Rattle.cy_commands.specs.private.Unset.{IsDueUnset};
 
 use crate::due::{Due, out_of_memory};
 use crate::fault_text::STORE_FAILED;

@@ -7,7 +7,7 @@ use Rattle.std.proofs.lemmas.Option.{none-some}
 use Rattle.std.specs.Int.{w64, w128}
 use Rattle.circular_buffer.specs.Buffer.{Buffer, buffer, keep_last}
 use Rattle.cy_comp.specs.Step.{sum_of}
-use Rattle.cy_comp.specs.Sums.{IsNear}
+use Rattle.cy_comp.specs.private.Sums.{IsNear}
 
 -- each value is a signed number of 64 bits
 abbrev pub AreSmall : List ℤ → Type 0

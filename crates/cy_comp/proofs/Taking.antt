@@ -10,7 +10,7 @@ use Rattle.cy_comp.specs.Step.{Kept, opening_of, step, kept_after, outcome_after
 use Rattle.cy_comp.specs.Calls.{tuples_of, cursor_after}
 use Rattle.cy_comp.specs.Body.{BodyView}
 use Rattle.cy_comp.specs.Routine.{RoutineView, taken}
-use Rattle.cy_comp.specs.Keeping.{IsRoutine}
+use Rattle.cy_comp.specs.private.Keeping.{IsRoutine}
 
 kept_after-push : (k : Kind) (kept : Kept) (tuples : List Tuple) (t : Tuple) → kept_after k kept (tuples ++ t ∷ []) ≡ (step k (kept_after k kept tuples) t).0
 kept_after-push k kept [] t = refl

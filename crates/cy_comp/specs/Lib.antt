@@ -1,10 +1,8 @@
+pub mod private
 pub mod Kind
 pub mod Step
 pub mod Laws
-pub mod Sums
 pub mod Body
-pub mod Class
 pub mod Calls
 pub mod Routine
-pub mod Keeping
 pub mod Wiring

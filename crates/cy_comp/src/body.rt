@@ -39,7 +39,7 @@ impl Model for Body {
 
     ghost Value = { BodyView };
 
-    ghost use Rattle.cy_comp.specs.Class.{body_of};
+    ghost use Rattle.cy_comp.specs.private.Class.{body_of};
 
     ghost view = { λ b. body_of b.class };
 }

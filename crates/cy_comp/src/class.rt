@@ -2,7 +2,7 @@
 ghost use Rattle.std.specs.Prelude.{◌≡◌};
 ghost use Rattle.cy_comp.specs.declared.class.Class.TheVariants as class;
 ghost use Rattle.cy_comp.specs.Step.{counted as number_with};
-ghost use Rattle.cy_comp.specs.Class.{Steps};
+ghost use Rattle.cy_comp.specs.private.Class.{Steps};
 
 use crate::messages::{
     first_message, makes, passed_on_at, passes, second_message, sum_of_values, third_message,
@@ -47,7 +47,7 @@ const LAST_WAKE: u64 = u64::MAX - 1;
 impl Class {
     ghost use Rattle.std.specs.Prelude.{◌≡◌, IfOk};
     ghost use Rattle.cy_comp.specs.Body.{new_body};
-    ghost use Rattle.cy_comp.specs.Class.{body_of, Steps};
+    ghost use Rattle.cy_comp.specs.private.Class.{body_of, Steps};
 
     /// The state before the first call.
     pub(crate) fn new(alloc: Global, kind: Kind) -> Result<Self, CompError>

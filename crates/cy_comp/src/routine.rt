@@ -29,7 +29,7 @@ impl Model for Routine {
 
     ghost Value = { RoutineView };
 
-    ghost use Rattle.cy_comp.specs.Keeping.{IsRoutine};
+    ghost use Rattle.cy_comp.specs.private.Keeping.{IsRoutine};
 
     ghost view = { λ r. record {
       kind = r.body.kind;

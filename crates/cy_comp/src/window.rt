@@ -4,7 +4,7 @@ ghost use Rattle.std.specs.Prelude.{◌≡◌, ◌<◌, ◌≤◌, ◌^◌, ◌+
 ghost use Rattle.std.specs.Prelude.{slice_get, FitsSigned, IfOk, []};
 ghost use Rattle.circular_buffer.specs.Buffer.{buffer, keep_last};
 ghost use Rattle.cy_comp.specs.Step.{sum_of, held_sum, held_within};
-ghost use Rattle.cy_comp.specs.Sums.{IsNear};
+ghost use Rattle.cy_comp.specs.private.Sums.{IsNear};
 
 use crate::CompError;
 use circular_buffer::HeapCircularBuffer;

@@ -6,7 +6,7 @@ use Rattle.std.proofs.lemmas.Slice.Eq.{bytes_eq-Decides}
 use Rattle.std.proofs.lemmas.Option.{none-some}
 use Rattle.std.proofs.lemmas.Bool.{false≢true, ltb-false}
 use Rattle.cy_config.specs.declared.tally.Met.{Met}
-use Rattle.cy_config.specs.Tallies.{times_of}
+use Rattle.cy_config.specs.private.Tallies.{times_of}
 
 abbrev pub is_name : List ℕ → Met → Bool
 is_name name m = bytes_eq m.name.now name

@@ -1,6 +1,6 @@
+pub mod private
 pub mod Checks
 pub mod Kinds
 pub mod Lookups
 pub mod Refusals
 pub mod Tables
-pub mod Tallies

@@ -2,7 +2,7 @@
 ghost use Rattle.std.specs.Prelude.{◌≡◌, ◌<◌, [], IfOk, OnOk};
 ghost use Rattle.std.specs.List.{position};
 ghost use Rattle.std.specs.Str.{bytes_eq};
-ghost use Rattle.cy_config.specs.Tallies.{Counts, times_of};
+ghost use Rattle.cy_config.specs.private.Tallies.{Counts, times_of};
 
 use std::alloc::{AllocError, Global};
 

@@ -9,7 +9,7 @@ use Rattle.cy_msg.specs.declared.token.Token.{Token}
 use Rattle.cy_msg.specs.declared.token.Tuple.{Tuple}
 use Rattle.cy_fuse.specs.Fusion.{Arrival, latest, latest_of, joined, added, fused}
 use Rattle.cy_fuse.specs.Cache.{Cache, cache_of, filled}
-use Rattle.cy_fuse.specs.Visiting.{message_at, messages_at, tuple_at, JoinsLast, IsVisitor}
+use Rattle.cy_fuse.specs.private.Visiting.{message_at, messages_at, tuple_at, JoinsLast, IsVisitor}
 use Rattle.cy_fuse.proofs.Fusing.{fused-push, latest-push}
 use Rattle.cy_fuse.proofs.Placed.{message-stays, message-last, tuple-kept, latest_of-others, messages-latest, messages-some, latest_of-none}
 

@@ -7,7 +7,7 @@ use Rattle.circular_buffer.proofs.Places.{slice_get-append_left, slice_get-last,
 use Rattle.cy_msg.specs.declared.token.Token.{Token}
 use Rattle.cy_msg.specs.declared.token.Tuple.{Tuple}
 use Rattle.cy_fuse.specs.Fusion.{Arrival, latest, latest_of, joined}
-use Rattle.cy_fuse.specs.Visiting.{message_at, messages_at, tuple_at, kept_of}
+use Rattle.cy_fuse.specs.private.Visiting.{message_at, messages_at, tuple_at, kept_of}
 use Rattle.cy_fuse.proofs.Fusing.{latest-push}
 
 -- the message of an arrival, of which there is one within the arrivals alone, and the last one

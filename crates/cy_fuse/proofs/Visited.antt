@@ -11,7 +11,7 @@ use Rattle.cy_fuse.specs.Fusion.{Arrival, fused, joined}
 use Rattle.cy_fuse.specs.Fetch.{fetch}
 use Rattle.cy_fuse.specs.Cache.{Cache, cache_of, item_at, fetched}
 use Rattle.cy_fuse.specs.Visitor.{VisitorView, tuples_at, visited}
-use Rattle.cy_fuse.specs.Visiting.{message_at, tuple_at, IsVisitor}
+use Rattle.cy_fuse.specs.private.Visiting.{message_at, tuple_at, IsVisitor}
 use Rattle.cy_fuse.proofs.Fetched.{fetch_found}
 
 -- the places that a fetch found are those of a tuple, which is the one of the number

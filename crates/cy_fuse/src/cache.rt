@@ -26,7 +26,7 @@ impl<T: Copy> Model for CacheBuffer<T> {
 
     ghost coded = { cache_code T.code };
 
-    ghost use Rattle.cy_fuse.specs.Caching.{IsCache};
+    ghost use Rattle.cy_fuse.specs.private.Caching.{IsCache};
 
     ghost view = { λ b. record { size = b.size; tail = b.tail; kept = b.items.items } };
 

@@ -4,7 +4,7 @@ ghost use Rattle.std.specs.Prelude.{IsNone, IsSome, is_some, Some, vec_len, vec_
 ghost use Rattle.std.specs.Prelude.{option_map};
 ghost use Rattle.cy_msg.specs.declared.token.Tuple.TheVariants.{One};
 ghost use Rattle.cy_fuse.specs.Visitor.{prepared, arrived, visited, position_at, index_after};
-ghost use Rattle.cy_fuse.specs.Visiting.{message_at, tuple_at, JoinsLast};
+ghost use Rattle.cy_fuse.specs.private.Visiting.{message_at, tuple_at, JoinsLast};
 
 use crate::{CacheBuffer, Cursor, FuseError, fetch_at};
 use cy_msg::{Token, Tuple};
@@ -46,7 +46,7 @@ impl Model for Visitor {
 
     ghost Value = { VisitorView };
 
-    ghost use Rattle.cy_fuse.specs.Visiting.{IsVisitor};
+    ghost use Rattle.cy_fuse.specs.private.Visiting.{IsVisitor};
 
     ghost view = { λ v. record {
       queue = v.tuples.size;

@@ -13,7 +13,7 @@ use Rattle.cy_writer.specs.Messages.{Message}
 use Rattle.cy_writer.specs.Record.{numbered, messages_on, HaveChannels}
 use Rattle.cy_writer.proofs.RecordChunks.{are_chunks_given}
 use Rattle.cy_make.specs.Messages.{channel_on, time_of, value_of, untyped, channels_of, messages_after, messages_to}
-use Rattle.cy_make.specs.Steps.{number_on, given_of, given_after}
+use Rattle.cy_make.specs.private.Steps.{number_on, given_of, given_after}
 use Rattle.cy_make.specs.Inputs.{record_name, made_chunks, made_record}
 
 -- The channels.

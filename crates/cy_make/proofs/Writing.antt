@@ -20,7 +20,7 @@ use Rattle.cy_make.specs.declared.error.MakeError.{MakeError}
 use Rattle.cy_make.specs.declared.error.MakeError.TheVariants as make_error
 use Rattle.cy_make.specs.declared.config.Config.{Config}
 use Rattle.cy_make.specs.Messages.{channels_of, messages_to}
-use Rattle.cy_make.specs.Steps.{given_after}
+use Rattle.cy_make.specs.private.Steps.{given_after}
 use Rattle.cy_make.specs.Texts.{suffix_of, text_of}
 use Rattle.cy_make.specs.Inputs.{record_name, config_writes, made_record_writes, Stops, IsAtFile, MakesFiles}
 use Rattle.cy_make.proofs.RecordText.{messages_shown}

@@ -1,7 +1,7 @@
 // The messages of the record, given one after another.
 ghost use Rattle.std.specs.Prelude.{◌≡◌, ◌≤◌};
 ghost use Rattle.cy_make.specs.Messages.{time_of};
-ghost use Rattle.cy_make.specs.Steps.{CanGoOn, giving_of, given_after, number_on};
+ghost use Rattle.cy_make.specs.private.Steps.{CanGoOn, giving_of, given_after, number_on};
 
 use crate::value::value_at;
 use cy_wire::{WireError, Writer, put_whole};

@@ -2,7 +2,7 @@
 ghost use Rattle.std.specs.Prelude.{◌≡◌, ◌≤◌};
 ghost use Rattle.cy_writer.specs.Record.{WritesRecord, channel_shown, channels_shown};
 ghost use Rattle.cy_make.specs.Messages.{channels_of, untyped};
-ghost use Rattle.cy_make.specs.Steps.{given_after};
+ghost use Rattle.cy_make.specs.private.Steps.{given_after};
 
 use crate::messages::MadeMessages;
 use cy_store::Store;

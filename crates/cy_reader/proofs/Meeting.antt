@@ -8,7 +8,7 @@ use Rattle.cy_reader.specs.declared.known.Known.{Known}
 use Rattle.cy_reader.specs.declared.error.LoadError.{LoadError}
 use Rattle.cy_reader.specs.Sections.{WholeSection, Sections, section_at, sections_in, and_those_behind}
 use Rattle.cy_reader.specs.Record.{◌>>=◌, fault_of, Met, channel_given, channel_met, message_met, messages_met, body_met, section_met, sections_met}
-use Rattle.cy_reader.specs.Loading.{Leads, unless_ended}
+use Rattle.cy_reader.specs.private.Loading.{Leads, unless_ended}
 
 messages_met-append : (xs ys : List PlacedMessage) (c : Met) → messages_met (xs ++ ys) c ≡ messages_met xs c >>= messages_met ys
 messages_met-append [] ys c = refl

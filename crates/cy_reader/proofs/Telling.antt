@@ -17,9 +17,9 @@ use Rattle.cy_reader.specs.declared.facts.IndexFound.TheVariants.{Absent, Cut, U
 use Rattle.cy_reader.specs.declared.loading.Loading.{Loading}
 use Rattle.cy_reader.specs.Heads.{PlacedIndex}
 use Rattle.cy_reader.specs.Record.{Contents, Source, shown}
-use Rattle.cy_reader.specs.Loading.{met_of, message_of}
+use Rattle.cy_reader.specs.private.Loading.{met_of, message_of}
 use Rattle.cy_reader.specs.Info.{least, greatest, numbered, is_head, count_on, channels_of, times_of, counted, channel_line, channel_lines, entry_line, entry_difference, index_differences, file_line, front_lines, index_line, header_differences, index_found, info_text}
-use Rattle.cy_reader.specs.Facts.{AreFacts, AreCounts, ArePlaces, counted_line, placed_line, placed_lines}
+use Rattle.cy_reader.specs.private.Facts.{AreFacts, AreCounts, ArePlaces, counted_line, placed_line, placed_lines}
 use Rattle.cy_reader.proofs.Playing.{filter-short}
 
 -- a further time

@@ -13,7 +13,7 @@ use Rattle.std.proofs.lemmas.List.Quantifiers.{position-Some}
 use Rattle.std.proofs.lemmas.Slice.Eq.{bytes_eq-Decides}
 use Rattle.cy_reader.specs.declared.known.Known.{Known}
 use Rattle.cy_reader.specs.Record.{number_of, named_only}
-use Rattle.cy_reader.specs.Loading.{KeepsNumber}
+use Rattle.cy_reader.specs.private.Loading.{KeepsNumber}
 use Rattle.cy_reader.proofs.Sums.{position-added}
 
 -- an item behind others that doesn't pass

@@ -1,15 +1,11 @@
-pub mod Facts
+pub mod private
 pub mod FaultText
-pub mod Found
 pub mod Heads
 pub mod Info
-pub mod Kept
 pub mod Load
-pub mod Loading
 pub mod Named
 pub mod Play
 pub mod Record
 pub mod Sections
 pub mod Stands
 pub mod Tiling
-pub mod Uses

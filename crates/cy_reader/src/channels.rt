@@ -3,7 +3,8 @@ ghost use Rattle.std.specs.Prelude.{◌≡◌, ◌≢◌, ◌≤◌, ◌<◌, �
 ghost use Rattle.std.specs.Prelude.{sum_by, IfOk, IfErr, OnOk, IsOkUnless, Some, None, Err, true};
 ghost use Rattle.cy_reader.specs.Record.{size_of, number_of, within_limits, named_only};
 ghost use Rattle.cy_reader.specs.Record.{channel_given, name_mentioned};
-ghost use Rattle.cy_reader.specs.Loading.{AreSmall, IsTied, KeepsNumber, Grows, Mentions, Leads};
+ghost use Rattle.cy_reader.specs.private.Loading.{AreSmall, IsTied, KeepsNumber, Grows, Mentions};
+ghost use Rattle.cy_reader.specs.private.Loading.{Leads};
 
 use crate::LoadError;
 use crate::known::Known;

@@ -3,10 +3,10 @@ ghost use Rattle.std.specs.Prelude.{◌≡◌, ◌<◌, ◌^◌, ◌+◌, All, l
 ghost use Rattle.std.specs.Prelude.{IsOkUnless};
 ghost use Rattle.std.specs.Prelude.{slice_index_or as get_or};
 ghost use Rattle.std.specs.Option.{option_map};
-ghost use Rattle.cy_reader.specs.Kept.{seen_index};
+ghost use Rattle.cy_reader.specs.private.Kept.{seen_index};
 ghost use Rattle.cy_reader.specs.Info.{least, greatest, chunk_bodies, index_place, counted};
 ghost use Rattle.cy_reader.specs.Info.{index_found};
-ghost use Rattle.cy_reader.specs.Facts.{AreCounts, ArePlaces};
+ghost use Rattle.cy_reader.specs.private.Facts.{AreCounts, ArePlaces};
 
 use crate::LoadError;
 use crate::heads::{IndexView, PlacedHead};

@@ -1,7 +1,7 @@
 // Reads the header of a record's file.
 ghost use Rattle.std.specs.Prelude.{◌≤◌, ◌+◌, length, IfOk, IfErr, ◌≢◌};
 ghost use Rattle.cy_msg.specs.Answer.{Answers};
-ghost use Rattle.cy_reader.specs.Kept.{HasLength};
+ghost use Rattle.cy_reader.specs.private.Kept.{HasLength};
 ghost use Rattle.cy_reader.specs.Record.{fields_header, sized_header, file_header, header_end};
 
 use crate::LoadError;

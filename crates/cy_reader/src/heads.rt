@@ -2,10 +2,10 @@
 ghost use Rattle.std.specs.Prelude.{◌≡◌, ◌≤◌, ◌+◌, length, drop, IfOk, IfSome, IsOkUnless};
 ghost use Rattle.std.specs.Option.{option_map};
 ghost use Rattle.byteorder.specs.Endian.{little_number};
-ghost use Rattle.cy_reader.specs.Found.{seen_section};
+ghost use Rattle.cy_reader.specs.private.Found.{seen_section};
 ghost use Rattle.cy_reader.specs.Heads.{whole_at, index_at, header_head, whole_heads};
 ghost use Rattle.cy_reader.specs.Heads.{heads_of};
-ghost use Rattle.cy_reader.specs.Kept.{EndsThere, seen_index};
+ghost use Rattle.cy_reader.specs.private.Kept.{EndsThere, seen_index};
 ghost use Rattle.cy_reader.specs.Record.{header_end};
 ghost use Rattle.cy_reader.specs.Stands.{Stands};
 

@@ -6,7 +6,7 @@ ghost use Rattle.cy_reader.specs.Info.{front_lines, index_line, channel_line};
 ghost use Rattle.cy_reader.specs.Info.{header_difference, number_differences};
 ghost use Rattle.cy_reader.specs.Info.{message_differences, header_differences, numbered};
 ghost use Rattle.cy_reader.specs.Info.{entry_line};
-ghost use Rattle.cy_reader.specs.Facts.{counted_line, has_head, placed_line, placed_lines};
+ghost use Rattle.cy_reader.specs.private.Facts.{counted_line, has_head, placed_line, placed_lines};
 
 use crate::facts::{Counted, IndexFound};
 use crate::known::Known;

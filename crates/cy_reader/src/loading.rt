@@ -5,11 +5,11 @@ ghost use Rattle.cy_msg.specs.Answer.{AnswersOr};
 ghost use Rattle.cy_section.specs.Messages.{seen};
 ghost use Rattle.cy_reader.specs.Record.{message_met, body_met};
 ghost use Rattle.cy_reader.specs.Record.{section_met, sections_met, parts_of, header_end, nothing};
-ghost use Rattle.cy_reader.specs.Kept.{IsLoaded};
-ghost use Rattle.cy_reader.specs.Loading.{IsSound, Leads, unless_ended, noted, met_of};
+ghost use Rattle.cy_reader.specs.private.Kept.{IsLoaded};
+ghost use Rattle.cy_reader.specs.private.Loading.{IsSound, Leads, unless_ended, noted, met_of};
 ghost use Rattle.cy_reader.specs.Stands.{Stands};
 ghost use Rattle.cy_reader.specs.Sections.{sections_from};
-ghost use Rattle.cy_reader.specs.Found.{seen_section};
+ghost use Rattle.cy_reader.specs.private.Found.{seen_section};
 ghost use Rattle.cy_wire.specs.Field.{fields_of};
 ghost use Rattle.cy_section.specs.Reading.{messages_of};
 

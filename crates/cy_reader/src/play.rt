@@ -6,8 +6,8 @@ ghost use Rattle.std.specs.List.Sorted.{IsPermutation};
 ghost use Rattle.cy_msg.specs.Once.{IsOnce};
 ghost use Rattle.cy_reader.specs.Play.{AreNamed, PlayAnswer, all_places, time_at, number_in};
 ghost use Rattle.cy_reader.specs.Play.{message_at, tokens_behind};
-ghost use Rattle.cy_reader.specs.Uses.{AreUses, use_of, use_at, number_by};
-ghost use Rattle.cy_reader.specs.Uses.{ArePassed, LooksAt, AreInOrder};
+ghost use Rattle.cy_reader.specs.private.Uses.{AreUses, use_of, use_at, number_by};
+ghost use Rattle.cy_reader.specs.private.Uses.{ArePassed, LooksAt, AreInOrder};
 
 use crate::{ChannelSet, LoadError, Record};
 use cy_msg::{Items, Names, PlayList, Token};

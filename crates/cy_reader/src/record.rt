@@ -5,7 +5,7 @@ ghost use Rattle.std.specs.Prelude.{◌≢◌, IfOk, IfErr, IsOkUnless};
 ghost use Rattle.cy_msg.specs.Answer.{AnswersOr};
 ghost use Rattle.cy_reader.specs.Record.{record_of};
 ghost use Rattle.cy_reader.specs.Info.{info_text};
-ghost use Rattle.cy_reader.specs.Facts.{AreFacts};
+ghost use Rattle.cy_reader.specs.private.Facts.{AreFacts};
 ghost use Rattle.cy_reader.specs.Load.{FileAnswer, LoadAnswer};
 ghost use Rattle.cy_reader.specs.Play.{message_at, time_at};
 
@@ -35,8 +35,8 @@ pub struct Record {
 
 impl Model for Record {
     ghost use Rattle.cy_reader.specs.Record.{Contents, shown};
-    ghost use Rattle.cy_reader.specs.Loading.{met_of};
-    ghost use Rattle.cy_reader.specs.Kept.{IsKept, kept_source};
+    ghost use Rattle.cy_reader.specs.private.Loading.{met_of};
+    ghost use Rattle.cy_reader.specs.private.Kept.{IsKept, kept_source};
 
     ghost Value = { Contents };
 

@@ -2,7 +2,7 @@
 ghost use Rattle.std.specs.Prelude.{◌≡◌, ◌≤◌, ◌+◌, length, drop, IfOk, IfSome};
 ghost use Rattle.cy_section.specs.Head.{head_at};
 ghost use Rattle.cy_reader.specs.Sections.{sized_section, with_head, section_at};
-ghost use Rattle.cy_reader.specs.Found.{GivesSection};
+ghost use Rattle.cy_reader.specs.private.Found.{GivesSection};
 ghost use Rattle.cy_reader.specs.Stands.{Stands};
 
 use byteorder::{ByteOrder, LittleEndian};

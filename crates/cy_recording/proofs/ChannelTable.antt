@@ -18,7 +18,7 @@ use Rattle.cy_msg.specs.declared.token.Token.{Token}
 use Rattle.cy_reader.proofs.Sums.{position-added}
 use Rattle.cy_dag.proofs.NameSteps.{none_passes}
 use Rattle.cy_recording.specs.Recording.{with_number, numbers_after}
-use Rattle.cy_recording.specs.RecordSteps.{AreNumbered}
+use Rattle.cy_recording.specs.private.RecordSteps.{AreNumbered}
 
 eqb_same : (n : ℕ) → eqb n n ≡ true
 eqb_same n = by (eqb_tells n n)

@@ -22,7 +22,7 @@ use Rattle.cy_writer.specs.Writes.{Makes}
 use Rattle.cy_writer.specs.declared.error.WriteError.{WriteError}
 use Rattle.cy_reader.specs.Named.{as_read, known_as}
 use Rattle.cy_recording.specs.Recording.{Source, IsWritable, channel_of, as_written, content_of, message_of, numbers_after, channels_of_tape, messages_of_tape, chunks_of_tape}
-use Rattle.cy_recording.specs.RecordSteps.{ArePlaced, given_of, all_given}
+use Rattle.cy_recording.specs.private.RecordSteps.{ArePlaced, given_of, all_given}
 use Rattle.cy_recording.proofs.ChannelTable.{place_of}
 
 -- a channel has its name

@@ -1,3 +1,3 @@
+pub mod private
 pub mod RecordLaws
-pub mod RecordSteps
 pub mod Recording

@@ -38,7 +38,7 @@ use Rattle.cy_replay.specs.Comes.{ComesTo, IsJudged}
 use Rattle.cy_replay.specs.Configuration as files
 use Rattle.cy_replay.specs.Configuration.{Configured, configuration_in}
 use Rattle.cy_replay.specs.Faults.{in_file, unless}
-use Rattle.cy_replay.specs.Judged.{judged_over}
+use Rattle.cy_replay.specs.private.Judged.{judged_over}
 use Rattle.cy_replay.specs.Listing.{AreCounts, record_in, channels_of, choice_of, counts_of, played_in, planned_in}
 use Rattle.cy_replay.specs.Passing.{passing, type_read}
 use Rattle.cy_request.specs.Request.{Components, Request, OfFiles, OfPass}

@@ -1,8 +1,8 @@
+pub mod private
 pub mod Comes
 pub mod Configuration
 pub mod FaultText
 pub mod Faults
-pub mod Judged
 pub mod Listing
 pub mod Passing
 pub mod Setup

@@ -5,7 +5,7 @@ ghost use Rattle.cy_replay.specs.Comes.{ComesTo, IsJudged};
 ghost use Rattle.cy_request.specs.Request.{HasReader, OfFiles, OfPass, request_of};
 ghost use Rattle.cy_replay.specs.Setup.{IsAsked, IsAskedBy, IsSetUp};
 ghost use Rattle.cy_replay.specs.Setup.{configured_in, judged_in, passed_in, replay_in, replayed};
-ghost use Rattle.cy_replay.specs.Judged.{judged_as, judged_over, replay_of};
+ghost use Rattle.cy_replay.specs.private.Judged.{judged_as, judged_over, replay_of};
 ghost use Rattle.cy_replay.specs.Listing.{channels_of};
 ghost use Rattle.cy_replay.specs.Steps.{configured};
 ghost use Rattle.cy_replay.specs.Wiring.{IsWiredBy, wired_by, wired_of, wiring_in};

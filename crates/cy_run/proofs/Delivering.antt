@@ -7,7 +7,7 @@ use Rattle.wake_core.specs.declared.route.Route.{Route}
 use Rattle.wake_core.specs.Run.{readers_from, roles_of}
 use Rattle.cy_table.specs.Seats.{Seat, Visit}
 use Rattle.cy_table.specs.Steps.{filling}
-use Rattle.cy_run.specs.Sending.{delivered, filled_all, triggered, fills_at, fills_in, news_at, is_first}
+use Rattle.cy_run.specs.private.Sending.{delivered, filled_all, triggered, fills_at, fills_in, news_at, is_first}
 
 -- The readers from one role of a component on.
 pub role_filled : (routes : List Route) (ch c j : ℕ) (readers : List ℕ) → j < length readers → get_or readers j 0 ≡ ch → fills_in routes ch c j readers ≡ (c, j) ∷ fills_in routes ch c (j + 1) readers

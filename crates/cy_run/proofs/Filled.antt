@@ -12,7 +12,7 @@ use Rattle.cy_table.specs.Calls.{made_of, seat_of, thread_of, knowing, Stays, Ca
 use Rattle.cy_comp.specs.declared.plan.Plan.{Plan}
 use Rattle.wake_core.specs.Run.{route_of, routes_of}
 use Rattle.cy_run.specs.Passes.{IsMadeOf}
-use Rattle.cy_run.specs.Sending.{delivered, filled_all, triggered, fills_at, fills_in, news_at, is_first, IsReadBy, Owes, Fills, FillsOn, Tells, TellsOn}
+use Rattle.cy_run.specs.private.Sending.{delivered, filled_all, triggered, fills_at, fills_in, news_at, is_first, IsReadBy, Owes, Fills, FillsOn, Tells, TellsOn}
 use Rattle.cy_run.proofs.Delivering.{role_filled, filled_news, filled_is, component_begun, news_begun}
 
 pub inside_is : (routes : List Route) (c : ℕ) (x : Route) → slice_get routes c ≡ Some x → c < length routes

@@ -1,6 +1,5 @@
+pub mod private
 pub mod Passes
-pub mod Sending
-pub mod Serving
 pub mod Playing
 pub mod Working
 pub mod Driving

@@ -2,8 +2,8 @@
 ghost use Rattle.std.specs.Prelude.{◌+◌, ◌≡◌, []};
 ghost use Rattle.cy_table.specs.Calls.{made_of, seat_of, thread_of, knowing, Stays};
 ghost use Rattle.cy_run.specs.Passes.{IsMadeOf};
-ghost use Rattle.cy_run.specs.Sending.{Owes, delivered, fills_at, fills_in, news_at};
-ghost use Rattle.cy_run.specs.Sending.{Fills, FillsOn, Tells, TellsOn, IsReadBy, is_first};
+ghost use Rattle.cy_run.specs.private.Sending.{Owes, delivered, fills_at, fills_in, news_at};
+ghost use Rattle.cy_run.specs.private.Sending.{Fills, FillsOn, Tells, TellsOn, IsReadBy, is_first};
 
 use crate::Idle;
 use cy_comp::Wiring;

@@ -3,7 +3,7 @@ ghost use Rattle.std.specs.Prelude.{◌<◌, IfSome, IfNone};
 ghost use Rattle.cy_table.specs.Calls.{seat_of, Stays};
 ghost use Rattle.cy_ctx.specs.Scan.{MayScan};
 ghost use Rattle.cy_run.specs.Passes.{IsMadeOf, IsFree};
-ghost use Rattle.cy_run.specs.Serving.{IsReady};
+ghost use Rattle.cy_run.specs.private.Serving.{IsReady};
 ghost use Rattle.cy_run.specs.Working.{EndsInVain, IsOrderOf, MayWork};
 
 use crate::serve::serve;

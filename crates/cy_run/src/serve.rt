@@ -6,7 +6,7 @@ ghost use Rattle.wake_core.specs.Events.{state_after};
 ghost use Rattle.wake_core.specs.Turns.{is_held};
 ghost use Rattle.cy_table.specs.Calls.{Stays, IsStepped, ShowsTheSame, routine_of, to_step};
 ghost use Rattle.cy_run.specs.Passes.{IsMadeOf, IsFree, IsInPhase};
-ghost use Rattle.cy_run.specs.Serving.{IsReady, HoldsNone, MaySendOut, IsSent, IsSentOut};
+ghost use Rattle.cy_run.specs.private.Serving.{IsReady, HoldsNone, MaySendOut, IsSent, IsSentOut};
 
 use crate::deliver::{deliver, triggered_by};
 use crate::{Gate, Idle};

@@ -15,7 +15,7 @@ use Rattle.cy_msg.specs.Once.{IsOnce}
 use Rattle.cy_msg.specs.Placement.{scan_of}
 use Rattle.cy_msg.specs.declared.placement.ContextPlan.{ContextPlan}
 use Rattle.cy_sched.specs.Placing.{HaveOrders, IsOrder, home_in, in_group, is_before, is_member, members_of, numbers_below}
-use Rattle.cy_sched.specs.Ranks.{HaveRanks}
+use Rattle.cy_sched.specs.private.Ranks.{HaveRanks}
 use Rattle.cy_sched.specs.declared.home.Home.{Home}
 
 -- Elements that pass a test twice.

@@ -7,7 +7,7 @@ ghost use Rattle.cy_msg.specs.Placement.{scan_of};
 ghost use Rattle.cy_sched.specs.Placing.{HaveOrders, IsOrder, IsPlaced, choreography_heads};
 ghost use Rattle.cy_sched.specs.Placing.{group_head, head_of, heads_of, is_member, members_of};
 ghost use Rattle.cy_sched.specs.Placing.{numbers_below, pinned_head};
-ghost use Rattle.cy_sched.specs.Ranks.{HaveRanks};
+ghost use Rattle.cy_sched.specs.private.Ranks.{HaveRanks};
 ghost use Rattle.cy_sched.specs.SchedFile.{IsPlaceable};
 ghost use Rattle.cy_sched.specs.declared.error.SchedError.TheVariants as sched_error;
 

@@ -1,3 +1,4 @@
+pub mod private
 pub mod Rows
 pub mod Section
 pub mod Chunks
@@ -5,6 +6,4 @@ pub mod RecordText
 pub mod Head
 pub mod Reading
 pub mod Messages
-pub mod Channels
-pub mod Entries
 pub mod FaultText

@@ -4,7 +4,7 @@ ghost use Rattle.std.specs.Option.{option_map};
 ghost use Rattle.cy_msg.specs.Answer.{AnswersOr};
 ghost use Rattle.cy_wire.specs.Field.{seen};
 ghost use Rattle.cy_wire.specs.Message.{seen_span};
-ghost use Rattle.cy_section.specs.Entries.{TakesPart, KeepsEntry, chunk_caches, entry_of};
+ghost use Rattle.cy_section.specs.private.Entries.{TakesPart, KeepsEntry, chunk_caches, entry_of};
 ghost use Rattle.cy_section.specs.Reading.{channel_cache_at, chunk_header_cache_at};
 ghost use Rattle.cy_section.specs.Reading.{chunk_body_cache_at, if_given, entry_at, index_at};
 

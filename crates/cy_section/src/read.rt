@@ -8,7 +8,7 @@ ghost use Rattle.cy_section.specs.Reading.{ReadsNumbers, KeepsNumber, text_of};
 ghost use Rattle.cy_section.specs.Reading.{header_at, chunk_header_at, channel_at};
 ghost use Rattle.cy_section.specs.Reading.{channel_of, channel_in};
 ghost use Rattle.cy_section.specs.Reading.{made_of};
-ghost use Rattle.cy_section.specs.Channels.{seen_channel};
+ghost use Rattle.cy_section.specs.private.Channels.{seen_channel};
 
 use crate::{Channel, ChunkHeader, Header, SectionError};
 use cy_msg::{Bytes, Text};

@@ -10,9 +10,9 @@ use Rattle.cy_trace.proofs.Starts.{texts_of, text_read}
 use Rattle.cy_msg.specs.declared.token.Token.{Token}
 use Rattle.cy_comp.specs.declared.call.Call.{Call}
 use Rattle.cy_trace.specs.declared.start.LineStart.{LineStart}
-use Rattle.cy_trace.specs.TapeLines.{started_line}
+use Rattle.cy_trace.specs.private.TapeLines.{started_line}
 use Rattle.cy_trace.specs.TraceText.{call_line, call_lines}
-use Rattle.cy_trace.specs.OutsAfter.{outs_after}
+use Rattle.cy_trace.specs.private.OutsAfter.{outs_after}
 
 -- One more call.
 suc_outs : (before : ℕ) (calls : List Call) (i : ℕ) (d : Call) → i < length calls → outs_after before (take (suc i) calls) ≡ outs_after before (take i calls) + (if is_some (get_or calls i d).out then 1 else 0)

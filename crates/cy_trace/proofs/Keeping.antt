@@ -9,7 +9,7 @@ use Rattle.std.proofs.lemmas.Fmt.{decimal_digit, decimal_step, length-decimal-le
 use Rattle.std.specs.Fmt.{decimal}
 use Rattle.std.specs.Int.{from_le_bytes, to_le_bytes}
 use borrow.Rule.Slice.PartMut.{put_mid}
-use Rattle.cy_trace.specs.Kept.{low_first, IsKept}
+use Rattle.cy_trace.specs.private.Kept.{low_first, IsKept}
 
 -- bytes behind others are worth more by so many places
 low_first-append : (xs ys : List ℕ) → low_first (xs ++ ys) ≡ low_first xs + 256 ^ length xs * low_first ys

@@ -8,7 +8,7 @@ use Rattle.std.specs.Fmt.{decimal}
 use Rattle.cy_msg.specs.Names.{channel_name}
 use Rattle.cy_msg.specs.declared.token.Token.{Token}
 use Rattle.cy_trace.specs.declared.start.LineStart.{LineStart}
-use Rattle.cy_trace.specs.TapeLines.{tape_start, started_line}
+use Rattle.cy_trace.specs.private.TapeLines.{tape_start, started_line}
 use Rattle.cy_trace.specs.TraceText.{tape_line}
 
 suc_more : (names : List (List ℕ)) (i : ℕ) (name : List ℕ) → slice_get names i ≡ Some name → map tape_start (take (suc i) names) ≡ map tape_start (take i names) ++ tape_start name ∷ []

@@ -1,3 +1,4 @@
+pub mod private
 pub mod Cuts
 pub mod Laws
 pub mod LineOrder
@@ -7,6 +8,3 @@ pub mod Summary
 pub mod TraceForm
 pub mod TraceOfRun
 pub mod TraceText
-pub mod TapeLines
-pub mod OutsAfter
-pub mod Kept

@@ -10,8 +10,8 @@ ghost use Rattle.cy_comp.specs.Calls.{last_outcome, is_last, cursor_after};
 ghost use Rattle.cy_trace.specs.TraceText.{title, played_line, roles_text, value_text, out_text};
 ghost use Rattle.cy_trace.specs.TraceText.{seqs_text, call_line, call_lines, end_line};
 ghost use Rattle.cy_trace.specs.TraceText.{component_text, tape_line};
-ghost use Rattle.cy_trace.specs.TapeLines.{tape_start, started_line};
-ghost use Rattle.cy_trace.specs.OutsAfter.{outs_after};
+ghost use Rattle.cy_trace.specs.private.TapeLines.{tape_start, started_line};
+ghost use Rattle.cy_trace.specs.private.OutsAfter.{outs_after};
 
 use crate::numeral::{Numeral, put_kept};
 use crate::page::{ROOM, put_byte, put_number, put_signed, put_word};

@@ -1,7 +1,7 @@
 // Numbers whose digits are kept, for texts in which a number stands again or the next one follows.
 ghost use Rattle.std.specs.Prelude.{◌≡◌, ◌≤◌, ◌+◌, ◌++◌, length, take};
 ghost use Rattle.std.specs.Fmt.{decimal};
-ghost use Rattle.cy_trace.specs.Kept.{IsKept, kept_number};
+ghost use Rattle.cy_trace.specs.private.Kept.{IsKept, kept_number};
 
 use crate::page::{ROOM, digits_of, put_number};
 use itoa::write_digits;

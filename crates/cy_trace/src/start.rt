@@ -1,7 +1,7 @@
 // What the lines of a channel's messages begin with.
 ghost use Rattle.std.specs.Prelude.{◌≡◌, ◌≤◌, ◌+◌, ◌++◌, length, take, map, IfOk, IsTrue};
 ghost use Rattle.std.specs.List.{All};
-ghost use Rattle.cy_trace.specs.TapeLines.{tape_start};
+ghost use Rattle.cy_trace.specs.private.TapeLines.{tape_start};
 
 use crate::page::{ROOM, put_word};
 use cy_msg::{Bytes, Names, push_quoted};

@@ -10,9 +10,9 @@ use Rattle.clap.specs.Simple.{App, Shape, entered, index_after, label_of, names_
 use Rattle.clap.specs.Takes.{built_takes, default_passes, entered_passes, is_valid, level_passes, settle_passes, turn_passes, walk_passes}
 use Rattle.clap.specs.declared.parser.matches.ValueSource.TheVariants.{DefaultValue}
 use Rattle.clap.proofs.WalkLemmas.{both, walk_stopped}
-use Rattle.cy_words.specs.Kept.{kept_as}
+use Rattle.cy_words.specs.private.Kept.{kept_as}
 use Rattle.cy_words.specs.Options.{Flag, Kind, Known, Options, Place, Value, is_flag, kind_of}
-use Rattle.cy_words.specs.Program.{rule_of_known}
+use Rattle.cy_words.specs.private.Program.{rule_of_known}
 use Rattle.cy_words.proofs.OptionsRead.{none_of, same_name}
 use Rattle.cy_words.proofs.ClapOptions.{Shows, built_as, built_at, built_from, has_id, missing_row, row_there}
 use Rattle.cy_words.proofs.ClapWalk.{GoesTo, Settles}

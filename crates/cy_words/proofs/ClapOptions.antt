@@ -8,9 +8,9 @@ use Rattle.clap.specs.Walk.{Row, Rule, Text, arg_by_id, arg_by_index, arg_by_lon
 use Rattle.clap.specs.Simple.{filled, filled_from, index_after, with_index}
 use Rattle.clap.specs.declared.parser.matches.ValueSource.TheVariants.{CommandLine}
 use Rattle.clap.proofs.WalkLemmas.{both}
-use Rattle.cy_words.specs.Kept.{kept_as, options_in}
+use Rattle.cy_words.specs.private.Kept.{kept_as, options_in}
 use Rattle.cy_words.specs.Options.{Alone, Apart, AreOptions, Filled, Flag, Given, Joined, Kind, Known, Options, Place, Value, is_flag, is_known, is_place, kind_of, name_in, places, value_in, values_under}
-use Rattle.cy_words.specs.Program.{rule_of_known}
+use Rattle.cy_words.specs.private.Program.{rule_of_known}
 use Rattle.cy_words.proofs.OptionsRead.{flag_known, nothing, place_known, same_name, some_same, valued_known}
 
 -- ---- what building makes of what a command knows

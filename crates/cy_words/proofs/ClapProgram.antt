@@ -8,9 +8,9 @@ use Rattle.clap.specs.Simple.{Shape, built, built_leaf, index_after, inherited, 
 use Rattle.clap.specs.Takes.{default_passes, is_given, level_passes, other_passes, step_passes, takes}
 use Rattle.clap.proofs.WalkLemmas.{both}
 use Rattle.cy_words.specs.Command.{Form, form_of, forms}
-use Rattle.cy_words.specs.Kept.{options_in}
+use Rattle.cy_words.specs.private.Kept.{options_in}
 use Rattle.cy_words.specs.Options.{AreOptions, Flag, Kind, Known, Options, Place, Value, places}
-use Rattle.cy_words.specs.Program.{Head, heads, program, rule_of_known}
+use Rattle.cy_words.specs.private.Program.{Head, heads, program, rule_of_known}
 use Rattle.cy_words.proofs.Forms.{found_has, found_mapped, found_named, head_of, swapped}
 use Rattle.cy_words.proofs.OptionsRead.{AreNames, is_name, nothing, some_same}
 use Rattle.cy_words.proofs.ClapOptions.{built_at, built_from, kept_row, rows_show, shown_options}

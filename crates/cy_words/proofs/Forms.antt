@@ -6,8 +6,8 @@ use Rattle.std.specs.List.{find, list_all}
 use Rattle.clap.specs.Walk.{Text}
 use Rattle.clap.proofs.WalkLemmas.{both}
 use Rattle.cy_words.specs.Command.{Form}
-use Rattle.cy_words.specs.OptionViews.{Row}
-use Rattle.cy_words.specs.Program.{Head}
+use Rattle.cy_words.specs.private.OptionViews.{Row}
+use Rattle.cy_words.specs.private.Program.{Head}
 use Rattle.cy_words.proofs.OptionsRead.{itself, nothing, same_name, some_same}
 
 pub swapped : (a b : Text) → bytes_eq a b ≡ bytes_eq b a

@@ -15,7 +15,7 @@ use Rattle.cy_words.specs.MakeWords.{MakeWords, count_of, longest_prefix, made_b
 use Rattle.cy_words.specs.Options.{Alone, Apart, AreOptions, Filled, Given, Joined, Known, Options, Place, is_known, is_place, kind_of, name_in, value_in, values_under}
 use Rattle.cy_words.specs.PassWords.{pass_asked, pass_known, passed_by}
 use Rattle.cy_words.specs.PlayWords.{PlayWords, are_lists, is_play, play_asked, play_of_all, play_words, spelled_number, where_play, ◌>>=◌}
-use Rattle.cy_words.specs.Scan.{command_of}
+use Rattle.cy_words.specs.private.Scan.{command_of}
 use Rattle.cy_words.specs.Views.{IsInForm, command_asked}
 use Rattle.cy_words.specs.Words.{is_word}
 use Rattle.cy_words.proofs.Asked.{asks}

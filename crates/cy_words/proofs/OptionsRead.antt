@@ -13,7 +13,7 @@ use Rattle.clap.specs.Lexer.{strip_byte}
 use Rattle.clap.proofs.WalkLemmas.{both}
 use Rattle.cy_words.specs.Options.{Alone, Apart, AreOptions, Flag, Given, Joined, Kind, Known, Options, Place, Filled, Value, filled_in, hyphened, is_flag, is_known, is_place, is_valued, kind_of, name_in, places, spelled, value_in, values_under}
 use Rattle.cy_words.specs.PlayWords.{◌>>=◌}
-use Rattle.cy_words.specs.Scan.{Reading, behind_hyphens, given_met, is_full, name_met, no_options, option_met, options_met, options_read, parts_met, place_met, put, put_once, rest_met, settled, words_met}
+use Rattle.cy_words.specs.private.Scan.{Reading, behind_hyphens, given_met, is_full, name_met, no_options, option_met, options_met, options_read, parts_met, place_met, put, put_once, rest_met, settled, words_met}
 use Rattle.cy_words.specs.Words.{is_word, longest_word}
 
 -- ---- steps that succeed

@@ -11,8 +11,8 @@ use Rattle.std.proofs.lemmas.List.Quantifiers.{position-Some}
 use Rattle.std.proofs.lemmas.Option.{slice_get-get_or, slice_get_past}
 use Rattle.cy_words.specs.Options.{Flag, Kind, Known, Options, kind_of}
 use Rattle.cy_words.specs.declared.options.Options as code
-use Rattle.cy_words.specs.OptionViews.{Row, kind_as, known_as, options_of, place_in, table_of, value_at}
-use Rattle.cy_words.specs.Scan.{no_options, put, put_known, put_once}
+use Rattle.cy_words.specs.private.OptionViews.{Row, kind_as, known_as, options_of, place_in, table_of, value_at}
+use Rattle.cy_words.specs.private.Scan.{no_options, put, put_known, put_once}
 use Rattle.cy_words.proofs.OptionsRead.{itself, same_name}
 
 abbrev Code : Type 0

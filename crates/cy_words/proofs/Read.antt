@@ -5,10 +5,10 @@ use Rattle.std.specs.Borrow.{Bor}
 use Rattle.clap.specs.Walk.{Row, Text, texts}
 use Rattle.clap.specs.Words.{subcommand_of, takes}
 use Rattle.cy_words.specs.Command.{Asks, Command, Form}
-use Rattle.cy_words.specs.Kept.{asked_in, options_in}
+use Rattle.cy_words.specs.private.Kept.{asked_in, options_in}
 use Rattle.cy_words.specs.PlayWords.{◌>>=◌}
-use Rattle.cy_words.specs.Program.{program}
-use Rattle.cy_words.specs.Scan.{command_of}
+use Rattle.cy_words.specs.private.Program.{program}
+use Rattle.cy_words.specs.private.Scan.{command_of}
 use Rattle.cy_words.proofs.Asked.{asks}
 use Rattle.cy_words.proofs.ClapProgram.{Reads, form_read}
 use Rattle.cy_words.proofs.OptionsRead.{some_same}

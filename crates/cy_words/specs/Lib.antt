@@ -1,14 +1,11 @@
+pub mod private
 pub mod Asking
 pub mod CheckWords
 pub mod Command
-pub mod Kept
 pub mod MakeWords
-pub mod OptionViews
 pub mod Options
 pub mod PassWords
 pub mod PlayViews
 pub mod PlayWords
-pub mod Program
-pub mod Scan
 pub mod Views
 pub mod Words

@@ -1,7 +1,7 @@
 // The words of `check`.
 ghost use Rattle.std.specs.Prelude.{◌≡◌, option_map};
 ghost use Rattle.cy_words.specs.CheckWords.{check_asked, check_known};
-ghost use Rattle.cy_words.specs.OptionViews.{values_of};
+ghost use Rattle.cy_words.specs.private.OptionViews.{values_of};
 ghost use Rattle.cy_words.specs.Views.{check_words_of};
 
 use crate::options::{Kind, Known, Values};

@@ -3,7 +3,7 @@ ghost use Rattle.std.specs.Prelude.{◌≡◌, true, is_some, IfOk};
 ghost use Rattle.clap.specs.Walk.{texts};
 ghost use Rattle.cy_words.specs.Asking.{IsReadAs};
 ghost use Rattle.cy_words.specs.Command.{Asks, AsksStill};
-ghost use Rattle.cy_words.specs.Scan.{command_of};
+ghost use Rattle.cy_words.specs.private.Scan.{command_of};
 ghost use Rattle.cy_words.specs.Views.{command_asked, IsInForm};
 
 use crate::WordsError;

@@ -1,7 +1,7 @@
 // The words of `make`.
 ghost use Rattle.std.specs.Prelude.{◌≡◌, option_map};
 ghost use Rattle.cy_words.specs.MakeWords.{count_of, made_by, make_asked, make_known};
-ghost use Rattle.cy_words.specs.OptionViews.{values_of};
+ghost use Rattle.cy_words.specs.private.OptionViews.{values_of};
 ghost use Rattle.cy_words.specs.Views.{make_words_of};
 
 use crate::options::{Kind, Known, Values};

@@ -4,13 +4,16 @@ ghost use Rattle.std.specs.List.{position};
 ghost use Rattle.std.specs.Str.{bytes_eq};
 ghost use Rattle.clap.specs.Words.{found_of, rows_of};
 ghost use Rattle.cy_words.specs.Options.{kind_of};
-ghost use Rattle.cy_words.specs.OptionViews.{kind_as, options_of, place_in, reading_of, table_of};
-ghost use Rattle.cy_words.specs.OptionViews.{values_of};
-ghost use Rattle.cy_words.specs.Kept.{options_in};
+ghost use Rattle.cy_words.specs.private.OptionViews.{kind_as, options_of, place_in, reading_of};
+ghost use Rattle.cy_words.specs.private.OptionViews.{table_of};
+ghost use Rattle.cy_words.specs.private.OptionViews.{values_of};
+ghost use Rattle.cy_words.specs.private.Kept.{options_in};
 ghost use Rattle.cy_words.specs.Options.{Apart, Filled};
-ghost use Rattle.cy_words.specs.Scan.{behind_hyphens, given_met, is_full, name_met, no_options};
-ghost use Rattle.cy_words.specs.Scan.{option_met, options_met, parts_met, place_met, put_known};
-ghost use Rattle.cy_words.specs.Scan.{word_met, words_met};
+ghost use Rattle.cy_words.specs.private.Scan.{behind_hyphens, given_met, is_full, name_met};
+ghost use Rattle.cy_words.specs.private.Scan.{no_options};
+ghost use Rattle.cy_words.specs.private.Scan.{option_met, options_met, parts_met, place_met};
+ghost use Rattle.cy_words.specs.private.Scan.{put_known};
+ghost use Rattle.cy_words.specs.private.Scan.{word_met, words_met};
 
 use crate::matches::value_of;
 use crate::words::names_something;
@@ -119,7 +122,7 @@ impl<'a> Options<'a> {
     }
 
     // The same for an option with a value.
-    #[tactic(auto, unfolding(crate::specs::Scan::given_met, crate::specs::Scan::put_known))]
+    #[tactic(auto, unfolding(crate::specs::private::Scan::given_met, crate::specs::private::Scan::put_known))]
     fn with_value(self, known: &[Known], name: &str, value: &'a str) -> Option<Self>
         requires { length known.now ≤ 16 }
         ensures { option_map (options_of (table_of known.now)) result ≡ given_met
@@ -133,7 +136,7 @@ impl<'a> Options<'a> {
     }
 
     // The same for a word at a place.
-    #[tactic(auto, unfolding(crate::specs::Scan::given_met, crate::specs::Scan::put_known))]
+    #[tactic(auto, unfolding(crate::specs::private::Scan::given_met, crate::specs::private::Scan::put_known))]
     fn with_place(self, known: &[Known], name: &str, value: &'a str) -> Option<Self>
         requires { length known.now ≤ 16 }
         ensures { option_map (options_of (table_of known.now)) result ≡ given_met
@@ -147,7 +150,7 @@ impl<'a> Options<'a> {
     }
 
     // Once a name was met with no value in its word.
-    #[tactic(auto, unfolding(crate::specs::Scan::name_met, crate::specs::Scan::given_met, crate::specs::Scan::put_known))]
+    #[tactic(auto, unfolding(crate::specs::private::Scan::name_met, crate::specs::private::Scan::given_met, crate::specs::private::Scan::put_known))]
     fn named<'k>(self, known: &[Known], name: &'a str, left: &'k [Known]) -> Option<Reading<'k, 'a>>
         requires { length known.now ≤ 16 }
         ensures { option_map (reading_of (table_of known.now)) result ≡ name_met
@@ -170,7 +173,7 @@ impl<'a> Options<'a> {
     }
 
     // Once what stands behind the hyphens of an option was met.
-    #[tactic(auto, unfolding(crate::specs::Scan::given_met))]
+    #[tactic(auto, unfolding(crate::specs::private::Scan::given_met))]
     fn parted<'k>(
         self,
         known: &[Known],
@@ -193,7 +196,7 @@ impl<'a> Options<'a> {
     }
 
     // Once a word was met that is no option.
-    #[tactic(auto, unfolding(crate::specs::Scan::place_met))]
+    #[tactic(auto, unfolding(crate::specs::private::Scan::place_met))]
     fn placed<'k>(
         self,
         known: &[Known],
@@ -219,7 +222,7 @@ impl<'a> Options<'a> {
     }
 
     // Once a word was met that is no value of an option.
-    #[tactic(auto, unfolding(crate::specs::Scan::option_met))]
+    #[tactic(auto, unfolding(crate::specs::private::Scan::option_met))]
     fn met<'k>(self, known: &[Known], word: &'a str, left: &'k [Known]) -> Option<Reading<'k, 'a>>
         requires { length known.now ≤ 16 }
         ensures { option_map (reading_of (table_of known.now)) result ≡ option_met
@@ -319,7 +322,7 @@ fn met_value<'a>(options: &Options<'a>, known: &[Known], name: &str) -> Option<&
 }
 
 // The value that `clap` keeps: of a flag that is given an empty one.
-#[tactic(auto, unfolding(crate::specs::Kept::options_in))]
+#[tactic(auto, unfolding(crate::specs::private::Kept::options_in))]
 fn kept<'a>(matches: &ArgMatches<'a>, known: &[Known], name: &str) -> Option<&'a str>
     ensures { option_map (λ v. v.now) result
         ≡ options_in (table_of known.now) (rows_of (found_of matches.now)) name.now }

@@ -1,6 +1,6 @@
 // The words of `pass`.
 ghost use Rattle.std.specs.Prelude.{◌≡◌, option_map};
-ghost use Rattle.cy_words.specs.OptionViews.{values_of};
+ghost use Rattle.cy_words.specs.private.OptionViews.{values_of};
 ghost use Rattle.cy_words.specs.PassWords.{pass_asked, pass_known, passed_by};
 ghost use Rattle.cy_words.specs.PlayViews.{play_words_of};
 

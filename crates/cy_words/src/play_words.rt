@@ -7,7 +7,7 @@ ghost use Rattle.cy_words.specs.PlayWords.{is_some_of};
 ghost use Rattle.cy_words.specs.PlayWords.{are_lists, play_asked, play_known, play_of_all};
 ghost use Rattle.cy_words.specs.PlayWords.{play_words, where_play};
 ghost use Rattle.cy_words.specs.PlayViews.{play_words_of};
-ghost use Rattle.cy_words.specs.OptionViews.{values_of};
+ghost use Rattle.cy_words.specs.private.OptionViews.{values_of};
 
 use crate::options::{Kind, Known, Values};
 use cy_request::Components;

@@ -5,10 +5,10 @@ ghost use Rattle.clap.specs.Words.{App, app_of, found_of, rows_of, rule_of};
 ghost use Rattle.clap.specs.declared.builder.command.Command.TheViews.{out-Command};
 ghost use Rattle.clap.specs.Words.{subcommand_of, takes, with_subcommand};
 ghost use Rattle.clap.specs.Walk.{texts};
-ghost use Rattle.cy_words.specs.OptionViews.{head_as, known_as, table_of};
+ghost use Rattle.cy_words.specs.private.OptionViews.{head_as, known_as, table_of};
 ghost use Rattle.cy_words.specs.Options.{flagged, placed, valued};
-ghost use Rattle.cy_words.specs.Program.{IsCommand, app_for, program, rule_of_known};
-ghost use Rattle.cy_words.specs.Program.{with_head, with_known};
+ghost use Rattle.cy_words.specs.private.Program.{IsCommand, app_for, program, rule_of_known};
+ghost use Rattle.cy_words.specs.private.Program.{with_head, with_known};
 
 use crate::WordsError;
 use crate::options::{Kind, Known};

@@ -2,8 +2,8 @@
 ghost use Rattle.std.specs.Prelude.{◌≡◌, ◌≤◌, length, find, IfSome, map, option_map};
 ghost use Rattle.std.specs.Str.{bytes_eq};
 ghost use Rattle.cy_words.specs.Command.{form_of, info_asked, info_known};
-ghost use Rattle.cy_words.specs.OptionViews.{head_as, table_of, values_of};
-ghost use Rattle.cy_words.specs.Scan.{asked_of, command_of, still_command_of};
+ghost use Rattle.cy_words.specs.private.OptionViews.{head_as, table_of, values_of};
+ghost use Rattle.cy_words.specs.private.Scan.{asked_of, command_of, still_command_of};
 ghost use Rattle.cy_words.specs.Views.{command_asked, info_words_of};
 ghost use Rattle.cy_words.specs.Words.{is_word};
 

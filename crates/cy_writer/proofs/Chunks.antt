@@ -15,7 +15,7 @@ use Rattle.cy_section.specs.declared.types.SectionKind.{SectionKind}
 use Rattle.cy_section.specs.Section.{section, head_bytes}
 use Rattle.cy_section.specs.declared.types.SectionKind.TheVariants as kind
 use Rattle.cy_writer.specs.declared.chunk.Chunk.{Chunk}
-use Rattle.cy_writer.specs.Counted.{counted_with}
+use Rattle.cy_writer.specs.private.Counted.{counted_with}
 use Rattle.cy_writer.specs.Kept.{IsChunkOf, BeginsAt}
 
 -- one more message behind the others

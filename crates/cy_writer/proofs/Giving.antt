@@ -16,7 +16,7 @@ use Rattle.cy_writer.specs.Messages.{Message, Giving, Gives, NextAnswer}
 use Rattle.cy_writer.specs.Record.{numbered, messages_on, HaveChannels, WritesRecord}
 use Rattle.cy_writer.specs.RecordWrites.{given_channels}
 use Rattle.cy_writer.specs.Stands.{Stands, IsThere, HasChannel}
-use Rattle.cy_writer.specs.Steps.{StartsRecord}
+use Rattle.cy_writer.specs.private.Steps.{StartsRecord}
 use Rattle.cy_writer.specs.Writes.{Makes}
 use Rattle.cy_writer.proofs.FrontPuts.{same_channels}
 use Rattle.cy_writer.proofs.Puts.{causes_none, causes_same}

@@ -13,7 +13,7 @@ use Rattle.cy_writer.specs.Calls.{Begins, PutsChannel, IsRefusedBroken}
 use Rattle.cy_writer.specs.Record.{channel_shown, channels_shown}
 use Rattle.cy_writer.specs.RecordWrites.{given_channels}
 use Rattle.cy_writer.specs.Stands.{Stands, HaveOwnNames, IsNewName, IsThere}
-use Rattle.cy_writer.specs.Steps.{StartsRecord}
+use Rattle.cy_writer.specs.private.Steps.{StartsRecord}
 use Rattle.cy_writer.specs.Writes.{Makes}
 use Rattle.cy_writer.proofs.Giving.{behind, same_error}
 use Rattle.cy_writer.proofs.Puts.{causes_same}

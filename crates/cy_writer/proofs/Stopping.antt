@@ -8,7 +8,7 @@ use Rattle.cy_writer.specs.declared.writing.Writing.{Writing}
 use Rattle.cy_writer.specs.Given.{Given}
 use Rattle.cy_writer.specs.Kept.{IsChunkOf}
 use Rattle.cy_writer.specs.Stands.{StandsFor}
-use Rattle.cy_writer.specs.Steps.{Prepares, Gathers}
+use Rattle.cy_writer.specs.private.Steps.{Prepares, Gathers}
 
 -- an item that is written back as it was
 pub written_back : {A : Type 0} (items : List A) (i : ℕ) (item : A) → item ≡ get_or items i item → slice_set items i item ≡ items

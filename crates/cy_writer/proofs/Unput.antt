@@ -15,7 +15,7 @@ use Rattle.cy_writer.specs.declared.writing.Writing.{Writing}
 use Rattle.cy_writer.specs.Calls.{PutsChannel, GoesOn}
 use Rattle.cy_writer.specs.Given.{Given, channel_puts, front_of}
 use Rattle.cy_writer.specs.Stands.{IsHeld, IsThere, StandsFor}
-use Rattle.cy_writer.specs.Whole.{StaysWhole}
+use Rattle.cy_writer.specs.private.Whole.{StaysWhole}
 use Rattle.cy_writer.specs.Writes.{Makes, PutsInto, puts_into}
 use Rattle.cy_writer.proofs.Puts.{causes_none, causes_same, makes_none, makes_same}
 

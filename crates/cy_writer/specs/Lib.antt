@@ -1,12 +1,10 @@
+pub mod private
 pub mod Writes
 pub mod Causes
 pub mod Given
-pub mod Counted
 pub mod Kept
 pub mod Stands
 pub mod Calls
-pub mod Steps
-pub mod Whole
 pub mod Laws
 pub mod RecordWrites
 pub mod File

@@ -1,7 +1,7 @@
 // A chunk, gathered one message after another.
 ghost use Rattle.std.specs.Prelude.{◌≡◌, ◌≤◌, ◌+◌, ◌==◌, if◌then◌else◌, min, length};
 ghost use Rattle.std.specs.Prelude.{IfOk, IsOkUnless};
-ghost use Rattle.cy_writer.specs.Counted.{counted_with};
+ghost use Rattle.cy_writer.specs.private.Counted.{counted_with};
 
 use crate::WriteError;
 use crate::error::no_memory_for_section;
@@ -70,7 +70,7 @@ impl Chunk {
     ghost use Rattle.cy_section.specs.Section.{section, chunk_body};
     ghost use Rattle.cy_section.specs.Chunks.{takes, chunk_raw_size};
     ghost use Rattle.cy_writer.specs.Kept.{IsChunkOf};
-    ghost use Rattle.cy_writer.specs.Steps.{BeginsChunk, PutsMessage};
+    ghost use Rattle.cy_writer.specs.private.Steps.{BeginsChunk, PutsMessage};
 
     /// No messages yet; this takes no memory.
     pub fn new(alloc: Global) -> Self

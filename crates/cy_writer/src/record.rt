@@ -1,6 +1,6 @@
 // A whole record.
 ghost use Rattle.cy_writer.specs.Stands.{HaveOwnNames};
-ghost use Rattle.cy_writer.specs.Steps.{StartsRecord};
+ghost use Rattle.cy_writer.specs.private.Steps.{StartsRecord};
 ghost use Rattle.cy_writer.specs.Record.{channels_shown, HaveChannels, WritesRecord};
 
 use crate::{Messages, RecordWriter, WriteError};

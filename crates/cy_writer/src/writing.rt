@@ -10,8 +10,8 @@ ghost use Rattle.cy_section.specs.declared.types.SectionKind.TheVariants as kind
 ghost use Rattle.cy_section.specs.Section.{section, index_body};
 ghost use Rattle.cy_writer.specs.Writes.{Makes, PutsInto, IsPutOrNot, puts_into};
 ghost use Rattle.cy_writer.specs.Calls.{Begins, PutsChannel, TakesMessage, Closes};
-ghost use Rattle.cy_writer.specs.Whole.{StaysWhole};
-ghost use Rattle.cy_writer.specs.Steps.{Prepares, NotesChunk, PutsChunk, Gathers};
+ghost use Rattle.cy_writer.specs.private.Whole.{StaysWhole};
+ghost use Rattle.cy_writer.specs.private.Steps.{Prepares, NotesChunk, PutsChunk, Gathers};
 ghost use Rattle.cy_writer.specs.Given.{Given, nothing_given, close_puts};
 ghost use Rattle.cy_writer.specs.Kept.{cache_of as counted_cache, channel_entry, header_entry};
 ghost use Rattle.cy_writer.specs.Kept.{body_entry};

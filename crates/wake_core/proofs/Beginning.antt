@@ -19,7 +19,7 @@ use Rattle.wake_core.specs.Planned.{planned, planned_count, counts_from, first_r
 use Rattle.wake_core.specs.Plain.{Plain, Hand, hand, Phase, State, Ready, blank, opening_world}
 use Rattle.wake_core.specs.Sound.{IsWired, Sound}
 use Rattle.wake_core.specs.Fields.{read, no_visitor, no_routine, shown_calls, calls_at, fills_of, plain_at, queue_of, IsFlagged, IsStepping, IsWaiting, IsVisited, IsRoomy, IsOwing, AreOwing}
-use Rattle.wake_core.specs.Opening.{first_visitor, first_routine, IsNothing, AreNothing}
+use Rattle.wake_core.specs.private.Opening.{first_visitor, first_routine, IsNothing, AreNothing}
 use Rattle.wake_core.proofs.Runs.{opening_sound}
 use Rattle.wake_core.proofs.Listing.{get_snoc}
 use Rattle.wake_core.proofs.Counting.{sum_first}

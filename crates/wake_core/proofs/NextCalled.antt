@@ -4,7 +4,7 @@ use Rattle.std.proofs.lemmas.Option.{none-some, same_Some}
 use Rattle.cy_msg.specs.declared.token.Tuple.{Tuple}
 use Rattle.cy_comp.specs.declared.call.Outcome.{Outcome}
 use Rattle.cy_comp.specs.Routine.{RoutineView, taken, answer_to}
-use Rattle.wake_core.specs.NextCall.{answer_on, called_on}
+use Rattle.wake_core.specs.private.NextCall.{answer_on, called_on}
 
 -- Something was found, and the component answered to it.
 pub record HasCalled (r new : RoutineView) (found : Option (Tuple × ℕ × ℕ)) (o : Outcome) : Type 0 where

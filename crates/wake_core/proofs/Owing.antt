@@ -13,7 +13,7 @@ use Rattle.wake_core.specs.Events.{Looks, Clears, after_look, after_clear}
 use Rattle.wake_core.specs.WorldCalls.{MayLook}
 use Rattle.wake_core.specs.Fields.{read, fills_of, IsOwing, AreOwing}
 use Rattle.wake_core.specs.Sound.{Sound}
-use Rattle.wake_core.specs.Owing.{MayLookAt, LookedAt, IsTakenOut}
+use Rattle.wake_core.specs.private.Owing.{MayLookAt, LookedAt, IsTakenOut}
 use Rattle.wake_core.proofs.Places.{place}
 use Rattle.wake_core.proofs.Listing.{lists_first}
 use Rattle.wake_core.proofs.Reading.{read-set, read-set_same, read_is, read_within}

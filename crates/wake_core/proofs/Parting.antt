@@ -22,11 +22,11 @@ use Rattle.wake_core.specs.Run.{Route, readers_of, writes_from}
 use Rattle.wake_core.specs.Plain.{Plain, Hand, Ready, blank, opening_world, outs_of, taped_of}
 use Rattle.wake_core.specs.Sound.{Sound}
 use Rattle.wake_core.specs.Fields.{read, no_routine, no_visitor, calls_at, shown_calls, fills_of, plain_at, IsFixed, IsStepping, IsWaiting, IsVisited, IsRoomy}
-use Rattle.wake_core.specs.Opening.{IsNothing, AreNothing}
+use Rattle.wake_core.specs.private.Opening.{IsNothing, AreNothing}
 use Rattle.wake_core.specs.WorldCalls.{IsRoutineOf}
 use Rattle.wake_core.specs.Rest.{IsAtRest, at_rest}
 use Rattle.wake_core.specs.Parts.{routine_in, shown_by, AreFit}
-use Rattle.wake_core.specs.Sent.{outputs_of, waiting_of, sent_of, IsCounted, AreCounted}
+use Rattle.wake_core.specs.private.Sent.{outputs_of, waiting_of, sent_of, IsCounted, AreCounted}
 use Rattle.wake_core.proofs.Reading.{read_at, read_past}
 use Rattle.wake_core.proofs.Listing.{get_in}
 use Rattle.wake_core.proofs.Limits.{count_limit}

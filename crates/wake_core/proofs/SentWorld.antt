@@ -11,7 +11,7 @@ use Rattle.wake_core.specs.declared.entries.TheConstants.{MOST_PLANNED}
 use Rattle.wake_core.specs.Run.{set_at, readers_of, writes_from, played_of}
 use Rattle.wake_core.specs.Plain.{Hand, hand, Ready, Phase, Running, blank}
 use Rattle.wake_core.specs.Events.{Tapes, Sends, after_tape, after_send}
-use Rattle.wake_core.specs.Owing.{HasToFill}
+use Rattle.wake_core.specs.private.Owing.{HasToFill}
 use Rattle.wake_core.specs.WorldOf.{plain_of, to_step}
 use Rattle.wake_core.specs.WorldCalls.{phase_sent}
 use Rattle.wake_core.specs.Fields.{read, no_visitor, no_routine, fills_of, calls_at, IsFlagged, IsStepping, IsWaiting, IsRoomy, AreOwing}

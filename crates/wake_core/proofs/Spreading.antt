@@ -13,7 +13,7 @@ use Rattle.wake_core.specs.Events.{is_waiting, after_fill}
 use Rattle.wake_core.specs.Fields.{read, fills_of, no_visitor, no_routine, IsVisited, IsRoomy, IsOwing}
 use Rattle.wake_core.specs.Sound.{Sound}
 use Rattle.wake_core.specs.Turns.{Delivers, flag_after}
-use Rattle.wake_core.specs.Delivery.{arrived_at, arrived_at_all, MayArrive, MayArriveAtAll, cleared_by, cleared_by_all, AreReaders}
+use Rattle.wake_core.specs.private.Delivery.{arrived_at, arrived_at_all, MayArrive, MayArriveAtAll, cleared_by, cleared_by_all, AreReaders}
 use Rattle.wake_core.proofs.Places.{set_at_same, set_at_other, set_at_again, set_at_itself}
 use Rattle.wake_core.proofs.Reading.{read-set, read-set_same, read_at}
 use Rattle.wake_core.proofs.Owing.{owed_with}

@@ -1,3 +1,4 @@
+pub mod private
 pub mod Settle
 pub mod Run
 pub mod Serial
@@ -12,11 +13,6 @@ pub mod Bounds
 pub mod Rest
 pub mod Turns
 pub mod Fields
-pub mod NextCall
-pub mod Owing
-pub mod Delivery
-pub mod Opening
 pub mod WorldCalls
 pub mod WorldOf
 pub mod Parts
-pub mod Sent

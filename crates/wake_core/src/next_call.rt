@@ -1,6 +1,6 @@
 // Calling a component at once on what a fetch finds.
 ghost use Rattle.std.specs.Prelude.{◌≡◌};
-ghost use Rattle.wake_core.specs.NextCall.{next_found, MayCall, answer_on, called_on};
+ghost use Rattle.wake_core.specs.private.NextCall.{next_found, MayCall, answer_on, called_on};
 
 use cy_comp::{Outcome, Routine};
 use cy_fuse::Visitor;

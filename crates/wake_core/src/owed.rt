@@ -21,7 +21,7 @@ pub(crate) struct Owed {
 impl Owed {
     ghost use Rattle.std.specs.Prelude.{◌≡◌, true};
     ghost use Rattle.wake_core.specs.Plain.{lists};
-    ghost use Rattle.wake_core.specs.Owing.{MayLookAt, LookedAt, IsTakenOut};
+    ghost use Rattle.wake_core.specs.private.Owing.{MayLookAt, LookedAt, IsTakenOut};
 
     /// The thread looks at the first of its news, which is this component. One that waits is to
     /// have its flag cleared.

@@ -8,7 +8,7 @@ ghost use Rattle.cy_commands.specs.Commands.CheckWork.{checked_in, unknown_in};
 ghost use Rattle.cy_words.specs.Command as command;
 ghost use Rattle.cy_commands.specs.Due.{IsDueFor};
 ghost use Rattle.cy_commands.specs.Line.{bytes_of_line};
-ghost use Rattle.cy_commands.specs.CheckEnds.{IsTextOf};
+ghost use Rattle.cy_commands.specs.private.CheckEnds.{IsTextOf};
 ghost use Rattle.cy_words.specs.Views.{check_words_of};
 
 use crate::due::{Due, out_of_memory};

@@ -4,7 +4,7 @@ ghost use Rattle.std.specs.Prelude.{IsOkUnless, true, ◌==◌};
 ghost use Rattle.std.specs.List.{list_any, position};
 ghost use Rattle.cy_msg.specs.declared.token.Token.{Token};
 ghost use Rattle.cy_recording.specs.Recording.{with_number, numbers_after};
-ghost use Rattle.cy_recording.specs.RecordSteps.{AreNumbered};
+ghost use Rattle.cy_recording.specs.private.RecordSteps.{AreNumbered};
 
 use cy_msg::Token;
 use cy_writer::WriteError;

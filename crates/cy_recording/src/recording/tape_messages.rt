@@ -3,8 +3,9 @@ ghost use Rattle.std.specs.Prelude.{◌≡◌, ◌<◌, ℕ, List, Some, None, l
 ghost use Rattle.std.specs.Prelude.{option_copied, IfOk, OnOk, IsOkUnless};
 ghost use Rattle.cy_recording.specs.Recording.{source_of, content_by, content_of, played_contents};
 ghost use Rattle.cy_recording.specs.Recording.{IsWritable};
-ghost use Rattle.cy_recording.specs.RecordSteps.{AreNumbered, ArePlaced, CanGoOn, all_given};
-ghost use Rattle.cy_recording.specs.RecordSteps.{giving_of};
+ghost use Rattle.cy_recording.specs.private.RecordSteps.{AreNumbered, ArePlaced, CanGoOn};
+ghost use Rattle.cy_recording.specs.private.RecordSteps.{all_given};
+ghost use Rattle.cy_recording.specs.private.RecordSteps.{giving_of};
 
 use crate::Played;
 use crate::recording::tape_channels::TapeChannels;

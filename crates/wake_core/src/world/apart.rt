@@ -1,7 +1,8 @@
 // A world taken apart, and put together again.
 ghost use Rattle.std.specs.Prelude.{◌≡◌, map, IfOk, IfErr};
 ghost use Rattle.wake_core.specs.declared.error.CoreError.TheVariants as CoreError;
-ghost use Rattle.wake_core.specs.Sent.{outputs_of, sent_of as sent_by_calls, IsCounted, AreCounted};
+ghost use Rattle.wake_core.specs.private.Sent.{outputs_of, sent_of as sent_by_calls, IsCounted};
+ghost use Rattle.wake_core.specs.private.Sent.{AreCounted};
 
 use super::opening::{Unheld, held_by_nobody};
 use crate::{CoreError, Parts, World};

@@ -1,7 +1,7 @@
 // Delivering a message to all its readers at once.
 ghost use Rattle.std.specs.Prelude.{◌≡◌, ◌<◌, length};
-ghost use Rattle.wake_core.specs.Delivery.{arrived_at_all, MayArriveAtAll};
-ghost use Rattle.wake_core.specs.Delivery.{cleared_by, cleared_by_all, AreReaders};
+ghost use Rattle.wake_core.specs.private.Delivery.{arrived_at_all, MayArriveAtAll};
+ghost use Rattle.wake_core.specs.private.Delivery.{cleared_by, cleared_by_all, AreReaders};
 
 use super::tell::waits;
 use crate::World;

@@ -4,8 +4,9 @@ ghost use Rattle.wake_core.specs.declared.error.CoreError.TheVariants as CoreErr
 ghost use Rattle.wake_core.specs.declared.entries.TheConstants.{MOST_PLANNED};
 ghost use Rattle.wake_core.specs.Run.{routes_of};
 ghost use Rattle.wake_core.specs.Planned.{planned as planned_entries};
-ghost use Rattle.wake_core.specs.Opening.{first_visitor, first_routine, IsNothing, AreNothing};
-ghost use Rattle.wake_core.specs.Opening.{AreUnheld};
+ghost use Rattle.wake_core.specs.private.Opening.{first_visitor, first_routine, IsNothing};
+ghost use Rattle.wake_core.specs.private.Opening.{AreNothing};
+ghost use Rattle.wake_core.specs.private.Opening.{AreUnheld};
 
 use crate::entries::{planned_at, planned_messages, planned_on};
 use crate::fixed::Fixed;

@@ -1,7 +1,7 @@
 // Sending a message, and filling the readers of its channel.
 ghost use Rattle.std.specs.Prelude.{◌≡◌, ◌<◌, [], ◌∷◌, ◌++◌, Some, vec_len, vec_capacity};
 ghost use Rattle.wake_core.specs.WorldCalls.{phase_sent};
-ghost use Rattle.wake_core.specs.Owing.{HasToFill, MayFillFirst, FilledFirst};
+ghost use Rattle.wake_core.specs.private.Owing.{HasToFill, MayFillFirst, FilledFirst};
 
 use crate::owed::Owed;
 use crate::{Hand, Phase, World};

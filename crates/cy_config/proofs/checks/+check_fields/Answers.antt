@@ -4,7 +4,7 @@ use Rattle.std.proofs.lemmas.List.{take_all}
 use Rattle.cy_text.specs.Fields.{size_of}
 use Rattle.cy_text.specs.Entries.{fields_of, held_of}
 use Rattle.cy_config.specs.Kinds.{inside_of}
-use Rattle.cy_config.specs.Tallies.{times_of}
+use Rattle.cy_config.specs.private.Tallies.{times_of}
 use Rattle.cy_config.specs.Checks.{first_misfit, path_of, unknown_paths}
 use Rattle.cy_config.proofs.CheckSteps.{misfit_unknown, unknown_unknown, misfit_known, unknown_known, misfit_whole, misfit_err, counted_more, paths_join, index_is, path_is, misfit_inside, misfit_outside, unknown_inside, unknown_outside, entry_below, inside_size, count_stays, few_under, more_paths, path_name}
 use Rattle.cy_config.proofs.checks.+check_fields.Goals as goal

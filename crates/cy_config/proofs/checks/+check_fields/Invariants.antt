@@ -3,7 +3,7 @@ use Rattle.cy_text.specs.Fields.{size_of}
 use Rattle.cy_text.specs.Entries.{fields_of}
 use Rattle.cy_config.specs.declared.field.Field.{Field}
 use Rattle.cy_config.specs.Lookups.{all_under}
-use Rattle.cy_config.specs.Tallies.{times_of}
+use Rattle.cy_config.specs.private.Tallies.{times_of}
 use Rattle.cy_config.specs.Checks.{first_misfit, unknown_paths}
 use Rattle.cy_config.proofs.checks.+check_fields.Given as goal
 

@@ -7,7 +7,7 @@ use Rattle.cy_writer.specs.RecordWrites.{record_puts, chunks_given}
 use Rattle.cy_make.specs.declared.error.MakeError.{MakeError}
 use Rattle.cy_make.specs.declared.error.MakeError.TheVariants.{Record}
 use Rattle.cy_make.specs.Messages.{channels_of}
-use Rattle.cy_make.specs.Steps.{given_after}
+use Rattle.cy_make.specs.private.Steps.{given_after}
 use Rattle.cy_make.specs.Inputs.{made_record_writes, MakesFiles}
 use Rattle.cy_make.proofs.Writing.{record_same, not_begun, not_written, written}
 use Rattle.cy_make.proofs.inputs.write_record.Goals as goal

@@ -3,7 +3,7 @@ use Rattle.cy_section.specs.declared.types.Channel.{Channel}
 use Rattle.cy_writer.specs.Messages.{Message}
 use Rattle.cy_writer.specs.Record.{HaveChannels, WritesRecord, channels_shown}
 use Rattle.cy_writer.specs.Stands.{HaveOwnNames}
-use Rattle.cy_make.specs.Steps.{given_after}
+use Rattle.cy_make.specs.private.Steps.{given_after}
 use Rattle.cy_make.proofs.RecordText.{own_names, have_channels}
 use Rattle.cy_make.proofs.record.write_on.Goals as goal
 

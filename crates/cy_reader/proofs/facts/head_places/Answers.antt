@@ -1,4 +1,4 @@
-use Rattle.cy_reader.specs.Facts.{has_head}
+use Rattle.cy_reader.specs.private.Facts.{has_head}
 use Rattle.cy_reader.proofs.Telling.{head-more}
 use Rattle.cy_reader.proofs.facts.head_places.Goals as goal
 

@@ -1,6 +1,6 @@
 use Rattle.std.proofs.Common.{◌≡◌, ℕ, take}
 use Rattle.cy_reader.specs.Info.{is_head}
-use Rattle.cy_reader.specs.Facts.{has_head}
+use Rattle.cy_reader.specs.private.Facts.{has_head}
 use Rattle.cy_reader.proofs.facts.head_places.Given as goal
 
 abbrev pub invariant-loop-head : goal.invariant-loop-head

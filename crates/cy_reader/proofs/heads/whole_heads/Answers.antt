@@ -1,6 +1,6 @@
 use Rattle.std.proofs.Common.{◌≡◌, ◌-◌, ◌++◌, ◌∷◌, [], suc, length, refl, sym, ap, ◌∙◌, arith}
 use Rattle.cy_reader.specs.declared.heads.PlacedHead.{PlacedHead}
-use Rattle.cy_reader.specs.Found.{seen_section}
+use Rattle.cy_reader.specs.private.Found.{seen_section}
 use Rattle.cy_reader.specs.Heads.{whole_heads, section_head}
 use Rattle.cy_reader.specs.Record.{header_end}
 use Rattle.cy_reader.proofs.Meeting.{one_less}

@@ -1,4 +1,4 @@
-use Rattle.cy_reader.specs.Facts.{counted_line}
+use Rattle.cy_reader.specs.private.Facts.{counted_line}
 use Rattle.cy_reader.proofs.Telling.{numbered-more}
 use Rattle.cy_reader.proofs.info.push_channels.Goals as goal
 

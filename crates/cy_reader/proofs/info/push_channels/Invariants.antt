@@ -1,6 +1,6 @@
 use Rattle.std.proofs.Common.{◌≡◌, ◌++◌, take}
 use Rattle.cy_reader.specs.Info.{numbered}
-use Rattle.cy_reader.specs.Facts.{counted_line}
+use Rattle.cy_reader.specs.private.Facts.{counted_line}
 use Rattle.cy_reader.proofs.info.push_channels.Given as goal
 
 abbrev pub invariant-loop-number : goal.invariant-loop-number

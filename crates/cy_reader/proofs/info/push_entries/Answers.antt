@@ -1,6 +1,6 @@
 use Rattle.std.proofs.Common.{Bool, ap, ◌++◌, ◌∙◌}
 use Rattle.cy_reader.specs.Info.{entry_line}
-use Rattle.cy_reader.specs.Facts.{placed_line}
+use Rattle.cy_reader.specs.private.Facts.{placed_line}
 use Rattle.cy_reader.proofs.Telling.{numbered-more}
 use Rattle.cy_reader.proofs.info.push_entries.Goals as goal
 

@@ -3,7 +3,7 @@ use Rattle.cy_wire.specs.Field.{fields_of}
 use Rattle.cy_section.specs.Reading.{Messages, messages_of}
 use Rattle.cy_section.specs.Messages.{seen}
 use Rattle.cy_section.proofs.Bodies.{message_read}
-use Rattle.cy_reader.specs.Loading.{met_of}
+use Rattle.cy_reader.specs.private.Loading.{met_of}
 use Rattle.cy_reader.proofs.Slices.{MessagesStand, messages_stand}
 use Rattle.cy_reader.proofs.Meeting.{met_more, limit_met, unless_faulty}
 use Rattle.cy_reader.proofs.loading.body_met.Goals as goal

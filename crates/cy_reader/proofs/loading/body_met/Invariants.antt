@@ -2,7 +2,7 @@ use Rattle.std.proofs.Common.{◌≡◌, ◌++◌, List, length, Ok}
 use Rattle.cy_wire.specs.Field.{fields_of}
 use Rattle.cy_section.specs.Reading.{PlacedMessage, messages_of}
 use Rattle.cy_reader.specs.Record.{messages_met}
-use Rattle.cy_reader.specs.Loading.{IsSound, met_of}
+use Rattle.cy_reader.specs.private.Loading.{IsSound, met_of}
 use Rattle.cy_reader.proofs.Slices.{MessagesStand}
 use Rattle.cy_reader.proofs.loading.body_met.Given as goal
 

@@ -1,6 +1,6 @@
 use Rattle.std.proofs.Common.{arith}
-use Rattle.cy_reader.specs.Found.{seen_section}
-use Rattle.cy_reader.specs.Loading.{met_of}
+use Rattle.cy_reader.specs.private.Found.{seen_section}
+use Rattle.cy_reader.specs.private.Loading.{met_of}
 use Rattle.cy_reader.proofs.Slices.{channel_short}
 use Rattle.cy_reader.proofs.Meeting.{channel_section, channel_leads}
 use Rattle.cy_reader.proofs.loading.section_met.Goals as goal

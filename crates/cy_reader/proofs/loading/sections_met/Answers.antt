@@ -1,8 +1,8 @@
 use Rattle.std.proofs.Common.{◌<◌, ◌+◌, ◌-◌, suc, length, refl, arith, inl, inr}
 use Rattle.std.proofs.lemmas.List.Elements.{All-nil}
 use Rattle.std.proofs.lemmas.Result.{err_from_is_err_and}
-use Rattle.cy_reader.specs.Found.{seen_section}
-use Rattle.cy_reader.specs.Loading.{met_of}
+use Rattle.cy_reader.specs.private.Found.{seen_section}
+use Rattle.cy_reader.specs.private.Loading.{met_of}
 use Rattle.cy_reader.proofs.Meeting.{section_read, section_wrong, sections_end, sections_fault, one_less}
 use Rattle.cy_reader.proofs.loading.sections_met.Goals as goal
 

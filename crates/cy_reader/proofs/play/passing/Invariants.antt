@@ -1,6 +1,6 @@
 use Rattle.std.proofs.Common.{◌≡◌, ◌≤◌, ◌<◌, ℕ, length}
 use Rattle.cy_reader.specs.Play.{places_below, message_at}
-use Rattle.cy_reader.specs.Uses.{played_by, shadowed_by}
+use Rattle.cy_reader.specs.private.Uses.{played_by, shadowed_by}
 use Rattle.cy_reader.proofs.play.passing.Given as goal
 
 abbrev pub invariant-loop-place : goal.invariant-loop-place

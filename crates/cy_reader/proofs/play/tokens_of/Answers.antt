@@ -5,7 +5,7 @@ use Rattle.std.specs.Prelude.{filter}
 use Rattle.cy_wire.specs.Whole.{whole_value}
 use Rattle.cy_msg.specs.declared.token.Token.{Token}
 use Rattle.cy_reader.specs.Play.{token_behind}
-use Rattle.cy_reader.specs.Uses.{number_by}
+use Rattle.cy_reader.specs.private.Uses.{number_by}
 use Rattle.cy_reader.proofs.Playing.{number-below, filter-short, counts-more, tokens-more, length-tokens, content-is}
 use Rattle.cy_reader.proofs.play.tokens_of.Goals as goal
 

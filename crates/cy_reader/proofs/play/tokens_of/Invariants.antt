@@ -1,7 +1,7 @@
 use Rattle.std.proofs.Common.{◌≡◌, ◌<◌, ◌==◌, ℕ, [], length, take, get_or}
 use Rattle.std.specs.Prelude.{filter}
 use Rattle.cy_reader.specs.Play.{tokens_behind}
-use Rattle.cy_reader.specs.Uses.{number_by}
+use Rattle.cy_reader.specs.private.Uses.{number_by}
 use Rattle.cy_reader.proofs.play.tokens_of.Given as goal
 
 abbrev pub invariant-loop-place : goal.invariant-loop-place

@@ -1,6 +1,6 @@
 use Rattle.std.proofs.Common.{◌<◌, ◌∙◌, length, ap, arith, rules, length-append, [], ◌∷◌}
 use Rattle.cy_reader.specs.Play.{Choice}
-use Rattle.cy_reader.specs.Uses.{use_of}
+use Rattle.cy_reader.specs.private.Uses.{use_of}
 use Rattle.cy_reader.proofs.Playing.{named-at, uses-more}
 use Rattle.cy_reader.proofs.play.uses_of.Goals as goal
 

@@ -1,6 +1,6 @@
 use Rattle.std.proofs.Common.{◌≡◌, ◌<◌, ℕ, length, get_or}
 use Rattle.cy_reader.specs.Play.{name_of}
-use Rattle.cy_reader.specs.Uses.{no_use, use_of}
+use Rattle.cy_reader.specs.private.Uses.{no_use, use_of}
 use Rattle.cy_reader.proofs.play.uses_of.Given as goal
 
 abbrev pub invariant-loop-channel : goal.invariant-loop-channel

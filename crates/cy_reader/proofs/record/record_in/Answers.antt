@@ -3,7 +3,7 @@ use Rattle.std.proofs.lemmas.Result.{err_from_is_err_and}
 use Rattle.cy_reader.specs.Record.{parts_of, header_end}
 use Rattle.cy_reader.specs.Heads.{heads_of, end_of}
 use Rattle.cy_reader.specs.Sections.{sections_from}
-use Rattle.cy_reader.specs.Loading.{met_of}
+use Rattle.cy_reader.specs.private.Loading.{met_of}
 use Rattle.cy_reader.proofs.Keeping.{parts_refused, kept_is}
 use Rattle.cy_reader.proofs.record.record_in.Goals as goal
 

@@ -5,7 +5,7 @@ use Rattle.cy_writer.specs.Messages.{Message}
 use Rattle.cy_writer.specs.Record.{channels_shown, HaveChannels}
 use Rattle.cy_writer.specs.Stands.{HaveOwnNames}
 use Rattle.cy_recording.specs.Recording.{source_of, channel_of}
-use Rattle.cy_recording.specs.RecordSteps.{ArePlaced, all_given}
+use Rattle.cy_recording.specs.private.RecordSteps.{ArePlaced, all_given}
 use Rattle.cy_recording.proofs.ChannelTable.{order_once, order_has, numbers_after-all}
 use Rattle.cy_recording.proofs.TapeRecord.{own_names, have_channels, recorded}
 use Rattle.cy_recording.proofs.recording.write_record.Goals as goal

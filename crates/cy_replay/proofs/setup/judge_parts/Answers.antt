@@ -1,6 +1,6 @@
 use Rattle.std.proofs.Common.{◌∙◌, ap, length, refl, sym}
 use Rattle.std.proofs.lemmas.Result.{err_from_is_err_and}
-use Rattle.cy_replay.specs.Judged.{judged_as}
+use Rattle.cy_replay.specs.private.Judged.{judged_as}
 use Rattle.cy_replay.specs.Listing.{choice_of}
 use Rattle.cy_request.specs.Request.{request_of}
 use Rattle.cy_replay.specs.Wiring.{wired_by}

@@ -1,4 +1,4 @@
-use Rattle.cy_replay.specs.Judged.{judged_as}
+use Rattle.cy_replay.specs.private.Judged.{judged_as}
 use Rattle.cy_replay.specs.Setup.{replayed}
 use Rattle.cy_replay.proofs.Judging.{judges_ok, judges_same}
 use Rattle.cy_replay.proofs.setup.judge_wired.Goals as goal

@@ -1,6 +1,6 @@
 use Rattle.std.proofs.Common.{◌≡◌}
 use Rattle.cy_table.specs.Calls.{made_of, seat_of}
-use Rattle.cy_run.specs.Sending.{fills_at, FillsOn}
+use Rattle.cy_run.specs.private.Sending.{fills_at, FillsOn}
 use Rattle.cy_run.proofs.deliver.fill_all.Given as goal
 
 abbrev pub invariant-loop-component : goal.invariant-loop-component

@@ -1,6 +1,6 @@
 use Rattle.std.proofs.Common.{◌≡◌}
 use Rattle.cy_table.specs.Calls.{made_of, seat_of}
-use Rattle.cy_run.specs.Sending.{news_at, Tells, TellsOn}
+use Rattle.cy_run.specs.private.Sending.{news_at, Tells, TellsOn}
 use Rattle.cy_run.proofs.deliver.tell_all.Given as goal
 
 abbrev pub invariant-loop-component : goal.invariant-loop-component

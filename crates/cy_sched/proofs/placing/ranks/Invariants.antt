@@ -1,7 +1,7 @@
 use Rattle.std.proofs.Common.{◌≡◌, map}
 use Rattle.std.specs.List.{filter}
 use Rattle.cy_sched.specs.Placing.{is_member, numbers_below}
-use Rattle.cy_sched.specs.Ranks.{HaveRanks}
+use Rattle.cy_sched.specs.private.Ranks.{HaveRanks}
 use Rattle.cy_sched.proofs.placing.ranks.Given as goal
 
 abbrev pub invariant-loop-component : goal.invariant-loop-component

@@ -1,6 +1,6 @@
 use Rattle.std.proofs.Common.{◌≡◌, ◌++◌, take}
 use Rattle.std.specs.List.{flat_map}
-use Rattle.cy_trace.specs.TapeLines.{started_line}
+use Rattle.cy_trace.specs.private.TapeLines.{started_line}
 use Rattle.cy_trace.proofs.Starts.{texts_of}
 use Rattle.cy_trace.proofs.lines.push_long.Given as goal
 

@@ -1,6 +1,6 @@
 use Rattle.std.proofs.Common.{◌<◌, ◌++◌, length, flat_map}
 use Rattle.std.proofs.lemmas.List.Elements.{All-same, All-drop}
-use Rattle.cy_trace.specs.TapeLines.{started_line}
+use Rattle.cy_trace.specs.private.TapeLines.{started_line}
 use Rattle.cy_trace.proofs.Gathered.{lines_added}
 use Rattle.cy_trace.proofs.Starts.{texts_of}
 use Rattle.cy_trace.proofs.lines.push_short.Goals as goal

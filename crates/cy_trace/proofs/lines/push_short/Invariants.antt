@@ -1,6 +1,6 @@
 use Rattle.std.proofs.Common.{◌≡◌, ◌<◌, ◌++◌, length}
 use Rattle.std.specs.List.{flat_map, All}
-use Rattle.cy_trace.specs.TapeLines.{started_line}
+use Rattle.cy_trace.specs.private.TapeLines.{started_line}
 use Rattle.cy_trace.proofs.Starts.{texts_of}
 use Rattle.cy_trace.proofs.lines.push_short.Given as goal
 

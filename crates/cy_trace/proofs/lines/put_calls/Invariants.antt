@@ -1,5 +1,5 @@
 use Rattle.std.proofs.Common.{◌≡◌, ◌≤◌, ◌*◌, take}
-use Rattle.cy_trace.specs.OutsAfter.{outs_after}
+use Rattle.cy_trace.specs.private.OutsAfter.{outs_after}
 use Rattle.cy_trace.specs.TraceText.{call_lines}
 use Rattle.cy_trace.proofs.lines.put_calls.Given as goal
 

@@ -1,5 +1,5 @@
 use Rattle.std.proofs.Common.{◌≡◌, map, take}
-use Rattle.cy_trace.specs.TapeLines.{tape_start}
+use Rattle.cy_trace.specs.private.TapeLines.{tape_start}
 use Rattle.cy_trace.proofs.Starts.{texts_of}
 use Rattle.cy_trace.proofs.start.line_starts.Given as goal
 

@@ -1,5 +1,5 @@
 use Rattle.std.proofs.Common.{◌≡◌, ◌∙◌, None, Some, ap, option_map, rules, sym}
-use Rattle.cy_words.specs.OptionViews.{kind_as, place_in, table_of}
+use Rattle.cy_words.specs.private.OptionViews.{kind_as, place_in, table_of}
 use Rattle.cy_words.proofs.Places.{has_there, none_has}
 use Rattle.cy_words.proofs.options.kind_of.Goals as goal
 

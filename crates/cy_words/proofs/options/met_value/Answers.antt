@@ -1,7 +1,7 @@
 use Rattle.std.proofs.Common.{◌≡◌, ◌∙◌, None, Some, ap, option_map, rules}
 use Rattle.std.specs.Borrow.{Bor}
 use Rattle.std.proofs.Common.{List, ℕ}
-use Rattle.cy_words.specs.OptionViews.{place_in, table_of}
+use Rattle.cy_words.specs.private.OptionViews.{place_in, table_of}
 use Rattle.cy_words.proofs.Places.{met_at, none_met}
 use Rattle.cy_words.proofs.options.met_value.Goals as goal
 

@@ -1,7 +1,7 @@
 use Rattle.std.proofs.Common.{None, ap, refl}
 use Rattle.cy_words.specs.Options.{Options}
-use Rattle.cy_words.specs.OptionViews.{table_of}
-use Rattle.cy_words.specs.Scan.{words_met}
+use Rattle.cy_words.specs.private.OptionViews.{table_of}
+use Rattle.cy_words.specs.private.Scan.{words_met}
 use Rattle.cy_words.proofs.Places.{no_values}
 use Rattle.cy_words.proofs.options.words_met.Goals as goal
 

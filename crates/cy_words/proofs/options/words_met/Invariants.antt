@@ -1,6 +1,6 @@
 use Rattle.std.proofs.Common.{◌≡◌, None, drop}
-use Rattle.cy_words.specs.OptionViews.{reading_of, table_of}
-use Rattle.cy_words.specs.Scan.{no_options, words_met}
+use Rattle.cy_words.specs.private.OptionViews.{reading_of, table_of}
+use Rattle.cy_words.specs.private.Scan.{no_options, words_met}
 use Rattle.cy_words.proofs.options.words_met.Given as goal
 
 abbrev pub invariant-loop-word : goal.invariant-loop-word

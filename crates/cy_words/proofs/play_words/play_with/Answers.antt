@@ -2,7 +2,7 @@ use Rattle.std.proofs.Common.{◌≡◌, ◌∙◌, ◌^◌, ◌-◌, List, [], 
 use Rattle.std.specs.Borrow.{Bor}
 use Rattle.cy_request.specs.Request.{OfFiles}
 use Rattle.cy_words.specs.Options.{Options}
-use Rattle.cy_words.specs.OptionViews.{values_of}
+use Rattle.cy_words.specs.private.OptionViews.{values_of}
 use Rattle.cy_words.specs.PlayWords.{names_in, number_or, play_known, ◌>>=◌}
 use Rattle.cy_words.proofs.play_words.play_with.Goals as goal
 

@@ -2,7 +2,7 @@ use Rattle.std.proofs.Common.{◌≡◌, ◌∙◌, true, ap, fold}
 use Rattle.std.proofs.lemmas.Result.{IfOk-weaker}
 use Rattle.clap.specs.Words.{App, Shape, app_of}
 use Rattle.clap.specs.Simple.{app_of_fields, on_top}
-use Rattle.cy_words.specs.Program.{heads, program, with_head}
+use Rattle.cy_words.specs.private.Program.{heads, program, with_head}
 use Rattle.cy_words.proofs.program.program.Goals as goal
 
 pub returns : goal.returns

@@ -1,7 +1,7 @@
 use Rattle.std.proofs.Common.{◌≡◌, ◌∙◌, IfOk, ap, subst}
 use Rattle.std.proofs.lemmas.Result.{IfOk-weaker}
 use Rattle.clap.specs.Words.{App, Shape, app_of, with_subcommand}
-use Rattle.cy_words.specs.Program.{IsCommand}
+use Rattle.cy_words.specs.private.Program.{IsCommand}
 use Rattle.cy_words.proofs.program.with_command.Goals as goal
 
 abbrev top_of : App → Shape

@@ -1,7 +1,7 @@
 use Rattle.std.proofs.Common.{◌∙◌}
 use Rattle.clap.specs.Words.{app_of}
-use Rattle.cy_words.specs.OptionViews.{head_as}
-use Rattle.cy_words.specs.Program.{with_head}
+use Rattle.cy_words.specs.private.OptionViews.{head_as}
+use Rattle.cy_words.specs.private.Program.{with_head}
 use Rattle.cy_words.proofs.ClapBuild.{more}
 use Rattle.cy_words.proofs.program.with_forms.Goals as goal
 

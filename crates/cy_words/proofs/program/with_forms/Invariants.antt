@@ -1,7 +1,7 @@
 use Rattle.std.proofs.Common.{◌≡◌, drop, fold, map}
 use Rattle.clap.specs.Words.{app_of}
-use Rattle.cy_words.specs.OptionViews.{head_as}
-use Rattle.cy_words.specs.Program.{with_head}
+use Rattle.cy_words.specs.private.OptionViews.{head_as}
+use Rattle.cy_words.specs.private.Program.{with_head}
 use Rattle.cy_words.proofs.program.with_forms.Given as goal
 
 abbrev pub invariant-loop-form : goal.invariant-loop-form

@@ -3,8 +3,8 @@ use Rattle.clap.specs.Simple.{with_rule}
 use Rattle.clap.specs.Walk.{Rule}
 use Rattle.clap.specs.Words.{app_of}
 use Rattle.clap.specs.declared.builder.command.Command.TheViews.{out-Command}
-use Rattle.cy_words.specs.OptionViews.{known_as}
-use Rattle.cy_words.specs.Program.{with_known}
+use Rattle.cy_words.specs.private.OptionViews.{known_as}
+use Rattle.cy_words.specs.private.Program.{with_known}
 use Rattle.cy_words.proofs.ClapBuild.{more, or_false}
 use Rattle.cy_words.proofs.program.with_words.Goals as goal
 

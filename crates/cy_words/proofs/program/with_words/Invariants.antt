@@ -1,8 +1,8 @@
 use Rattle.std.proofs.Common.{◌≡◌, drop, fold}
 use Rattle.clap.specs.Words.{app_of}
 use Rattle.clap.specs.declared.builder.command.Command.TheViews.{out-Command}
-use Rattle.cy_words.specs.OptionViews.{table_of}
-use Rattle.cy_words.specs.Program.{with_known}
+use Rattle.cy_words.specs.private.OptionViews.{table_of}
+use Rattle.cy_words.specs.private.Program.{with_known}
 use Rattle.cy_words.proofs.program.with_words.Given as goal
 
 abbrev pub invariant-loop-one : goal.invariant-loop-one

@@ -1,7 +1,7 @@
 use Rattle.std.proofs.Common.{◌∙◌, Bool, ap, bytes_eq, option_map, sym}
 use Rattle.std.specs.Borrow.{Bor}
-use Rattle.cy_words.specs.OptionViews.{head_as}
-use Rattle.cy_words.specs.Program.{Head}
+use Rattle.cy_words.specs.private.OptionViews.{head_as}
+use Rattle.cy_words.specs.private.Program.{Head}
 use Rattle.cy_words.proofs.Forms.{Code, both_mapped, found_mapped}
 use Rattle.cy_words.proofs.words.form_in.Goals as goal
 

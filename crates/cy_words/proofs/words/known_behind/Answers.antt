@@ -1,9 +1,9 @@
 use Rattle.std.proofs.Common.{◌≡◌, ◌∙◌, List, None, Option, Some, ap, option_map, rules, sym}
 use Rattle.std.specs.Borrow.{Bor}
 use Rattle.cy_words.specs.Command.{form_of, forms}
-use Rattle.cy_words.specs.OptionViews.{Row, head_as, table_of}
+use Rattle.cy_words.specs.private.OptionViews.{Row, head_as, table_of}
 use Rattle.cy_words.specs.Options.{Known}
-use Rattle.cy_words.specs.Program.{Head}
+use Rattle.cy_words.specs.private.Program.{Head}
 use Rattle.cy_words.proofs.Forms.{Code, known_found}
 use Rattle.cy_words.proofs.words.known_behind.Goals as goal
 

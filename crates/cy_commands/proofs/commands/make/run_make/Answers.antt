@@ -1,5 +1,5 @@
 use Rattle.std.proofs.Common.{◌∙◌, ap}
-use Rattle.cy_commands.specs.MakeEnds.{play_named}
+use Rattle.cy_commands.specs.private.MakeEnds.{play_named}
 use Rattle.cy_commands.proofs.commands.make.run_make.Goals as goal
 
 pub make_and_play-due-requires-clause-play : goal.make_and_play-due-requires-clause-play

@@ -1,5 +1,5 @@
 use Rattle.std.proofs.Common.{◌≡◌, ◌+◌, refl, arith, ap, sym, ◌∙◌}
-use Rattle.cy_config.specs.Tallies.{times_of}
+use Rattle.cy_config.specs.private.Tallies.{times_of}
 use Rattle.std.specs.List.{position}
 use Rattle.std.proofs.lemmas.List.{get_or_default}
 use Rattle.std.proofs.lemmas.List.Quantifiers.{position-Some}

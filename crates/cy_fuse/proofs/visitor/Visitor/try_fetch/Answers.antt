@@ -1,7 +1,7 @@
 use Rattle.std.proofs.Common.{refl, ap, sym, ◌∙◌, List, ℕ}
 use Rattle.cy_fuse.specs.Cache.{Cache}
 use Rattle.cy_fuse.specs.Visitor.{visited}
-use Rattle.cy_fuse.specs.Visiting.{tuple_at}
+use Rattle.cy_fuse.specs.private.Visiting.{tuple_at}
 use Rattle.cy_fuse.proofs.Visited.{found_at, visited_is}
 use Rattle.cy_fuse.proofs.visitor.Visitor.try_fetch.Goals as goal
 

@@ -1,7 +1,7 @@
 use Rattle.std.proofs.Common.{refl, ap, sym, ◌≡◌, ◌∙◌, List, ℕ, slice_index_or}
 use Rattle.cy_fuse.specs.Cache.{Cache, next_index}
 use Rattle.cy_fuse.specs.Visitor.{VisitorView, visited, index_after}
-use Rattle.cy_fuse.specs.Visiting.{message_at, tuple_at}
+use Rattle.cy_fuse.specs.private.Visiting.{message_at, tuple_at}
 use Rattle.cy_fuse.proofs.Visited.{found_at, visited_is, one_message, one_tuple}
 use Rattle.cy_fuse.proofs.visitor.Visitor.try_fetch_one.Goals as goal
 

@@ -2,8 +2,8 @@ use Rattle.std.proofs.Common.{◌≡◌, ℕ, List, length, ap, subst, ◌∙◌
 use Rattle.cy_reader.specs.declared.facts.Facts.{Facts}
 use Rattle.cy_reader.specs.Record.{Contents}
 use Rattle.cy_reader.specs.Heads.{index_at}
-use Rattle.cy_reader.specs.Kept.{kept_source}
-use Rattle.cy_reader.specs.Facts.{AreFacts}
+use Rattle.cy_reader.specs.private.Kept.{kept_source}
+use Rattle.cy_reader.specs.private.Facts.{AreFacts}
 use Rattle.cy_reader.proofs.Telling.{facts-are}
 use Rattle.cy_reader.proofs.record.Record.facts.Goals as goal
 

@@ -5,7 +5,7 @@ use Rattle.std.proofs.lemmas.List.Sorted.{length_permutation}
 use Rattle.cy_reader.specs.declared.play.ChannelUse.{ChannelUse}
 use Rattle.cy_reader.specs.declared.error.LoadError.TheVariants.{TooManyPlayed}
 use Rattle.cy_reader.specs.Play.{Choice, all_places, chosen, most_played, time_at, tokens_behind}
-use Rattle.cy_reader.specs.Uses.{number_by, played_by, shadowed_by}
+use Rattle.cy_reader.specs.private.Uses.{number_by, played_by, shadowed_by}
 use Rattle.cy_reader.proofs.Playing.{played-is, places-inside, numbers-below, answered, timed, numbered, length-tokens}
 use Rattle.cy_reader.proofs.record.Record.play_list.Goals as goal
 

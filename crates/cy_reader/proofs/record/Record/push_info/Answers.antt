@@ -2,10 +2,10 @@ use Rattle.std.proofs.Common.{◌≡◌, ◌++◌, ℕ, List, length, ap, sym, s
 use Rattle.std.specs.Prelude.{OnOk}
 use Rattle.cy_reader.specs.declared.known.Known.{Known}
 use Rattle.cy_reader.specs.Record.{Contents, shown}
-use Rattle.cy_reader.specs.Loading.{met_of}
-use Rattle.cy_reader.specs.Kept.{kept_source}
+use Rattle.cy_reader.specs.private.Loading.{met_of}
+use Rattle.cy_reader.specs.private.Kept.{kept_source}
 use Rattle.cy_reader.specs.Info.{info_text, file_line, numbered}
-use Rattle.cy_reader.specs.Facts.{AreFacts, counted_line}
+use Rattle.cy_reader.specs.private.Facts.{AreFacts, counted_line}
 use Rattle.cy_reader.proofs.Telling.{info-told}
 use Rattle.cy_reader.proofs.record.Record.push_info.Goals as goal
 

@@ -3,8 +3,8 @@ use Rattle.std.specs.Borrow.{Bor}
 use Rattle.clap.specs.Walk.{texts}
 use Rattle.clap.specs.Words.{Text, found_of, rows_of, subcommand_of, takes}
 use Rattle.cy_words.specs.Command.{Asks}
-use Rattle.cy_words.specs.Program.{program}
-use Rattle.cy_words.specs.Scan.{command_of}
+use Rattle.cy_words.specs.private.Program.{program}
+use Rattle.cy_words.specs.private.Scan.{command_of}
 use Rattle.cy_words.specs.Views.{command_asked}
 use Rattle.cy_words.proofs.Asked.{asks}
 use Rattle.cy_words.proofs.InForm.{in_form, was_found}

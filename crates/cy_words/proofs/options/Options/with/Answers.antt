@@ -1,6 +1,6 @@
 use Rattle.std.proofs.Common.{◌≡◌, ◌∙◌, None, Some, ap, arith, is_some, get_or, option_map, rules, false}
 use Rattle.cy_words.specs.declared.options.Kind.TheVariants as kind
-use Rattle.cy_words.specs.OptionViews.{options_of, place_in, table_of}
+use Rattle.cy_words.specs.private.OptionViews.{options_of, place_in, table_of}
 use Rattle.cy_words.proofs.Places.{place_within, put_again, put_first, put_unknown}
 use Rattle.cy_words.proofs.options.Options.with.Goals as goal
 

@@ -2,7 +2,7 @@ use Rattle.std.proofs.Common.{◌++◌, ◌∙◌, List, ℕ, ap, sym, refl, len
 use Rattle.cy_section.specs.declared.types.BodyMessage.{BodyMessage}
 use Rattle.cy_section.specs.declared.types.ChunkHeader.{ChunkHeader}
 use Rattle.cy_section.specs.Section.{message_field}
-use Rattle.cy_writer.specs.Counted.{counted_with}
+use Rattle.cy_writer.specs.private.Counted.{counted_with}
 use Rattle.cy_writer.proofs.Chunks.{chunk_more}
 use Rattle.cy_writer.proofs.chunk.Chunk.add.Goals as goal
 

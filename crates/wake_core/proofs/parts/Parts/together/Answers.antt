@@ -3,7 +3,7 @@ use Rattle.std.proofs.lemmas.List.{length-map, length-replicate}
 use Rattle.wake_core.specs.declared.found.Found.{Found}
 use Rattle.wake_core.specs.Fields.{read}
 use Rattle.wake_core.specs.Parts.{shown_by}
-use Rattle.wake_core.specs.Sent.{sent_of, AreCounted}
+use Rattle.wake_core.specs.private.Sent.{sent_of, AreCounted}
 use Rattle.wake_core.specs.Sound.{Sound}
 use Rattle.wake_core.specs.WorldOf.{plain_of, to_step}
 use Rattle.wake_core.proofs.Beginning.{length_found, length_hands, read_equal, flags_from, stepping_from, owing_from}

@@ -1,7 +1,7 @@
 use Rattle.std.proofs.Common.{◌≡◌, ◌<◌, length, length-set, sym, refl, ◌∙◌, ap, Some, None, arith}
 use Rattle.cy_comp.specs.Calls.{cursor_after}
 use Rattle.cy_comp.specs.Routine.{RoutineView, taken, answer_to}
-use Rattle.wake_core.specs.NextCall.{next_found}
+use Rattle.wake_core.specs.private.NextCall.{next_found}
 use Rattle.wake_core.specs.WorldOf.{plain_of, to_step}
 use Rattle.wake_core.specs.Plain.{hand, Known, Empty, Running}
 use Rattle.wake_core.proofs.Reading.{hands_set}

@@ -6,7 +6,7 @@ use Rattle.cy_comp.specs.Routine.{RoutineView}
 use Rattle.wake_core.specs.WorldOf.{plain_of, to_step}
 use Rattle.wake_core.specs.Fields.{read, no_routine}
 use Rattle.wake_core.specs.Sound.{Sound}
-use Rattle.wake_core.specs.Delivery.{arrived_at_all, MayArriveAtAll, cleared_by_all, AreReaders}
+use Rattle.wake_core.specs.private.Delivery.{arrived_at_all, MayArriveAtAll, cleared_by_all, AreReaders}
 use Rattle.wake_core.proofs.Owing.{owed_each, owing_set}
 use Rattle.wake_core.proofs.Spreading.{Fits, all_may, all_delivered, length_cleared_all, flags_cleared, none_owing, delivered_world, delivers}
 use Rattle.wake_core.proofs.world.World.deliver.Goals as goal

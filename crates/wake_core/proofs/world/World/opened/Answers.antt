@@ -4,7 +4,7 @@ use Rattle.wake_core.specs.WorldOf.{plain_of, to_step}
 use Rattle.wake_core.specs.declared.found.Found.{Found}
 use Rattle.wake_core.specs.Run.{route_of, routes_of}
 use Rattle.wake_core.specs.Fields.{read}
-use Rattle.wake_core.specs.Opening.{first_visitor, first_routine}
+use Rattle.wake_core.specs.private.Opening.{first_visitor, first_routine}
 use Rattle.wake_core.proofs.Rooted.{wired}
 use Rattle.wake_core.proofs.HeldTimes.{held_so}
 use Rattle.wake_core.proofs.Beginning.{length_found, length_hands, read_equal, flags_from, stepping_from, waiting_from, visited_from, roomy_from, owing_from, counted_from, plain_from, sound_from}

@@ -1,6 +1,6 @@
 use Rattle.std.proofs.Common.{ℕ, ◌++◌, ◌∷◌, [], ◌∙◌, sym, ap, refl, length, take, map, arith, List}
 use Rattle.std.proofs.lemmas.Option.{slice_get_read}
-use Rattle.wake_core.specs.Sent.{sent_of}
+use Rattle.wake_core.specs.private.Sent.{sent_of}
 use Rattle.wake_core.proofs.Listing.{take_next}
 use Rattle.wake_core.proofs.Beginning.{made_at}
 use Rattle.wake_core.proofs.world.apart.sent_by.Goals as goal

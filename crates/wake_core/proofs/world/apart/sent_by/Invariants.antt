@@ -1,5 +1,5 @@
 use Rattle.std.proofs.Common.{◌≡◌, map, take}
-use Rattle.wake_core.specs.Sent.{sent_of}
+use Rattle.wake_core.specs.private.Sent.{sent_of}
 use Rattle.wake_core.proofs.world.apart.sent_by.Given as goal
 
 -- Those of the components so far.

@@ -1,5 +1,5 @@
 use Rattle.std.proofs.Common.{◌≡◌, drop}
-use Rattle.wake_core.specs.Delivery.{arrived_at_all, MayArriveAtAll}
+use Rattle.wake_core.specs.private.Delivery.{arrived_at_all, MayArriveAtAll}
 use Rattle.wake_core.proofs.world.deliver.arrive_at_all.Given as goal
 
 -- What the readers that are left come to is what all came to at first.

@@ -1,5 +1,5 @@
 use Rattle.std.proofs.Common.{◌≡◌, length, drop}
-use Rattle.wake_core.specs.Delivery.{cleared_by_all, AreReaders}
+use Rattle.wake_core.specs.private.Delivery.{cleared_by_all, AreReaders}
 use Rattle.wake_core.proofs.world.deliver.clear_all.Given as goal
 
 -- What the readers that are left come to is what all came to at first.

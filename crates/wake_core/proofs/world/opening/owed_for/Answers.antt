@@ -1,5 +1,5 @@
 use Rattle.std.proofs.Common.{◌+◌, sym, subst}
-use Rattle.wake_core.specs.Opening.{AreNothing}
+use Rattle.wake_core.specs.private.Opening.{AreNothing}
 use Rattle.wake_core.proofs.Beginning.{nothing_added}
 use Rattle.wake_core.proofs.world.opening.owed_for.Goals as goal
 

@@ -1,4 +1,4 @@
-use Rattle.wake_core.specs.Opening.{AreNothing}
+use Rattle.wake_core.specs.private.Opening.{AreNothing}
 use Rattle.wake_core.proofs.world.opening.owed_for.Given as goal
 
 -- Those of the threads so far.

@@ -3,7 +3,7 @@ use Rattle.cy_fuse.specs.Visitor.{VisitorView}
 use Rattle.wake_core.specs.declared.entries.TheConstants.{MOST_PLANNED}
 use Rattle.wake_core.specs.Run.{route_of, routes_of}
 use Rattle.wake_core.specs.Planned.{planned_count}
-use Rattle.wake_core.specs.Opening.{first_visitor}
+use Rattle.wake_core.specs.private.Opening.{first_visitor}
 use Rattle.wake_core.proofs.Counting.{plan_at, route_at}
 use Rattle.wake_core.proofs.Listing.{take_next}
 use Rattle.wake_core.proofs.Beginning.{visitor_is, arrivals_limit, made_at}

@@ -1,6 +1,6 @@
 use Rattle.std.proofs.Common.{◌≡◌, map, take}
 use Rattle.wake_core.specs.Run.{routes_of}
-use Rattle.wake_core.specs.Opening.{first_visitor}
+use Rattle.wake_core.specs.private.Opening.{first_visitor}
 use Rattle.wake_core.proofs.world.opening.visitors_for.Given as goal
 
 -- Those of the components so far.

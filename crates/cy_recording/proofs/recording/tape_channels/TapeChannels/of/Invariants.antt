@@ -1,6 +1,6 @@
 use Rattle.std.proofs.Common.{◌≡◌, take, length}
 use Rattle.cy_recording.specs.Recording.{numbers_after}
-use Rattle.cy_recording.specs.RecordSteps.{AreNumbered}
+use Rattle.cy_recording.specs.private.RecordSteps.{AreNumbered}
 use Rattle.std.proofs.Common.{[]}
 use Rattle.cy_recording.proofs.recording.tape_channels.TapeChannels.of.Given as goal
 

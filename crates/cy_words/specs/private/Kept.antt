@@ -5,7 +5,7 @@ use Rattle.std.specs.Str.{bytes_eq}
 use Rattle.clap.specs.Words.{Row, first_of}
 use Rattle.cy_words.specs.Command.{Command}
 use Rattle.cy_words.specs.Options.{Known, Options, is_flag, kind_of}
-use Rattle.cy_words.specs.Scan.{asked_of}
+use Rattle.cy_words.specs.private.Scan.{asked_of}
 
 -- A flag has a text that says whether it is given.
 abbrev pub kept_as : Bool → Option (List ℕ) → Option (List ℕ)

@@ -7,7 +7,7 @@ use Rattle.cy_reader.specs.declared.loading.Loading.{Loading}
 use Rattle.cy_reader.specs.Sections.{sections_from}
 use Rattle.cy_reader.specs.Heads.{PlacedIndex, index_at, end_of}
 use Rattle.cy_reader.specs.Record.{Source, longest_file, header_end}
-use Rattle.cy_reader.specs.Loading.{IsSound}
+use Rattle.cy_reader.specs.private.Loading.{IsSound}
 
 -- An index, without where its bytes lie in memory.
 abbrev pub seen_index : IndexView → PlacedIndex

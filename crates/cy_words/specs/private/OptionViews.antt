@@ -11,10 +11,10 @@ use Rattle.cy_words.specs.declared.options.Options as code
 use Rattle.cy_words.specs.declared.options.Reading as reading
 use Rattle.cy_words.specs.declared.options.Values as values
 use Rattle.cy_words.specs.declared.options.Values.TheVariants.{Met, Kept}
-use Rattle.cy_words.specs.Kept.{options_in}
+use Rattle.cy_words.specs.private.Kept.{options_in}
 use Rattle.cy_words.specs.Options.{Flag, Kind, Known, Options, Place, Value}
-use Rattle.cy_words.specs.Program.{Head}
-use Rattle.cy_words.specs.Scan.{Reading}
+use Rattle.cy_words.specs.private.Program.{Head}
+use Rattle.cy_words.specs.private.Scan.{Reading}
 
 abbrev pub kind_as : code_kind.Kind → Kind
 kind_as kind.Place = Place

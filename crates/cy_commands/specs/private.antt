@@ -1,0 +1,3 @@
+pub mod CheckEnds
+pub mod MakeEnds
+pub mod Unset

@@ -1,0 +1,3 @@
+pub mod TapeLines
+pub mod OutsAfter
+pub mod Kept

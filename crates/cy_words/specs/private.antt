@@ -1,0 +1,4 @@
+pub mod OptionViews
+pub mod Kept
+pub mod Scan
+pub mod Program

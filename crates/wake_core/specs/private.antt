@@ -1,0 +1,5 @@
+pub mod Owing
+pub mod Opening
+pub mod Sent
+pub mod Delivery
+pub mod NextCall
