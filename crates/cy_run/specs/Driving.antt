@@ -4,7 +4,7 @@ use Rattle.cy_msg.specs.declared.token.Token.{Token}
 use Rattle.cy_comp.specs.declared.plan.Plan.{Plan}
 use Rattle.cy_table.specs.declared.pass.Pass.{Pass}
 use Rattle.cy_table.specs.declared.table.FlagTable.{FlagTable}
-use Rattle.cy_table.specs.Calls.{seat_of, number_of}
+use Rattle.cy_table.specs.Calls.{seat_of, pass_number}
 use Rattle.cy_run.specs.declared.crew.Worker.{Worker}
 use Rattle.cy_run.specs.Passes.{IsFree, IsMadeOf}
 use Rattle.cy_run.specs.Playing.{IsToBePlayed}
@@ -25,7 +25,7 @@ AreManned t contexts parkers crew = All (IsManned t contexts parkers) crew
 -- A worker whose work is over, for its own context.
 pub record HasWorked (t : FlagTable) (contexts : List (List ℕ)) (w u : Worker) : Type 0 where
   pub free : IsFree t u.pass
-  pub same : number_of u.pass ≡ number_of w.pass
+  pub same : pass_number u.pass ≡ pass_number w.pass
   pub over : (d : List ℕ) → EndsInVain (slice_index_or contexts w.plan d) (seat_of u.pass).note
 
 abbrev pub HaveWorked : FlagTable → List (List ℕ) → (old new : List Worker) → Type 0

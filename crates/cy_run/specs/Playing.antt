@@ -10,13 +10,13 @@ use Rattle.cy_table.specs.declared.pass.Pass.{Pass}
 use Rattle.cy_table.specs.declared.table.FlagTable.{FlagTable}
 use Rattle.cy_table.specs.Seats.{Seat, Entry}
 use Rattle.cy_table.specs.Seats.Entry.{Clock, Closing}
-use Rattle.cy_table.specs.Calls.{made_of, seat_of, number_of}
+use Rattle.cy_table.specs.Calls.{made_of, seat_of, pass_number}
 use Rattle.cy_run.specs.Passes.{IsFree}
 
 -- The player's pass, with nothing in hand and nothing owed.
 pub record IsFreePlayer (t : FlagTable) (p : Pass) : Type 0 where
   pub free : IsFree t p
-  pub player : number_of p ≡ 0
+  pub player : pass_number p ≡ 0
 
 -- A message may come next on the tape, once the clock is set to its time.
 pub record IsNextFor (v : Seat) (token : Token) : Type 0 where

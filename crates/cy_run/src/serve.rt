@@ -1,9 +1,7 @@
 // A call of a component by the processor that has it in hand, outside every lock and door.
 ghost use Rattle.std.specs.Prelude.{◌≡◌, Some};
-ghost use Rattle.cy_comp.specs.Calls.{last_outcome, held_until};
+ghost use Rattle.cy_comp.specs.Calls.{last_outcome};
 ghost use Rattle.wake_core.specs.declared.phase.Phase.TheVariants.{Running, Done};
-ghost use Rattle.wake_core.specs.Events.{state_after};
-ghost use Rattle.wake_core.specs.Turns.{is_held};
 ghost use Rattle.cy_table.specs.Calls.{Stays, IsStepped, ShowsTheSame, routine_of, to_step};
 ghost use Rattle.cy_run.specs.Passes.{IsMadeOf, IsFree, IsInPhase};
 ghost use Rattle.cy_run.specs.private.Serving.{IsReady, HoldsNone, MaySendOut, IsSent, IsSentOut};
@@ -14,6 +12,7 @@ use cy_comp::{Outcome, State, Wiring};
 use cy_msg::Tuple;
 use cy_table::{FlagTable, Hold, Pass};
 use std::sync::Wait;
+use wake_core::{holds, state_of};
 
 // Resumes the READY croutine in hand, and gives it back.
 pub(crate) fn serve<G: Gate, R: Wait>(
@@ -203,22 +202,4 @@ fn send<R: Wait>(
 {
     let token = table.send(rt, pass, hold);
     deliver(rt, table, pass, token, idle, wiring);
-}
-
-// Whether an outcome holds its output back.
-fn holds(outcome: &Outcome) -> bool
-    ensures { result ≡ is_held (held_until (Some outcome.now)) }
-{
-    matches!(*outcome, Outcome::Hold { .. })
-}
-
-// What an outcome says that the croutine is to do next.
-fn state_of(outcome: &Outcome) -> State
-    ensures { result ≡ state_after outcome.now }
-{
-    match *outcome {
-        Outcome::Emit(_) => State::Ready,
-        Outcome::Hold { until, .. } => State::Sleep { until },
-        Outcome::Last(_) => State::Finished,
-    }
 }

@@ -14,7 +14,7 @@ use Rattle.wake_core.specs.Laws.Event.{acquire, ask, yield_as, release}
 use Rattle.wake_core.specs.Laws.Events.{none, more}
 use Rattle.cy_table.specs.declared.part.Part.{Part}
 use Rattle.cy_table.specs.declared.part.Part.TheVariants as part
-use Rattle.cy_table.specs.Layout.{number_of}
+use Rattle.cy_table.specs.Layout.{state_number}
 use Rattle.cy_table.specs.Seats.{Seat, Seen, Grip, Entry}
 use Rattle.cy_table.specs.Seats.Entry.{Busy}
 use Rattle.cy_table.specs.Seats.{AreSeen}
@@ -143,7 +143,7 @@ pub asks : StateStores → (made : Plain) (slots id c : ℕ) (m : Thread) → m.
 asks law made slots id c m live has same may = subst (λ d. Allows (Ruled made) slots id m (4 * d + 5) (λ _. 1) (λ _. asked (step slots (4 * d + 5) 1 0 maybe.none) m 1)) same
     (λ s k deep at bound. (asking m.0 (in_hand m.0), keeps, tt, ruled_then k id (asking m.0 (in_hand m.0)) refl m.0 at (λ w u e. ask e) (law.ask k.rooms k.world s id m.0 (in_hand m.0) m.1 record { rules = k.rules; at = at; live = live } has may) refl, refl))
 
-pub yields : StateStores → (made : Plain) (slots id c number : ℕ) (m : Thread) → m.0.live ≢ 0 → m.0.hand ≡ Some (in_hand m.0) → (in_hand m.0).croutine ≡ c → number_of (next_state (in_hand m.0)) ≡ number
+pub yields : StateStores → (made : Plain) (slots id c number : ℕ) (m : Thread) → m.0.live ≢ 0 → m.0.hand ≡ Some (in_hand m.0) → (in_hand m.0).croutine ≡ c → state_number (next_state (in_hand m.0)) ≡ number
     → MayYield m.0 (in_hand m.0)
     → Allows (Ruled made) slots id m (4 * c + 5) (λ _. number) (λ _. yielded (step slots (4 * c + 5) number 0 maybe.none) m number)
 yields law made slots id c number m live has same is may = subst (λ (x : ℕ × ℕ). Allows (Ruled made) slots id m (4 * x.0 + 5) (λ _. x.1) (λ _. yielded (step slots (4 * x.0 + 5) x.1 0 maybe.none) m x.1)) (λ i. (same i, is i))

@@ -22,7 +22,7 @@ use Rattle.wake_core.specs.Events.{IsFree, IsDue, OwesNothing, state_after, Acqu
 use Rattle.wake_core.specs.Laws.{KeepsSound}
 use Rattle.cy_table.specs.declared.part.Part.{Part}
 use Rattle.cy_table.specs.declared.part.Part.TheVariants as part
-use Rattle.cy_table.specs.Layout.{number_of}
+use Rattle.cy_table.specs.Layout.{state_number}
 use Rattle.cy_table.specs.Seats.{Seat, Grip, Entry}
 use Rattle.cy_table.specs.Seats.Entry.{Busy, Found}
 use Rattle.cy_table.specs.Shown.{Rooms, Home, AtHome, OutWith, spread, routine_in, routine_of, hand_of, routine_at, out_in}
@@ -145,12 +145,12 @@ module _ (r : Rooms) (w : Plain) (s : Table Part Seat) (id : ℕ) (v : Seat) (si
   -- A state is stored.
   state_becomes : (g : Grip) → v.hand ≡ Some g → (phase : Phase) (st : State) (note : List Entry) (out : List (ℕ × Part)) (event : Plain → Plain → Type 0)
       → KeepsSound event → event w (stored id g.croutine phase st w)
-      → Becomes r event w (stepped s (4 * g.croutine + 5) (number_of st) id out (record (put_in v g phase st) { note = note }) keeps)
+      → Becomes r event w (stepped s (4 * g.croutine + 5) (state_number st) id out (record (put_in v g phase st) { note = note }) keeps)
   state_becomes g e phase st note out event keep happens =
       let t = spread s in
       let c : ℕ = g.croutine in
       let i : ℕ = 4 * c + 5 in
-      let x : ℕ = number_of st in
+      let x : ℕ = state_number st in
       let v' : Seat = record (put_in v g phase st) { note = note } in
       let w' : Plain = stored id c phase st w in
       let g' : Grip = record { croutine = c; phase = phase; routine = record g.routine { state = st } } in
@@ -214,7 +214,7 @@ module _ (r : Rooms) (w : Plain) (s : Table Part Seat) (id : ℕ) (v : Seat) (si
       may.sent
 
   pub yield_becomes : (g : Grip) → v.hand ≡ Some g → MayYield v g → (out : List (ℕ × Part)) → KeepsSound (Yields id g.croutine (next_state g))
-      → Becomes r (Yields id g.croutine (next_state g)) w (stepped s (4 * g.croutine + 5) (number_of (next_state g)) id out (yielding v g) keeps)
+      → Becomes r (Yields id g.croutine (next_state g)) w (stepped s (4 * g.croutine + 5) (state_number (next_state g)) id out (yielding v g) keeps)
   yield_becomes g e may out keep = state_becomes g e Done (next_state g) v.note out (Yields id g.croutine (next_state g)) keep record {
     owes = owes_known may.owes;
     held = may_yield g e may;

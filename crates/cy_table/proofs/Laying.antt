@@ -24,7 +24,7 @@ use Rattle.wake_core.specs.WorldOf.{plain_of, routes_in, counts_in}
 use Rattle.wake_core.specs.Parts.{routine_in, shown_by, AreFit}
 use Rattle.cy_table.specs.declared.part.Part.{Part}
 use Rattle.cy_table.specs.declared.part.Part.TheVariants as part
-use Rattle.cy_table.specs.Layout.{number_of, yes_or_no}
+use Rattle.cy_table.specs.Layout.{state_number, yes_or_no}
 use Rattle.cy_table.specs.Seats.{Seat, TapeView}
 use Rattle.cy_table.specs.Seats.{AreSeen}
 use Rattle.cy_table.specs.Shown.{Rooms, AreRoomy, LiesOpen, kind_at, roles_at, queue_at, out_in, pending_at, routine_at, visitor_at, tape_at}
@@ -67,7 +67,7 @@ pub record WordsTo (k n : ℕ) (p : Parts) (words : List ℕ) : Type 0 where
   pub clock_is : slice_index words 1 ≡ p.clock
   pub closing_is : slice_index words 2 ≡ yes_or_no p.closing
   pub tape_free : slice_index words 3 ≡ 0
-  pub state : (c : ℕ) → c < k → slice_index words (4 * c + 5) ≡ number_of (routine_in p c).state
+  pub state : (c : ℕ) → c < k → slice_index words (4 * c + 5) ≡ state_number (routine_in p c).state
   pub flag : (c : ℕ) → c < k → slice_index words (4 * c + 6) ≡ yes_or_no (read (λ b. b) true p.spent c)
   pub free : (c : ℕ) → c < n → slice_index words (4 * c + 4) ≡ 0
   pub visitor_free : (c : ℕ) → c < n → slice_index words (4 * c + 7) ≡ 0
@@ -92,7 +92,7 @@ last_or (suc c) zero l = absurd (omega (arith, l))
 last_or (suc c) (suc k) l = elim (last_or c k (omega (arith, l))) [ inl e ↦ inl (ap suc e) | inr less ↦ inr (omega (arith, less)) ]
 
 -- The words of one component more.
-pub words_more : {k n x y : ℕ} {p : Parts} {ws : List ℕ} → WordsTo k n p ws → k < n → x ≡ number_of (routine_in p k).state → y ≡ yes_or_no (read (λ b. b) true p.spent k) → WordsTo (k + 1) n p (set (set ws (4 * k + 5) x) (4 * k + 6) y)
+pub words_more : {k n x y : ℕ} {p : Parts} {ws : List ℕ} → WordsTo k n p ws → k < n → x ≡ state_number (routine_in p k).state → y ≡ yes_or_no (read (λ b. b) true p.spent k) → WordsTo (k + 1) n p (set (set ws (4 * k + 5) x) (4 * k + 6) y)
 words_more {k} {n} {x} {y} {p} {ws} h l state_is flag_is =
     let i : ℕ = 4 * k + 5 in
     let j : ℕ = 4 * k + 6 in
@@ -104,7 +104,7 @@ words_more {k} {n} {x} {y} {p} {ws} h l state_is flag_is =
       closing_is = both_other ws i j x y 2 (λ e. omega arith) (λ e. omega arith) ∙ h.closing_is;
       tape_free = both_other ws i j x y 3 (λ e. omega arith) (λ e. omega arith) ∙ h.tape_free;
       state = λ c less. elim (last_or c k less) [
-        | inl e ↦ subst (λ d. get_or (set (set ws i x) j y) (4 * d + 5) 0 ≡ number_of (routine_in p d).state) (sym e) (both_first ws i j x y in_i (λ z. omega arith) ∙ state_is)
+        | inl e ↦ subst (λ d. get_or (set (set ws i x) j y) (4 * d + 5) 0 ≡ state_number (routine_in p d).state) (sym e) (both_first ws i j x y in_i (λ z. omega arith) ∙ state_is)
         | inr before ↦ both_other ws i j x y (4 * c + 5) (λ z. omega (arith, before)) (λ z. omega arith) ∙ h.state c before
       ];
       flag = λ c less. elim (last_or c k less) [
@@ -128,7 +128,7 @@ words_done {k} {n} {p} {ws} h all size = record {
   clock_is = h.clock_is;
   closing_is = h.closing_is;
   tape_free = h.tape_free;
-  state = λ c less. h.state c (omega (arith, less, size, all)) ∙ ap number_of (sym (read_of (λ (r : RoutineView). r.state) no_routine p.routines c));
+  state = λ c less. h.state c (omega (arith, less, size, all)) ∙ ap state_number (sym (read_of (λ (r : RoutineView). r.state) no_routine p.routines c));
   flag = λ c less. h.flag c (omega (arith, less, size, all));
   free = λ c less. h.free c (omega (arith, less, size));
   visitor_free = λ c less. h.visitor_free c (omega (arith, less, size));

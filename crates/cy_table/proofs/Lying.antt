@@ -11,7 +11,7 @@ use Rattle.wake_core.specs.Fields.{IsFixed}
 use Rattle.wake_core.specs.Laws.{IsIdle}
 use Rattle.cy_table.specs.declared.part.Part.{Part}
 use Rattle.cy_table.specs.declared.part.Part.TheVariants as part
-use Rattle.cy_table.specs.Layout.{number_of, yes_or_no}
+use Rattle.cy_table.specs.Layout.{state_number, yes_or_no}
 use Rattle.cy_table.specs.Seats.{Seat, Seen, no_seat}
 use Rattle.cy_table.specs.Seats.{IsEmpty, AreSeen, total_live}
 use Rattle.cy_table.specs.Shown.{Rooms, AreRoomy, Kept, AtHome, OutWith, LiesOpen, spread, routine_in, visitor_in, tape_in, routine_of, visitor_of, hand_of, routine_at, visitor_at, tape_at}
@@ -106,7 +106,7 @@ module _ (r : Rooms) (w : Plain) (s : Table Part Seat) (v : Seat) (sits : Sits r
         deep = sits.rules.deep;
         clock_is = is_word s 1 w.clock words.clock_is;
         closing_is = is_word s 2 (yes_or_no w.closing) words.closing_is;
-        state = λ c less. is_word s (4 * c + 5) (number_of (w.states c)) (words.state c less);
+        state = λ c less. is_word s (4 * c + 5) (state_number (w.states c)) (words.state c less);
         flag = λ c less. is_word s (4 * c + 6) (yes_or_no (w.spent c)) (words.flag c less);
         tape_free = is_word s 3 0 tape.free;
         free = λ c less. is_word s (4 * c + 4) 0 (routine c less).free;

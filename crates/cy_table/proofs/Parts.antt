@@ -12,7 +12,7 @@ use Rattle.wake_core.specs.declared.phase.Phase.{Phase}
 use Rattle.wake_core.specs.Run.{set_at}
 use Rattle.wake_core.specs.Plain.{hand}
 use Rattle.cy_table.specs.declared.part.Part.TheVariants as part
-use Rattle.cy_table.specs.Layout.{number_of}
+use Rattle.cy_table.specs.Layout.{state_number}
 use Rattle.cy_table.specs.Seats.{Seat, Grip, Visit, TapeView}
 use Rattle.cy_table.specs.Shown.{Spread, Home, routine_in, visitor_in, tape_in, routine_of, visitor_of, hand_of, Kept}
 use Rattle.cy_table.specs.Rule.{ShowsParts, ShowsWords, ShowsThreads}
@@ -150,11 +150,11 @@ module _ {n : ℕ} {tape : TapeView} {routines : ℕ → RoutineView} {visitors 
 
 -- The words, where a state is stored.
 pub state_stored : {n : ℕ} {states : ℕ → State} {spent : ℕ → Bool} {clock : ℕ} {closing : Bool} {word : ℕ → ℕ} (c : ℕ) (st : State) → ShowsWords n states spent clock closing word
-    → ShowsWords n (set_at c st states) spent clock closing (set_at (4 * c + 5) (number_of st) word)
-state_stored {states} {word} c st sh = let i : ℕ = 4 * c + 5 in let x : ℕ = number_of st in record {
+    → ShowsWords n (set_at c st states) spent clock closing (set_at (4 * c + 5) (state_number st) word)
+state_stored {states} {word} c st sh = let i : ℕ = 4 * c + 5 in let x : ℕ = state_number st in record {
   state = λ d less. elim (place d c) [
-    | inl e ↦ there i x word (4 * d + 5) (omega (arith, e)) ∙ ap number_of (sym (there c st states d e))
-    | inr e ↦ other i x word (4 * d + 5) (λ a. e (omega arith)) ∙ (sh.state d less ∙ ap number_of (sym (other c st states d e)))
+    | inl e ↦ there i x word (4 * d + 5) (omega (arith, e)) ∙ ap state_number (sym (there c st states d e))
+    | inr e ↦ other i x word (4 * d + 5) (λ a. e (omega arith)) ∙ (sh.state d less ∙ ap state_number (sym (other c st states d e)))
   ];
   flag = λ d less. other i x word (4 * d + 6) (λ a. omega arith) ∙ sh.flag d less;
   clock_is = other i x word 1 (λ a. omega arith) ∙ sh.clock_is;

@@ -12,7 +12,7 @@ use Rattle.wake_core.specs.Plain.{Plain, hand, to_play_from}
 use Rattle.wake_core.specs.Events.{IsDue, is_waiting, phase_after_spend, Spends, Looks, Clears, Ticks, Closes, after_spend, after_look, after_clear}
 use Rattle.wake_core.specs.Laws.{KeepsSound}
 use Rattle.cy_table.specs.declared.part.Part.{Part}
-use Rattle.cy_table.specs.Layout.{number_of, yes_or_no}
+use Rattle.cy_table.specs.Layout.{state_number, yes_or_no}
 use Rattle.cy_table.specs.Seats.{Seat, Grip}
 use Rattle.cy_table.specs.Seats.Entry.{Clock, Closing}
 use Rattle.cy_table.specs.Shown.{Rooms, spread, routine_of, hand_of}
@@ -27,7 +27,7 @@ yes_is : (b : Bool) → (yes_or_no b == 1) ≡ b
 yes_is false = refl
 yes_is true = refl
 
-waits_is : (st : State) → (number_of st == 1) ≡ is_waiting st
+waits_is : (st : State) → (state_number st == 1) ≡ is_waiting st
 waits_is Ready = refl
 waits_is DataWait = refl
 waits_is (Sleep until) = refl
@@ -93,8 +93,8 @@ module _ (r : Rooms) (w : Plain) (s : Table Part Seat) (id : ℕ) (v : Seat) (si
   hand_same : (c : ℕ) → routine_of c v.hand ≡ routine_of c ((spread s).seat id).hand
   hand_same c = ap (λ (u : Seat). routine_of c u.hand) (sym (seat_is r w s id v sits))
 
-  state_word_is : (c : ℕ) → c < length w.routes → number_of (w.states c) ≡ slice_index s.words (4 * c + 5)
-  state_word_is c less = sym (is_word s (4 * c + 5) (number_of (w.states c)) (sits.rules.shows.words.state c less))
+  state_word_is : (c : ℕ) → c < length w.routes → state_number (w.states c) ≡ slice_index s.words (4 * c + 5)
+  state_word_is c less = sym (is_word s (4 * c + 5) (state_number (w.states c)) (sits.rules.shows.words.state c less))
 
   flag_word_is : (c : ℕ) → c < length w.routes → yes_or_no (w.spent c) ≡ slice_index s.words (4 * c + 6)
   flag_word_is c less = sym (is_word s (4 * c + 6) (yes_or_no (w.spent c)) (sits.rules.shows.words.flag c less))

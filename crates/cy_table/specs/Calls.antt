@@ -40,8 +40,8 @@ thread_of p = p.seat.me
 abbrev pub seat_of : Pass → Seat
 seat_of p = p.seat.me.0
 
-abbrev pub number_of : Pass → ℕ
-number_of p = p.seat.id
+abbrev pub pass_number : Pass → ℕ
+pass_number p = p.seat.id
 
 -- What a pass knows, with the slots that it took before.
 abbrev pub knowing : Pass → Seat → Thread
@@ -74,7 +74,7 @@ pub record IsAt (t : FlagTable) (p : Pass) : Type 0 where
 
 pub record Stays (t : FlagTable) (p q : Pass) : Type 0 where
   pub at : IsAt t q
-  pub number : number_of q ≡ number_of p
+  pub number : pass_number q ≡ pass_number p
 
 -- The component in hand was stepped on each tuple that a fetch gave.
 abbrev pub IsStepped : Hold → Type 0
@@ -140,12 +140,12 @@ pub record CanRelease (t : FlagTable) (p : Pass) (h : Hold) : Type 0 where
 -- are filled.
 pub record CanTick (t : FlagTable) (p : Pass) (time : ℕ) : Type 0 where
   pub at : IsAt t p
-  pub player : number_of p ≡ 0
+  pub player : pass_number p ≡ 0
   pub later : (seat_of p).clock ≤ time
 
 pub record CanClose (t : FlagTable) (p : Pass) : Type 0 where
   pub at : IsAt t p
-  pub player : number_of p ≡ 0
+  pub player : pass_number p ≡ 0
   pub all : length (seat_of p).played ≡ to_play_from (seat_of p).routes 0 (seat_of p).counts
 
 pub record CanLook (t : FlagTable) (p : Pass) (c : ℕ) : Type 0 where
@@ -160,7 +160,7 @@ after_look v = record v { news = but_first v.news }
 -- The player's pass, and a pass with nothing in hand and nothing owed that is joined into it.
 pub record IsPlayer (t : FlagTable) (p : Pass) : Type 0 where
   pub at : IsAt t p
-  pub player : number_of p ≡ 0
+  pub player : pass_number p ≡ 0
 
 -- .. of which so many seats were split off that one more may be.
 pub record CanSplit (t : FlagTable) (p : Pass) : Type 0 where
@@ -262,12 +262,12 @@ pub record Fetched (t : FlagTable) (p : Pass) (h : Hold) (answer : Option Tuple)
 pub record CanEnter (t : FlagTable) (p : Pass) : Type 0 where
   pub at : IsAt t p
   pub bare : (seat_of p).tape ≡ None
-  pub may : MayPut (number_of p) (seat_of p)
+  pub may : MayPut (pass_number p) (seat_of p)
 
 -- The event Tape by the player.
 pub record CanTape (t : FlagTable) (p : Pass) (token : Token) : Type 0 where
   pub at : IsAt t p
-  pub player : number_of p ≡ 0
+  pub player : pass_number p ≡ 0
   pub bare : (seat_of p).tape ≡ None
   pub may : MayTape (seat_of p) token
 

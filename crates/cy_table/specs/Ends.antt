@@ -20,7 +20,7 @@ use Rattle.cy_table.specs.declared.table.FlagTable.{FlagTable}
 use Rattle.cy_table.specs.declared.table.ends.Taken.{Taken}
 use Rattle.cy_table.specs.Layout.{clock_word, closing_word, tape_door, hold_word, state_word}
 use Rattle.cy_table.specs.Layout.{flag_word, visitor_door, tape_slot, routine_slot, visitor_slot}
-use Rattle.cy_table.specs.Layout.{words_for, slots_for, number_of, yes_or_no}
+use Rattle.cy_table.specs.Layout.{words_for, slots_for, state_number, yes_or_no}
 use Rattle.cy_table.specs.Seats.{IsEmpty}
 use Rattle.cy_table.specs.Shown.{Rooms, routine_at, visitor_at, tape_at}
 use Rattle.cy_table.specs.Plays.{HasSeen, seat_for}
@@ -70,7 +70,7 @@ pub record AreWords (w : Plain) (words : List ℕ) : Type 0 where
   pub closing_is : slice_index words closing_word ≡ yes_or_no w.closing
   pub tape_free : slice_index words tape_door ≡ 0
   pub state : (c : ℕ) → c < length w.routes → slice_index words (state_word c)
-      ≡ number_of (w.states c)
+      ≡ state_number (w.states c)
   pub flag : (c : ℕ) → c < length w.routes → slice_index words (flag_word c)
       ≡ yes_or_no (w.spent c)
   pub free : (c : ℕ) → c < length w.routes → slice_index words (hold_word c) ≡ 0

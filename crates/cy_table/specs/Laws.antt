@@ -27,7 +27,7 @@ use Rattle.cy_table.specs.declared.part.Part.{Part}
 use Rattle.cy_table.specs.declared.part.Part.TheVariants as part
 use Rattle.cy_table.specs.Layout.{clock_word, closing_word, hold_word, state_word, flag_word}
 use Rattle.cy_table.specs.Layout.{tape_door, visitor_door, tape_slot, routine_slot}
-use Rattle.cy_table.specs.Layout.{visitor_slot, number_of}
+use Rattle.cy_table.specs.Layout.{visitor_slot, state_number}
 use Rattle.cy_table.specs.Seats.{Seat, Seen, Grip, Visit, TapeView, no_seat}
 use Rattle.cy_table.specs.Seats.{AreSeen, IsEmpty}
 use Rattle.cy_table.specs.Shown.{Rooms, AreRoomy, LiesOpen, routine_at, visitor_at, tape_at}
@@ -68,7 +68,7 @@ pub record StateStores : Type 0 where
   pub yield_as : (r : Rooms) (w : Plain) (s : Table Part Seat) (id : ℕ) (v : Seat) (g : Grip)
       (out : List (ℕ × Part)) → Sits r w s id v → v.hand ≡ Some g → MayYield v g
       → Becomes r (Yields id g.croutine (next_state g)) w (stepped s (state_word g.croutine)
-      (number_of (next_state g)) id out (yielding v g) keeps)
+      (state_number (next_state g)) id out (yielding v g) keeps)
 
 -- The store of a hold word, when the routine in its slot is the one that the seat shows: the event
 -- Release.

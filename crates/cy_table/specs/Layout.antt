@@ -47,11 +47,11 @@ abbrev pub slots_for : (components : ℕ) → ℕ
 slots_for n = 2 * n + 1
 
 -- The number of a state. The wake time of one that sleeps stands in its routine.
-abbrev pub number_of : State → ℕ
-number_of Ready = 0
-number_of DataWait = 1
-number_of (Sleep until) = 2
-number_of Finished = 3
+abbrev pub state_number : State → ℕ
+state_number Ready = 0
+state_number DataWait = 1
+state_number (Sleep until) = 2
+state_number Finished = 3
 
 -- A word that says yes or no: a flag is spent, the run is closing.
 abbrev pub yes_or_no : Bool → ℕ

@@ -20,7 +20,7 @@ use Rattle.wake_core.specs.Laws.{Events}
 use Rattle.cy_table.specs.declared.part.Part.{Part}
 use Rattle.cy_table.specs.Layout.{clock_word, closing_word, tape_door, hold_word, state_word}
 use Rattle.cy_table.specs.Layout.{flag_word, visitor_door, tape_slot, routine_slot, visitor_slot}
-use Rattle.cy_table.specs.Layout.{words_for, slots_for, number_of, yes_or_no}
+use Rattle.cy_table.specs.Layout.{words_for, slots_for, state_number, yes_or_no}
 use Rattle.cy_table.specs.Seats.{Seat, Entry, TapeView, IsEmpty, AreSeen, total_live}
 use Rattle.cy_table.specs.Seats.Entry.{Busy, Found, Saw, Clock, Closing}
 use Rattle.cy_table.specs.Shown.{Spread, spread, routine_in, visitor_in, tape_in, routine_of}
@@ -40,7 +40,7 @@ pub record ShowsParts (n : ℕ) (tape : TapeView) (routines : ℕ → RoutineVie
 -- Words show the states, the flags, the clock and whether the run is closing.
 pub record ShowsWords (n : ℕ) (states : ℕ → State) (spent : ℕ → Bool) (clock : ℕ) (closing : Bool)
     (word : ℕ → ℕ) : Type 0 where
-  pub state : (c : ℕ) → c < n → word (state_word c) ≡ number_of (states c)
+  pub state : (c : ℕ) → c < n → word (state_word c) ≡ state_number (states c)
   pub flag : (c : ℕ) → c < n → word (flag_word c) ≡ yes_or_no (spent c)
   pub clock_is : word clock_word ≡ clock
   pub closing_is : word closing_word ≡ yes_or_no closing

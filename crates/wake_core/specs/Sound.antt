@@ -45,13 +45,16 @@ NotRunning hands c = (p : ℕ) → hands p ≢ hand c Running
 -- the last is unsent.
 pub record Held (size : ℕ) (hands : ℕ → Option Hand) (states : ℕ → State)
     (last : ℕ → Option Outcome) (made taped : ℕ → ℕ) : Type 0 where
+  -- 1. Holders: a croutine that is held is known, and has one.
   pub known : (p c : ℕ) (f : Phase) → hands p ≡ hand c f → c < size
   pub one : (c p q : ℕ) (f g : Phase) → hands p ≡ hand c f → hands q ≡ hand c g → p ≡ q
+  -- 2. Phases: the state of a croutine that is held.
   pub woken : (p c : ℕ) → hands p ≡ hand c Woken → states c ≡ DataWait
   pub asked : (p c : ℕ) → hands p ≡ hand c Asked → states c ≡ DataWait
   pub empty : (p c : ℕ) → hands p ≡ hand c Empty → states c ≡ DataWait
   pub running : (p c : ℕ) → hands p ≡ hand c Running → states c ≡ DataWait
   pub sending : (p c : ℕ) → hands p ≡ hand c Sending → states c ≡ Ready
+  -- 3. Outcomes: the state of any croutine, and what of its output is unsent.
   -- SLEEP until u only after a Hold until u whose output is unsent.
   pub sleeps : (c u : ℕ) → states c ≡ Sleep u → held_until (last c) ≡ Some u
   pub asleep : (c u : ℕ) → states c ≡ Sleep u → taped c < made c

@@ -2,9 +2,8 @@
 ghost use Rattle.std.specs.Prelude.{ℕ, ◌≡◌, ◌≤◌, ◌<◌, true, false, Some, None, length};
 ghost use Rattle.cy_msg.specs.Placement.{scan_of};
 ghost use Rattle.cy_comp.specs.declared.call.Call.{Call};
-ghost use Rattle.cy_comp.specs.Calls.{held_until};
 ghost use Rattle.wake_core.specs.Plain.{Plain, Ready, Known, Running, lists, last_of, unsent_of};
-ghost use Rattle.wake_core.specs.Events.{Ticks, IsNext, state_after};
+ghost use Rattle.wake_core.specs.Events.{Ticks, IsNext};
 ghost use Rattle.wake_core.specs.Settle.{Settles};
 ghost use Rattle.wake_core.specs.Serial.{SerialRun, last_clock, next};
 ghost use Rattle.wake_core.specs.LawfulRun.{Quiet, LawfulRun};
@@ -12,11 +11,11 @@ ghost use Rattle.wake_core.specs.Rest.{IsAtRest, IsScanOf, MayPlay, MayFinish, S
 ghost use Rattle.wake_core.specs.Rest.{StaysFixed, run_shown};
 ghost use Rattle.wake_core.specs.Turns.{Plays, Passes, Finds, IsInHand, MaySendOut, Delivered};
 ghost use Rattle.wake_core.specs.Turns.{SendsOut, IsCalledFrom, Resumes, Turns, IsSettled};
-ghost use Rattle.wake_core.specs.Turns.{is_held};
 ghost use Rattle.wake_core.specs.WorldOf.{plain_of, to_step};
 ghost use Rattle.wake_core.specs.WorldCalls.{in_hand, phase_sent, IsStepped};
 
 use crate::World;
+use crate::outcome::{holds, state_of};
 use cy_comp::{Outcome, State, outcomes_are_answers};
 use cy_fuse::fetches_find;
 use cy_msg::{ContextPlan, Placement, PlayList, Token};
@@ -220,22 +219,4 @@ fn send(world: &mut World, token: Token)
 {
     world.tape(0, token);
     world.deliver(&token);
-}
-
-// Whether an outcome holds its output back.
-fn holds(outcome: &Outcome) -> bool
-    ensures { result ≡ is_held (held_until (Some outcome.now)) }
-{
-    matches!(*outcome, Outcome::Hold { .. })
-}
-
-// What an outcome says that the croutine is to do next.
-fn state_of(outcome: &Outcome) -> State
-    ensures { result ≡ state_after outcome.now }
-{
-    match *outcome {
-        Outcome::Emit(_) => State::Ready,
-        Outcome::Hold { until, .. } => State::Sleep { until },
-        Outcome::Last(_) => State::Finished,
-    }
 }

@@ -7,7 +7,7 @@ ghost use Rattle.wake_core.specs.Parts.{AreFit, shown_by};
 ghost use Rattle.cy_table.specs.Layout.{yes_or_no};
 ghost use Rattle.cy_table.specs.Ends.{AreWords, HaveFewCalls, laid};
 
-use super::hold::number_of;
+use super::hold::state_number;
 use crate::boxed_visitor::BoxedVisitor;
 use crate::counted_routine::CountedRoutine;
 use crate::laws;
@@ -154,7 +154,7 @@ fn words_of(alloc: Global, parts: &Parts) -> Result<Vec<u64>, TableError>
     words[1] = parts.clock;
     words[2] = word_of(parts.closing);
     for c in 0..routines.len() {
-        words[4 * c + 5] = number_of(routines[c].state());
+        words[4 * c + 5] = state_number(routines[c].state());
         let is_spent = spent[c];
         words[4 * c + 6] = word_of(is_spent);
     }

@@ -1,6 +1,6 @@
 // Taking a croutine, saying what it is to do next, and giving it back.
 ghost use Rattle.std.specs.Prelude.{◌≡◌};
-ghost use Rattle.cy_table.specs.Layout.{number_of as number_for};
+ghost use Rattle.cy_table.specs.Layout.{state_number as number_for};
 
 use crate::hold::Hold;
 use crate::laws;
@@ -72,7 +72,7 @@ impl FlagTable {
     {
         laws::state_stores();
         let c = hold.component as usize;
-        let number = number_of(state);
+        let number = state_number(state);
         hold.routine.yielded(state);
         let shared = &self.table.shared;
         shared.store::<Yield>(&mut pass.seat, 4 * c + 5, number);
@@ -101,7 +101,7 @@ impl FlagTable {
 }
 
 // The number of a state in its word.
-pub(super) fn number_of(state: State) -> u64
+pub(super) fn state_number(state: State) -> u64
     ensures { result ≡ number_for state }
 {
     match state {

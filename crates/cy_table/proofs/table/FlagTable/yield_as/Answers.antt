@@ -1,7 +1,7 @@
 -- The store of what a croutine is to do next.
 use Rattle.std.proofs.Common.{sym, ap, ◌∙◌, arith}
 use Rattle.wake_core.specs.WorldOf.{plain_of}
-use Rattle.cy_table.specs.Layout.{number_of}
+use Rattle.cy_table.specs.Layout.{state_number}
 use Rattle.cy_table.proofs.Allowing.{yields}
 use Rattle.cy_table.proofs.table.FlagTable.yield_as.Goals as goal
 
@@ -12,6 +12,6 @@ store-requires c =
     let seat = c.args.pass.now.seat in (
       c.requires.at.table,
       omega (arith, c.args.self.now.words, c.requires.holds.inside),
-      yields c.state_stores.ensures made table.table_id.slots seat.id c.args.hold.now.component c.number_of-number.result seat.me c.requires.at.live c.requires.holds.hand c.requires.holds.croutine
-          (sym (c.number_of-number.ensures ∙ ap number_of c.requires.next)) c.requires.may,
+      yields c.state_stores.ensures made table.table_id.slots seat.id c.args.hold.now.component c.state_number-number.result seat.me c.requires.at.live c.requires.holds.hand c.requires.holds.croutine
+          (sym (c.state_number-number.ensures ∙ ap state_number c.requires.next)) c.requires.may,
     )

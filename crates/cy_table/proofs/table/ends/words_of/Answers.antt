@@ -1,7 +1,7 @@
 use Rattle.std.proofs.Common.{◌<◌, ◌≤◌, ◌∙◌, sym, ap, length, arith, true}
 use Rattle.cy_comp.specs.Routine.{RoutineView}
 use Rattle.wake_core.specs.Fields.{no_routine}
-use Rattle.cy_table.specs.Layout.{number_of, yes_or_no}
+use Rattle.cy_table.specs.Layout.{state_number, yes_or_no}
 use Rattle.cy_table.proofs.Laying.{read_item, read_or, words_more, words_done}
 use Rattle.cy_table.proofs.table.ends.words_of.Goals as goal
 
@@ -17,7 +17,7 @@ loop-c-preserved c =
     let routine = read_item no_routine c.index-routines-c.result routines p.routines k c.as_slice-routines.ensures less c.index-routines-c.is in
     let flag = read_or true _ spent p.spent k c.as_slice-spent.ensures in_spent in
     record {
-      so_far = words_more c.loop-c.invariant.so_far in_routines (c.number_of.ensures ∙ ap number_of (c.state.ensures ∙ ap (λ (r : RoutineView). r.state) (sym routine)))
+      so_far = words_more c.loop-c.invariant.so_far in_routines (c.state_number.ensures ∙ ap state_number (c.state.ensures ∙ ap (λ (r : RoutineView). r.state) (sym routine)))
           (c.word_of-in-loop-c.ensures ∙ ap yes_or_no flag);
     }
 
