@@ -1,7 +1,7 @@
 use Rattle.std.proofs.Common.{map, ap, refl, ◌∙◌}
 use Rattle.std.proofs.lemmas.List.{take_all}
 use Rattle.cy_comp.specs.declared.plan.Plan.{Plan}
-use Rattle.cy_dag.proofs.Loops.{pushed_more}
+use Rattle.cy_config.proofs.Loops.{pushed_more}
 use Rattle.cy_replay.proofs.listing.written_by.Goals as goal
 
 pub loop-plan-preserved : goal.loop-plan-preserved

@@ -1,7 +1,7 @@
 use Rattle.std.proofs.Common.{map, ap, ◌∙◌}
 use Rattle.std.proofs.lemmas.List.{take_all}
 use Rattle.cy_dag.specs.declared.dag.DagComponent.{DagComponent}
-use Rattle.cy_dag.proofs.Loops.{pushed_more}
+use Rattle.cy_config.proofs.Loops.{pushed_more}
 use Rattle.cy_replay.proofs.wiring.names_of.Goals as goal
 
 pub loop-component-preserved : goal.loop-component-preserved
