@@ -6,6 +6,39 @@
 //! list needs and leaves, `specs/Running` what a run needs. Of the steps between
 //! `specs/private/Sending` says what the messages that are sent leave, and `specs/private/Serving`
 //! what is done with a croutine in hand.
+//!
+//! # For programs that set up a world of their own
+//!
+//! A run needs a wiring, a play list and a placement, as `cy_dag`, `cy_reader` and `cy_sched` make
+//! them of files, and an opening world that was made for the wiring and for how many messages of
+//! the list stand on each channel:
+//!
+//!     let world = World::new(alloc, &wiring, counts)?;
+//!     let world = run_threads(rt, alloc, world, &wiring, &list, &placement, &OpenGate)?;
+//!     let trace = trace_text(alloc, &world, &wiring, list.shadowed)?;
+//!
+//! - **Threads.** The player is the thread that calls. Each processor of the placement gets one of
+//!   its own, as long as the system gives one; where it gives none the processors' turn comes
+//!   behind the player, so that a run ends on one thread, too. All have ended when the call
+//!   returns.
+//! - **Time.** The clock is set to each message's time, in nanoseconds, before it is played. The
+//!   machine's own time decides nothing: a run is as fast as its components.
+//! - **Memory.** All of it is reserved before the first message. Between the making of the table
+//!   and its end nothing can fail.
+//! - **Waiting.** A run waits at doors that other threads have entered, where a processor has
+//!   nothing to do, and where the player is too far ahead.
+//! - **Order.** Which of several processors calls which component first differs from run to run.
+//!   That a component's own calls come in order, on tuples that were delivered to it, is a clause
+//!   of the world that comes out: it is that of a lawful run.
+//!
+//! A [`Gate`] is passed before each call. It may wait, and so holds a call until something else has
+//! happened, which tests use to bring about an interleaving: [`MeetGate`] holds the first call of
+//! one component until another component is called, [`PairGate`] shows that two are in hand at
+//! once. [`OpenGate`] does nothing.
+//!
+//! What a run does is also to be had in parts: [`drive`] plays a list at a table while workers
+//! work, and [`work`] is the whole loop of one processor. Both leave what the note of each pass
+//! tells. [`run_serial`] is the same without threads: it takes no memory and does not wait.
 #![tactic(auto)]
 
 mod crew;
