@@ -166,7 +166,7 @@ use Rattle.cy_msg.specs.declared.token.Token.{Token}
 use Rattle.cy_msg.specs.Tokens.{on_channel}
 use Rattle.cy_table.specs.declared.table.FlagTable.{FlagTable}
 use Rattle.cy_table.specs.declared.pass.Pass.{Pass}
-use Rattle.cy_table.specs.Calls.{number_of, seat_of}
+use Rattle.cy_table.specs.Calls.{pass_number, seat_of}
 use Rattle.table_bench.specs.Passes.{IsFree, IsOfOne}
 
 -- Message k of channel 0, at the time k + 1.
@@ -182,7 +182,7 @@ pub record AreMessages (count : ℕ) (tokens : List Token) : Type 0 where
 -- The player's pass, when the first k of them are played.
 pub record HasPlayedAll (count k : ℕ) (t : FlagTable) (p : Pass) : Type 0 where
   pub free : IsFree t p
-  pub player : number_of p ≡ 0
+  pub player : pass_number p ≡ 0
   pub one : IsOfOne t
   pub counts : (seat_of p).counts ≡ count ∷ 0 ∷ []
   pub played : length (on_channel 0 (seat_of p).played) ≡ k
@@ -206,7 +206,7 @@ use Rattle.wake_core.specs.Plain.{Plain}
 use Rattle.wake_core.specs.Rest.{IsScanOf, MayPlay}
 use Rattle.cy_table.specs.declared.table.FlagTable.{FlagTable}
 use Rattle.cy_table.specs.declared.pass.Pass.{Pass}
-use Rattle.cy_table.specs.Calls.{number_of, seat_of}
+use Rattle.cy_table.specs.Calls.{pass_number, seat_of}
 use Rattle.table_bench.specs.PassWiring.{pass_route}
 use Rattle.table_bench.specs.Passes.{IsFree, IsFirst, IsOpeningOfOne, IsNextFor, HasPlayed, KnowsTheSame}
 use Rattle.table_bench.specs.Messages.{IsMessage, AreMessages, HasPlayedAll}
@@ -311,7 +311,7 @@ next_is count k t p m h is few = record {
   later = omega (arith, h.clock, is.time);
 }
 
-pub then_is : (count k : ℕ) (t : FlagTable) (p q : Pass) (m : Token) → HasPlayedAll count k t p → IsMessage k m → IsFree t q → number_of q ≡ 0 → HasPlayed p m q → HasPlayedAll count (k + 1) t q
+pub then_is : (count k : ℕ) (t : FlagTable) (p q : Pass) (m : Token) → HasPlayedAll count k t p → IsMessage k m → IsFree t q → pass_number q ≡ 0 → HasPlayed p m q → HasPlayedAll count (k + 1) t q
 then_is count k t p q m h is free player played = record {
   free = free;
   player = player;
@@ -324,7 +324,7 @@ then_is count k t p q m h is free player played = record {
 }
 
 -- What tells the player nothing leaves it before the first of them.
-pub first_still : (count : ℕ) (t : FlagTable) (p q : Pass) → IsFirst count t p → IsFree t q → number_of q ≡ 0 → KnowsTheSame p q → IsFirst count t q
+pub first_still : (count : ℕ) (t : FlagTable) (p q : Pass) → IsFirst count t p → IsFree t q → pass_number q ≡ 0 → KnowsTheSame p q → IsFirst count t q
 first_still count t p q f free player same = record {
   free = free;
   player = player;
