@@ -185,7 +185,7 @@ fn sections_met(alloc: Global, file: &[u8]) -> Result<Loading, LoadError>
 
 // The header of a file, and what is met behind it.
 #[tactic(auto, unfolding(crate::specs::Record::parts_of))]
-pub(crate) fn read_record(alloc: Global, file: &[u8]) -> Result<(Header, Loading), LoadError>
+pub(crate) fn parts_of(alloc: Global, file: &[u8]) -> Result<(Header, Loading), LoadError>
     ensures parts { AnswersOr LoadError.Memory (λ x. (x.0, met_of file.now x.1)) result
         (parts_of file.now) }
     ensures loaded { IfOk result (λ x. IsLoaded file.now x.1) }

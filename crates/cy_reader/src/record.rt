@@ -12,7 +12,7 @@ ghost use Rattle.cy_reader.specs.Play.{message_at, time_at};
 use crate::facts::{Facts, channel_counts, count_parts, head_places, index_found};
 use crate::header::LONGEST_FILE;
 use crate::heads::{Walk, heads_of, index_at};
-use crate::loading::{Loading, read_record};
+use crate::loading::{Loading, parts_of};
 use crate::{LoadError, info};
 use cy_msg::{Bytes, Text};
 use cy_section::{Channel, Header};
@@ -61,7 +61,7 @@ fn record_in(alloc: Global, name: &str, file: Bytes) -> Result<Record, LoadError
     ensures record_of { AnswersOr LoadError.Memory (λ r. r) result (record_of name.now file) }
     ensures not_store { IfErr result (λ e. e ≢ LoadError.Store) }
 {
-    let (header, loading) = read_record(alloc, file.as_slice())?;
+    let (header, loading) = parts_of(alloc, file.as_slice())?;
     let walk = heads_of(alloc, file.as_slice())?;
     let name = Text::from_string(String::from_str(alloc, name)?);
     Ok(Record {

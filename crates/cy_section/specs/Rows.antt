@@ -17,14 +17,14 @@ pub record Row : Type 0 where
   pub bound : ℕ
 
 -- A number of 32 bits, one of 64, and a truth value, which is written as 0 or 1.
-abbrev pub u32_row : ℕ → ℕ → Row
-u32_row number value = record { number = number; value = value; bound = 2 ^ 32 }
+abbrev pub u32_field : ℕ → ℕ → Row
+u32_field number value = record { number = number; value = value; bound = 2 ^ 32 }
 
-abbrev pub u64_row : ℕ → ℕ → Row
-u64_row number value = record { number = number; value = value; bound = 2 ^ 64 }
+abbrev pub u64_field : ℕ → ℕ → Row
+u64_field number value = record { number = number; value = value; bound = 2 ^ 64 }
 
-abbrev pub truth_row : ℕ → Bool → Row
-truth_row number value = record { number = number; value = if value then 1 else 0; bound = 2 }
+abbrev pub truth_field : ℕ → Bool → Row
+truth_field number value = record { number = number; value = if value then 1 else 0; bound = 2 }
 
 -- Each holds a number of its kind.
 abbrev pub Fit : List Row → Type 0
@@ -39,21 +39,21 @@ numbers_body fields = flat_map (λ f. field_u64 f.0 f.1) fields
 
 unfoldable pub header_rows : Header → List Row
 header_rows h =
-    u32_row 1 h.major_version
-    ∷ u32_row 2 h.minor_version
-    ∷ u32_row 3 h.compress
-    ∷ u64_row 4 h.chunk_interval
-    ∷ u64_row 5 h.segment_interval
-    ∷ u64_row 6 h.index_position
-    ∷ u64_row 7 h.chunk_number
-    ∷ u64_row 8 h.channel_number
-    ∷ u64_row 9 h.begin_time
-    ∷ u64_row 10 h.end_time
-    ∷ u64_row 11 h.message_number
-    ∷ u64_row 12 h.size
-    ∷ truth_row 13 h.is_complete
-    ∷ u64_row 14 h.chunk_raw_size
-    ∷ u64_row 15 h.segment_raw_size
+    u32_field 1 h.major_version
+    ∷ u32_field 2 h.minor_version
+    ∷ u32_field 3 h.compress
+    ∷ u64_field 4 h.chunk_interval
+    ∷ u64_field 5 h.segment_interval
+    ∷ u64_field 6 h.index_position
+    ∷ u64_field 7 h.chunk_number
+    ∷ u64_field 8 h.channel_number
+    ∷ u64_field 9 h.begin_time
+    ∷ u64_field 10 h.end_time
+    ∷ u64_field 11 h.message_number
+    ∷ u64_field 12 h.size
+    ∷ truth_field 13 h.is_complete
+    ∷ u64_field 14 h.chunk_raw_size
+    ∷ u64_field 15 h.segment_raw_size
     ∷ []
 
 abbrev pub header_from : (ℕ → ℕ) → Header
@@ -81,10 +81,10 @@ no_header = header_from (λ number. 0)
 
 unfoldable pub chunk_header_rows : ChunkHeader → List Row
 chunk_header_rows c =
-    u64_row 1 c.begin_time
-    ∷ u64_row 2 c.end_time
-    ∷ u64_row 3 c.message_number
-    ∷ u64_row 4 c.raw_size
+    u64_field 1 c.begin_time
+    ∷ u64_field 2 c.end_time
+    ∷ u64_field 3 c.message_number
+    ∷ u64_field 4 c.raw_size
     ∷ []
 
 abbrev pub chunk_header_from : (ℕ → ℕ) → ChunkHeader
@@ -97,10 +97,10 @@ chunk_header_from number = record {
 
 unfoldable pub chunk_header_cache_rows : ChunkHeaderCache → List Row
 chunk_header_cache_rows c =
-    u64_row 1 c.message_number
-    ∷ u64_row 2 c.begin_time
-    ∷ u64_row 3 c.end_time
-    ∷ u64_row 4 c.raw_size
+    u64_field 1 c.message_number
+    ∷ u64_field 2 c.begin_time
+    ∷ u64_field 3 c.end_time
+    ∷ u64_field 4 c.raw_size
     ∷ []
 
 abbrev pub chunk_header_cache_from : (ℕ → ℕ) → ChunkHeaderCache
@@ -112,7 +112,7 @@ chunk_header_cache_from number = record {
 }
 
 unfoldable pub chunk_body_cache_rows : ChunkBodyCache → List Row
-chunk_body_cache_rows c = u64_row 1 c.message_number ∷ []
+chunk_body_cache_rows c = u64_field 1 c.message_number ∷ []
 
 abbrev pub chunk_body_cache_from : (ℕ → ℕ) → ChunkBodyCache
 chunk_body_cache_from number = record { message_number = number 1 }

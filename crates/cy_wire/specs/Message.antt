@@ -1,7 +1,7 @@
 -- How a message is read from its fields (protobuf.dev, "Encoding", "Last One Wins"): by the numbers
 -- that its own fields have. Fields with other numbers are skipped, and so is a field of another
 -- wire type than its own.
-use Rattle.std.specs.Prelude.{ℕ, ◌%◌, ◌^◌, ◌==◌, Bool, not, if◌then◌else◌, List, [], Option, Some}
+use Rattle.std.specs.Prelude.{ℕ, ◌%◌, ◌^◌, ◌==◌, if◌then◌else◌, List, [], Option, Some}
 use Rattle.std.specs.Prelude.{None, unwrap_or}
 use Rattle.std.specs.List.{filter_map, last_or}
 use Rattle.cy_wire.specs.declared.field.Span.{Span}
@@ -56,9 +56,6 @@ span_of number fields = unwrap_or (last_span number fields) record { start = 0; 
 abbrev pub bytes_of : ℕ → List WireField → List ℕ
 bytes_of number fields = (span_of number fields).bytes
 
--- A number of 32 bits takes the low ones, and a truth value is true where the number isn't 0.
+-- A number of 32 bits takes the low ones.
 abbrev pub u32_of : ℕ → List WireField → ℕ
 u32_of number fields = u64_of number fields % 2 ^ 32
-
-abbrev pub truth_of : ℕ → List WireField → Bool
-truth_of number fields = not (u64_of number fields == 0)

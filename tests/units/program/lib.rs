@@ -4,4 +4,5 @@ mod cyber;
 mod cyber_make;
 mod cyber_play;
 mod make;
+mod records;
 mod replay;

@@ -1,4 +1,5 @@
 // Records of tapes, byte by byte.
+use crate::records::HEADER_END;
 use cy_comp::{Kind, Plan, Wiring};
 use cy_msg::{Items, Names, PlayList, Text, Token};
 use cy_reader::{Record, load};
@@ -6,9 +7,6 @@ use cy_recording::{Played, write_record};
 use cy_store::MemStore;
 use cy_writer::{RecordWriter, WriteError};
 use std::test::Fail;
-
-/// The place behind the header.
-const HEADER_END: usize = 2064;
 
 /// The played message on `/in`, and behind it one on `/out` with the value -1.
 const BOTH_HEADER: &[u8] = b"\0\0\0\0\0\0\0\0\x27\0\0\0\0\0\0\0\

@@ -1,8 +1,6 @@
 // Small records for the tests: their bytes are those that the Protocol Buffers library gives.
+use crate::records::record_of;
 use std::alloc::{AllocError, Global};
-
-/// The end of a record's header section.
-const HEADER_END: usize = 2064;
 
 // A record of the message 7 on /in at time 100.
 const IN_HEADER: &[u8] = b"\0\0\0\0\0\0\0\0\x27\0\0\0\0\0\0\0\
@@ -93,39 +91,32 @@ pub const AGAIN_TRACE: &str =
     "cyber-trace 1\nplayed 1 shadowed 1\ncomponent \"pass\"\nroles 0\ncall 1/1 1 1@100=7\n\
     end DATA_WAIT next 2\ntape \"/in\" 1\ntape \"/out\" 1\n";
 
-fn sections(alloc: Global, header: &[u8], rest: &[u8]) -> Result<Vec<u8>, AllocError> {
-    let mut bytes = header.to_vec(alloc)?;
-    bytes.resize(HEADER_END, 0)?;
-    bytes.extend_from_slice(rest)?;
-    Ok(bytes)
-}
-
 /// The record that is played, of 2,209 bytes.
 pub fn in_record(alloc: Global) -> Result<Vec<u8>, AllocError> {
-    sections(alloc, IN_HEADER, IN_SECTIONS)
+    record_of(alloc, IN_HEADER, IN_SECTIONS)
 }
 
 /// A record of two messages, of 2,223 bytes.
 pub fn two_record(alloc: Global) -> Result<Vec<u8>, AllocError> {
-    sections(alloc, TWO_HEADER, TWO_SECTIONS)
+    record_of(alloc, TWO_HEADER, TWO_SECTIONS)
 }
 
 /// The record that is written, of 2,271 bytes.
 pub fn out_record(alloc: Global) -> Result<Vec<u8>, AllocError> {
-    sections(alloc, OUT_HEADER, OUT_SECTIONS)
+    record_of(alloc, OUT_HEADER, OUT_SECTIONS)
 }
 
 /// A record without messages, of 2,080 bytes.
 pub fn empty_record(alloc: Global) -> Result<Vec<u8>, AllocError> {
-    sections(alloc, EMPTY_HEADER, EMPTY_SECTIONS)
+    record_of(alloc, EMPTY_HEADER, EMPTY_SECTIONS)
 }
 
 /// The record of one message under the header of a record that is still being written.
 pub fn open_record(alloc: Global) -> Result<Vec<u8>, AllocError> {
-    sections(alloc, OPEN_HEADER, OUT_SECTIONS)
+    record_of(alloc, OPEN_HEADER, OUT_SECTIONS)
 }
 
 /// The record of four messages that is written for two, of 2,300 bytes.
 pub fn two_out_record(alloc: Global) -> Result<Vec<u8>, AllocError> {
-    sections(alloc, TWO_OUT_HEADER, TWO_OUT_SECTIONS)
+    record_of(alloc, TWO_OUT_HEADER, TWO_OUT_SECTIONS)
 }

@@ -1,9 +1,7 @@
 // A chain of two components, the record that is played through it, and the files that are written
 // for that: their bytes are those that `tests/replay.py` and `tests/record.py` write.
+use crate::records::record_of;
 use std::alloc::{AllocError, Global};
-
-/// The end of a record's header section.
-const HEADER_END: usize = 2064;
 
 /// The DAG file: `p` reads /a, and `r` reads what `p` writes.
 pub const DAG: &[u8] = b"module_config {\n  module_library: \"x\"\n\
@@ -68,24 +66,17 @@ pub const TRACE: &[u8] = b"cyber-trace 1\nplayed 1 shadowed 0\n\
 /// The line that tells of it.
 pub const LINE: &[u8] = b"done: played 1, shadowed 0, calls 2, written 3\n";
 
-fn sections(alloc: Global, header: &[u8], rest: &[u8]) -> Result<Vec<u8>, AllocError> {
-    let mut bytes = header.to_vec(alloc)?;
-    bytes.resize(HEADER_END, 0)?;
-    bytes.extend_from_slice(rest)?;
-    Ok(bytes)
-}
-
 /// The record that is played, of 2,206 bytes.
 pub fn in_record(alloc: Global) -> Result<Vec<u8>, AllocError> {
-    sections(alloc, IN_HEADER, IN_SECTIONS)
+    record_of(alloc, IN_HEADER, IN_SECTIONS)
 }
 
 /// The record that is written, of 2,318 bytes.
 pub fn out_record(alloc: Global) -> Result<Vec<u8>, AllocError> {
-    sections(alloc, OUT_HEADER, OUT_SECTIONS)
+    record_of(alloc, OUT_HEADER, OUT_SECTIONS)
 }
 
 /// The same under the header of a record that is still being written.
 pub fn open_record(alloc: Global) -> Result<Vec<u8>, AllocError> {
-    sections(alloc, OPEN_HEADER, OUT_SECTIONS)
+    record_of(alloc, OPEN_HEADER, OUT_SECTIONS)
 }

@@ -1,9 +1,7 @@
 // The files that are made for four messages under the prefix `m`, and the record of two: their
 // bytes are those that `bench/made.py` writes.
+use crate::records::record_of;
 use std::alloc::{AllocError, Global};
-
-/// The end of a record's header section.
-const HEADER_END: usize = 2064;
 
 /// The files of the components.
 pub const ADDER: &[u8] = b"out: \"/sum\"\n";
@@ -94,14 +92,6 @@ const TWO_SECTIONS: &[u8] =
     \x10\xaa\x06\x0a\x08\x02\x12\x02/a\x1a\0\"\0\x0a\x14\x08\x01\x10\xa8\x10\xb2\x06\x0c\
     \x08\x02\x10\xc0\x84=\x18\x80\x89z\x20\x06\x0a\x0a\x08\x02\x10\xc4\x10\xba\x06\x02\
     \x08\x02";
-
-// A record by its header and its sections.
-fn record_of(alloc: Global, header: &[u8], sections: &[u8]) -> Result<Vec<u8>, AllocError> {
-    let mut bytes = header.to_vec(alloc)?;
-    bytes.resize(HEADER_END, 0)?;
-    bytes.extend_from_slice(sections)?;
-    Ok(bytes)
-}
 
 /// The record of four messages.
 pub fn four_record(alloc: Global) -> Result<Vec<u8>, AllocError> {
