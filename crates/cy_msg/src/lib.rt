@@ -1,5 +1,5 @@
 //! The plain types that the layers hand to one another: texts, bytes and lists, messages as tokens
-//! and tuples, channel names, play lists and placements.
+//! and tuples, channel names, play lists, placements and stops.
 //!
 //! `specs/Answer` says of any call that it answers exactly what is due, `specs/Tokens` has what is
 //! said of lists of tokens, `specs/Tuple` the messages of a tuple, `specs/Quoted` texts in quotes,
@@ -13,6 +13,7 @@ mod names;
 mod placement;
 mod play_list;
 mod quoted;
+mod stop;
 mod text;
 mod token;
 
@@ -22,5 +23,6 @@ pub use names::{MOST_NAMES, Names};
 pub use placement::{ContextPlan, MOST_PROCESSORS, Placement};
 pub use play_list::PlayList;
 pub use quoted::push_quoted;
+pub use stop::Stop;
 pub use text::{Bytes, Text};
 pub use token::{Token, Tuple};

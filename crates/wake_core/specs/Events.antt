@@ -1,4 +1,4 @@
--- What may happen in a run: thirteen events, each with its condition and its effect. `after_` names
+-- What may happen in a run: fifteen events, each with its condition and its effect. `after_` names
 -- the world that an event leaves. Thread 0 is the player. Taking a croutine that is held is no
 -- event, and changes nothing.
 use Rattle.std.specs.Prelude.{ℕ, ◌+◌, ◌-◌, ◌≡◌, ◌≢◌, ◌≤◌, ◌<◌, ◌⊎◌, ◌==◌, ◌&&◌, Bool, true, false}
@@ -14,8 +14,9 @@ use Rattle.cy_comp.specs.declared.call.Outcome.TheVariants.{Emit, Hold, Last}
 use Rattle.cy_comp.specs.Step.{outcome_after, out_of}
 use Rattle.cy_comp.specs.Calls.{tuples_of, held_until}
 use Rattle.wake_core.specs.Run.{Route, set_at, readers_of, writes_from}
-use Rattle.wake_core.specs.Plain.{Plain, Hand, hand, State, Ready, DataWait, Sleep, Finished, Phase}
-use Rattle.wake_core.specs.Plain.{Fresh, Woken, Known, Asked, Empty, Running, Sending, Done}
+use Rattle.wake_core.specs.Plain.{Plain, Stop, Hand, hand, State, Ready, DataWait, Sleep, Finished}
+use Rattle.wake_core.specs.Plain.{Phase, Fresh, Woken, Known, Checked, Stopping, Asked, Empty}
+use Rattle.wake_core.specs.Plain.{Running, Sending, LastSending, Done, stops}
 use Rattle.wake_core.specs.Plain.{last_of, unsent_of, tail_at, found_by, played_count, to_play}
 
 -- Nobody holds a croutine.
@@ -80,6 +81,34 @@ pub record Readies (p c : ℕ) (w v : Plain) : Type 0 where
   pub held : (w.hands p ≡ hand c Woken) ⊎ ((w.hands p ≡ hand c Fresh) × IsDue (w.states c) w.clock)
   pub effect : v ≡ after_ready p c w
 
+-- Check: before anything else the holder of a READY croutine looks whether the raised stop names it.
+abbrev pub phase_after_check : Plain → ℕ → Phase
+phase_after_check w c = if stops w.stop w.raised c then Stopping else Checked
+
+abbrev pub after_check : (p c : ℕ) → Plain → Plain
+after_check p c w = record w { hands = set_at p (hand c (phase_after_check w c)) w.hands }
+
+pub record Checks (p c : ℕ) (w v : Plain) : Type 0 where
+  pub held : w.hands p ≡ hand c Known
+  pub ready : w.states c ≡ Ready
+  pub effect : v ≡ after_check p c w
+
+-- Stop: the player raises the stop, when as many messages were played as it says.
+abbrev pub after_stop : Plain → Plain
+after_stop w = record w { raised = true }
+
+pub record Stops (w v : Plain) : Type 0 where
+  pub owes : OwesNothing 0 w
+  pub given : Stop
+  pub there : w.stop ≡ Some given
+  pub unraised : w.raised ≡ false
+  pub played : played_count w ≡ given.after
+  pub effect : v ≡ after_stop w
+
+-- Where a stop is given, it is raised.
+abbrev pub IsRaised : Plain → Type 0
+IsRaised w = (s : Stop) → w.stop ≡ Some s → w.raised ≡ true
+
 -- Ask: before a fetch the holder of a READY croutine stores that it waits again.
 abbrev pub after_ask : (p c : ℕ) → Plain → Plain
 after_ask p c w = record w {
@@ -88,8 +117,7 @@ after_ask p c w = record w {
 }
 
 pub record Asks (p c : ℕ) (w v : Plain) : Type 0 where
-  pub held : w.hands p ≡ hand c Known
-  pub ready : w.states c ≡ Ready
+  pub held : w.hands p ≡ hand c Checked
   pub none_held : unsent_of w c ≡ None
   pub effect : v ≡ after_ask p c w
 
@@ -143,15 +171,16 @@ pub record IsNext (t : Token) (w : Plain) : Type 0 where
   pub next : t.seq ≡ length (on_channel t.channel w.tape) + 1
   pub within : t.seq ≤ slice_index w.counts t.channel
 
--- .. by the player, at the message's time.
+-- .. by the player, at the message's time, once the stop is raised where it was to be raised by now.
 pub record Tapes (t : Token) (w v : Plain) : Type 0 where
   pub owes : OwesNothing 0 w
+  pub raised : (s : Stop) → w.stop ≡ Some s → played_count w ≡ s.after → w.raised ≡ true
   pub next : IsNext t w
   pub now : t.time ≡ w.clock
   pub effect : v ≡ after_tape 0 t w
 
 -- .. by the holder of a component: its unsent output, after a call that doesn't hold it back, or
--- where it was held back and the component is READY.
+-- where it was held back and the component is READY again, for the last time where it is stopped.
 abbrev pub after_send : (p c : ℕ) (next : Phase) → Token → Plain → Plain
 after_send p c next t w = record (after_tape p t w) { hands = set_at p (hand c next) w.hands }
 
@@ -159,7 +188,8 @@ abbrev pub MaySend : (p c : ℕ) (next : Phase) → Plain → Type 0
 MaySend p c next w =
     ((w.hands p ≡ hand c Running) × (held_until (last_of w.routes w.calls c) ≡ None)
     × (next ≡ Running))
-    ⊎ ((w.hands p ≡ hand c Known) × (w.states c ≡ Ready) × (next ≡ Sending))
+    ⊎ ((w.hands p ≡ hand c Checked) × (next ≡ Sending))
+    ⊎ ((w.hands p ≡ hand c Stopping) × (next ≡ LastSending))
 
 pub record Sends (p c : ℕ) (next : Phase) (t : Token) (w v : Plain) : Type 0 where
   pub owes : OwesNothing p w
@@ -210,7 +240,7 @@ pub record Clears (p c : ℕ) (w v : Plain) : Type 0 where
   pub effect : v ≡ after_clear p c (before ++ after) w
 
 -- Yield: the holder stores what the croutine is to do next. After a call it is what the outcome
--- names; a held output may wait.
+-- names; a held output may wait. One that is stopped ends, once nothing of it is unsent.
 abbrev pub state_after : Outcome → State
 state_after (Emit out) = Ready
 state_after (Hold until out) = Sleep until
@@ -229,6 +259,8 @@ MayYield p c state w =
     × (option_map state_after (last_of w.routes w.calls c) ≡ Some state)
     × (held_until (last_of w.routes w.calls c) ≡ None → unsent_of w c ≡ None))
     ⊎ ((w.hands p ≡ hand c Sending) × (state ≡ Ready) × (unsent_of w c ≡ None))
+    ⊎ (((w.hands p ≡ hand c Stopping) ⊎ (w.hands p ≡ hand c LastSending)) × (state ≡ Finished)
+    × (unsent_of w c ≡ None))
 
 pub record Yields (p c : ℕ) (state : State) (w v : Plain) : Type 0 where
   pub owes : OwesNothing p w
@@ -248,7 +280,12 @@ pub record Ticks (time : ℕ) (w v : Plain) : Type 0 where
   pub later : w.clock ≤ time
   pub effect : v ≡ record w { clock = time }
 
--- Close: the player says that all was played.
+-- Close: the player says that all was played, and the stop raised.
+abbrev pub after_close : Plain → Plain
+after_close w = record w { closing = true }
+
 pub record Closes (w v : Plain) : Type 0 where
+  pub owes : OwesNothing 0 w
+  pub raised : IsRaised w
   pub all : played_count w ≡ to_play w
-  pub effect : v ≡ record w { closing = true }
+  pub effect : v ≡ after_close w

@@ -14,7 +14,7 @@ use Rattle.wake_core.specs.declared.owed.Owed.{Owed}
 use Rattle.wake_core.specs.declared.entries.TheConstants.{MOST_PLANNED}
 use Rattle.wake_core.specs.Run.{Route, readers_of}
 use Rattle.wake_core.specs.Planned.{planned, planned_count, counts_from, first_reader}
-use Rattle.wake_core.specs.Plain.{Plain, Hand, Ready, blank, taped_of}
+use Rattle.wake_core.specs.Plain.{Plain, Stop, Hand, Ready, blank, taped_of, to_play_from}
 use Rattle.wake_core.specs.Events.{IsFree}
 use Rattle.wake_core.specs.Sound.{NotRunning}
 
@@ -44,26 +44,29 @@ fills_of routes o =
     let readers = readers_of routes o.token.channel in drop (length readers - o.fills) readers
 
 -- What the fields show of a run.
-abbrev pub plain_at : List Route → (counts : List ℕ) → List VisitorView → List RoutineView
-    → List (Option Found) → (spent : List Bool) → List (Option Hand) → List Owed
-    → (tape : List Token) → (clock : ℕ) → (closing : Bool) → Plain
-plain_at routes counts visitors routines found spent hands owed tape clock closing = record {
-  routes = routes;
-  counts = counts;
-  states = read (λ r. r.state) Ready routines;
-  spent = read (λ b. b) true spent;
-  cursors = λ c. cursor_after (calls_at routines found c);
-  calls = calls_at routines found;
-  arrivals = read (λ v. v.arrivals) [] visitors;
-  hands = read (λ h. h) None hands;
-  fills = read (fills_of routes) [] owed;
-  news = read (λ o. drop o.looked o.news.items) [] owed;
-  clearing = read (λ o. o.clearing.items) [] owed;
-  tokens = read (λ o. o.token) blank owed;
-  tape = tape;
-  clock = clock;
-  closing = closing;
-}
+abbrev pub plain_at : List Route → (counts : List ℕ) → Option Stop → List VisitorView
+    → List RoutineView → List (Option Found) → (spent : List Bool) → List (Option Hand)
+    → List Owed → (tape : List Token) → (clock : ℕ) → (closing raised : Bool) → Plain
+plain_at routes counts stop visitors routines found spent hands owed tape clock closing raised =
+    record {
+      routes = routes;
+      counts = counts;
+      stop = stop;
+      states = read (λ r. r.state) Ready routines;
+      spent = read (λ b. b) true spent;
+      cursors = λ c. cursor_after (calls_at routines found c);
+      calls = calls_at routines found;
+      arrivals = read (λ v. v.arrivals) [] visitors;
+      hands = read (λ h. h) None hands;
+      fills = read (fills_of routes) [] owed;
+      news = read (λ o. drop o.looked o.news.items) [] owed;
+      clearing = read (λ o. o.clearing.items) [] owed;
+      tokens = read (λ o. o.token) blank owed;
+      tape = tape;
+      clock = clock;
+      closing = closing;
+      raised = raised;
+    }
 
 -- What a world keeps of a wiring: at most 64 components, each with one to four readers of known
 -- channels, at least as many as its class reads, and a buffer; and no more entries are planned than
@@ -78,6 +81,11 @@ pub record IsFixed (routes : List Route) (counts : List ℕ) : Type 0 where
       → slice_get x.readers j ≡ Some r → r < length counts
   pub buffered : (c : ℕ) (x : Route) → slice_get routes c ≡ Some x → 1 ≤ x.queue
   pub limited : planned routes counts ≤ MOST_PLANNED
+
+-- A stop names a component, and is raised within what is played.
+pub record IsWithin (routes : List Route) (counts : List ℕ) (stop : Option Stop) : Type 0 where
+  pub component : (s : Stop) → stop ≡ Some s → s.component < length routes
+  pub after : (s : Stop) → stop ≡ Some s → s.after ≤ to_play_from routes 0 counts
 
 -- At most 64 components, each with at most four readers.
 pub record HaveFew (routes : List Route) : Type 0 where

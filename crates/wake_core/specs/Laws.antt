@@ -3,7 +3,7 @@
 -- component keeps the calls that it had (`calls`). The first two ask only for the conditions that
 -- they need.
 use Rattle.std.specs.Prelude.{ℕ, ◌≡◌, ◌≢◌, ◌⊎◌, ◌≤◌, ◌<◌, true, List, [], ◌∷◌, ◌++◌, length, take}
-use Rattle.std.specs.Prelude.{map, sum, Some, None, slice_get, option_map}
+use Rattle.std.specs.Prelude.{map, sum, Option, Some, None, slice_get, option_map}
 use Rattle.cy_msg.specs.declared.token.Token.{Token}
 use Rattle.cy_msg.specs.declared.token.Tuple.{Tuple}
 use Rattle.cy_msg.specs.Tuple.{messages_of}
@@ -17,12 +17,14 @@ use Rattle.cy_comp.specs.Wiring.{IsWiring}
 use Rattle.wake_core.specs.declared.entries.TheConstants.{MOST_PLANNED}
 use Rattle.wake_core.specs.Run.{Route, routes_of, set_at, writes_from}
 use Rattle.wake_core.specs.Planned.{planned_count, first_reader, counts_from}
-use Rattle.wake_core.specs.Plain.{Plain, hand, State, Ready, Finished, Phase, Fresh, Woken, Known}
-use Rattle.wake_core.specs.Plain.{Asked, Done, opening_world, lists, lists_reader, unsent_of}
+use Rattle.wake_core.specs.Plain.{Plain, Stop, hand, State, Ready, Finished, Phase, Fresh, Woken}
+use Rattle.wake_core.specs.Plain.{Known, Checked, Asked, Done, opening_world, lists, lists_reader, unsent_of}
 use Rattle.wake_core.specs.Events.{IsFree, OwesNothing, next_call, IsNext, MaySend, MayYield}
-use Rattle.wake_core.specs.Events.{after_acquire, after_spend, after_ready, after_ask, after_fetch}
+use Rattle.wake_core.specs.Events.{after_acquire, after_spend, after_ready, after_check, after_stop}
+use Rattle.wake_core.specs.Events.{after_ask, after_fetch}
 use Rattle.wake_core.specs.Events.{after_tape, after_send, after_fill, after_look, after_clear}
-use Rattle.wake_core.specs.Events.{after_yield, after_release, Acquires, Spends, Readies, Asks}
+use Rattle.wake_core.specs.Events.{after_yield, after_release, Acquires, Spends, Readies}
+use Rattle.wake_core.specs.Events.{Checks, Stops, Asks}
 use Rattle.wake_core.specs.Events.{Fetches, Tapes, Sends, Fills, Looks, Clears, Yields, Releases}
 use Rattle.wake_core.specs.Events.{Ticks, Closes}
 use Rattle.wake_core.specs.Sound.{IsWired, StandsOn, HeldIn, Consistent, Sound}
@@ -66,12 +68,26 @@ pub record ReadyLaws : Type 0 where
   pub sound : (p c : ℕ) → KeepsSound (Readies p c)
   pub calls : (p c : ℕ) → KeepsCalls (Readies p c)
 
-pub record AskLaws : Type 0 where
-  pub held : (p c : ℕ) (w : Plain) → w.hands p ≡ hand c Known → w.states c ≡ Ready
-      → unsent_of w c ≡ None → HeldIn w
-      → HeldIn (after_ask p c w)
+pub record CheckLaws : Type 0 where
+  pub held : (p c : ℕ) (w : Plain) → w.hands p ≡ hand c Known → w.states c ≡ Ready → HeldIn w
+      → HeldIn (after_check p c w)
   pub consistent : (p c : ℕ) (w : Plain) → w.hands p ≡ hand c Known → w.states c ≡ Ready
-      → unsent_of w c ≡ None → Consistent w
+      → Consistent w
+      → Consistent (after_check p c w)
+  pub sound : (p c : ℕ) → KeepsSound (Checks p c)
+  pub calls : (p c : ℕ) → KeepsCalls (Checks p c)
+
+pub record StopLaws : Type 0 where
+  pub held : (w : Plain) → HeldIn w → HeldIn (after_stop w)
+  pub consistent : (w : Plain) → Consistent w → Consistent (after_stop w)
+  pub sound : KeepsSound Stops
+  pub calls : KeepsCalls Stops
+
+pub record AskLaws : Type 0 where
+  pub held : (p c : ℕ) (w : Plain) → w.hands p ≡ hand c Checked → unsent_of w c ≡ None → HeldIn w
+      → HeldIn (after_ask p c w)
+  pub consistent : (p c : ℕ) (w : Plain) → w.hands p ≡ hand c Checked → unsent_of w c ≡ None
+      → Consistent w
       → Consistent (after_ask p c w)
   pub sound : (p c : ℕ) → KeepsSound (Asks p c)
   pub calls : (p c : ℕ) → KeepsCalls (Asks p c)
@@ -165,6 +181,8 @@ pub data Event : Plain → Plain → Type 0 where
   acquire : {p c : ℕ} {w v : Plain} → Acquires p c w v → Event w v
   spend : {p c seen : ℕ} {w v : Plain} → Spends p c seen w v → Event w v
   ready : {p c : ℕ} {w v : Plain} → Readies p c w v → Event w v
+  check : {p c : ℕ} {w v : Plain} → Checks p c w v → Event w v
+  stop : {w v : Plain} → Stops w v → Event w v
   ask : {p c : ℕ} {w v : Plain} → Asks p c w v → Event w v
   fetch : {p c : ℕ} {w v : Plain} → Fetches p c w v → Event w v
   tape : {t : Token} {w v : Plain} → Tapes t w v → Event w v
@@ -185,8 +203,8 @@ pub data Events : Plain → Plain → Type 0 where
 -- After any events from the opening: all of it holds, no croutine is lost, and none has two
 -- holders.
 pub record RunLaws : Type 0 where
-  pub opening : (routes : List Route) (counts : List ℕ) → IsWired routes counts
-      → Sound (opening_world routes counts)
+  pub opening : (routes : List Route) (counts : List ℕ) (stop : Option Stop)
+      → IsWired routes counts → Sound (opening_world routes counts stop)
   pub sound : (w v : Plain) → Events w v → Sound w → Sound v
   pub none_lost : (w : Plain) → Sound w → (c : ℕ) → Lost w c → ⊥
   pub one_holder : (w : Plain) → HeldIn w → (c p q : ℕ) (f g : Phase) → w.hands p ≡ hand c f

@@ -7,7 +7,7 @@ use Rattle.wake_core.specs.declared.world.World.{World}
 use Rattle.wake_core.specs.Plain.{Plain, Ready, opening_world, played_count}
 use Rattle.wake_core.specs.Sound.{Sound}
 use Rattle.wake_core.specs.WorldCalls.{IsRoutineOf}
-use Rattle.wake_core.specs.WorldOf.{plain_of, to_step, routes_in, counts_in}
+use Rattle.wake_core.specs.WorldOf.{plain_of, to_step, routes_in, counts_in, stop_in}
 use Rattle.wake_core.specs.Fields.{read, no_routine, no_visitor, IsVisited, IsRoomy}
 
 -- The routine of a component among parts.
@@ -16,7 +16,7 @@ routine_in p = read (λ r. r) no_routine p.routines
 
 -- The plain world that parts show, in which no thread has or owes anything.
 unfoldable pub shown_by : Parts → Plain
-shown_by p = record (opening_world (routes_in p.fixed) (counts_in p.fixed)) {
+shown_by p = record (opening_world (routes_in p.fixed) (counts_in p.fixed) (stop_in p.fixed)) {
   states = read (λ r. r.state) Ready p.routines;
   spent = read (λ b. b) true p.spent;
   cursors = λ c. cursor_after (routine_in p c).calls;
@@ -25,6 +25,7 @@ shown_by p = record (opening_world (routes_in p.fixed) (counts_in p.fixed)) {
   tape = p.tape.items;
   clock = p.clock;
   closing = p.closing;
+  raised = p.raised;
 }
 
 -- Parts fit together. There is one of each for each component; routines and visitors are those of

@@ -5,6 +5,7 @@ use Rattle.std.specs.Prelude.{map, filter, if◌then◌else◌, is_some, Option,
 use Rattle.std.specs.Prelude.{option_and_then, slice_get}
 use Rattle.std.specs.Option.{option_map_or}
 use Rattle.cy_msg.specs.declared.token.Token.{Token}
+pub use Rattle.cy_msg.specs.declared.stop.Stop.{Stop}
 use Rattle.cy_msg.specs.Tokens.{on_channel}
 use Rattle.cy_fuse.specs.Fusion.{Arrival, fused}
 use Rattle.cy_fuse.specs.Fetch.{fetch}
@@ -16,17 +17,20 @@ pub use Rattle.cy_comp.specs.declared.state.State.{State}
 pub use Rattle.cy_comp.specs.declared.state.State.TheVariants.{Ready, DataWait, Sleep, Finished}
 pub use Rattle.wake_core.specs.declared.phase.Hand.{Hand}
 pub use Rattle.wake_core.specs.declared.phase.Phase.{Phase}
-pub use Rattle.wake_core.specs.declared.phase.Phase.TheVariants.{Fresh, Woken, Known, Asked, Empty}
-pub use Rattle.wake_core.specs.declared.phase.Phase.TheVariants.{Running, Sending, Done}
+pub use Rattle.wake_core.specs.declared.phase.Phase.TheVariants.{Fresh, Woken, Known, Checked}
+pub use Rattle.wake_core.specs.declared.phase.Phase.TheVariants.{Stopping, Asked, Empty, Running}
+pub use Rattle.wake_core.specs.declared.phase.Phase.TheVariants.{Sending, LastSending, Done}
 
 -- A croutine in hand, in a phase.
 abbrev pub hand : ℕ → Phase → Option Hand
 hand c phase = Some record { croutine = c; phase = phase }
 
 pub record Plain : Type 0 where
-  -- What it was made for: the components, and how many messages are played on each channel.
+  -- What it was made for: the components, how many messages are played on each channel, and the
+  -- stop, if there is one.
   pub routes : List Route
   pub counts : List ℕ
+  pub stop : Option Stop
   -- Of each croutine: its state, whether its flag is spent, where its next fetch begins, its calls,
   -- and what arrived.
   pub states : ℕ → State
@@ -42,10 +46,12 @@ pub record Plain : Type 0 where
   pub news : ℕ → List ℕ
   pub clearing : ℕ → List ℕ
   pub tokens : ℕ → Token
-  -- Of all: the messages that were sent, the clock, and whether the run is closing.
+  -- Of all: the messages that were sent, the clock, whether the run is closing, and whether the stop
+  -- is raised.
   pub tape : List Token
   pub clock : ℕ
   pub closing : Bool
+  pub raised : Bool
 
 -- A message that stands for none.
 abbrev pub blank : Token
@@ -53,10 +59,11 @@ blank = record { channel = 0; seq = 0; time = 0; whole = None; origin = None }
 
 -- Before anything happens: each croutine is free, READY and spent, and nothing arrived, was called,
 -- sent or owed.
-abbrev pub opening_world : List Route → List ℕ → Plain
-opening_world routes counts = record {
+abbrev pub opening_world : List Route → List ℕ → Option Stop → Plain
+opening_world routes counts stop = record {
   routes = routes;
   counts = counts;
+  stop = stop;
   states = λ c. Ready;
   spent = λ c. true;
   cursors = λ c. 0;
@@ -70,7 +77,13 @@ opening_world routes counts = record {
   tape = [];
   clock = 0;
   closing = false;
+  raised = false;
 }
+
+-- Whether the raised stop names a component.
+abbrev pub stops : Option Stop → (raised : Bool) → (component : ℕ) → Bool
+stops None raised c = false
+stops (Some s) raised c = raised && s.component == c
 
 -- The channel that a reader of a component reads, where there is such a reader.
 abbrev pub reads : List Route → (component role : ℕ) → Option ℕ

@@ -36,7 +36,7 @@ run_shown w = record {
 
 -- A world in which nothing has happened.
 abbrev pub IsOpening : Plain → Type 0
-IsOpening w = w ≡ opening_world w.routes w.counts
+IsOpening w = w ≡ opening_world w.routes w.counts w.stop
 
 -- The messages are those that a world was made for: as many of each channel as are to be played
 -- there, and each on a channel that no component writes.

@@ -17,9 +17,10 @@ use Rattle.cy_comp.specs.Calls.{LawfulCalls, cursor_after, tuples_of, held_until
 use Rattle.cy_comp.specs.Calls.{output}
 use Rattle.wake_core.specs.Run.{Route, readers_of, writes_from, played_of}
 use Rattle.wake_core.specs.Planned.{planned_count, first_reader}
-use Rattle.wake_core.specs.Plain.{Plain, Hand, hand, State, Ready, DataWait, Sleep, Finished, Phase}
-use Rattle.wake_core.specs.Plain.{Woken, Asked, Empty, Running, Sending, reads, of_role, lists}
-use Rattle.wake_core.specs.Plain.{lists_reader, last_of, made_of, taped_of, found_by}
+use Rattle.wake_core.specs.Plain.{Plain, Stop, Hand, hand, State, Ready, DataWait, Sleep, Finished}
+use Rattle.wake_core.specs.Plain.{Phase, Woken, Checked, Stopping, Asked, Empty, Running, Sending}
+use Rattle.wake_core.specs.Plain.{LastSending, reads, of_role, lists, lists_reader, last_of, made_of}
+use Rattle.wake_core.specs.Plain.{taped_of, found_by, stops}
 
 -- The components that a world is made for, with the number of messages that are played on each
 -- channel: no two write one channel; each reads a channel and writes one that is known; the planned
@@ -42,9 +43,9 @@ NotRunning hands c = (p : ℕ) → hands p ≢ hand c Running
 
 -- One holder, and what its phase says of the state. Of each croutine there is the outcome of its
 -- last call, how many outputs its calls made, and how many of them are taped; where there are more,
--- the last is unsent.
+-- the last is unsent; and whether the raised stop names it.
 pub record Held (size : ℕ) (hands : ℕ → Option Hand) (states : ℕ → State)
-    (last : ℕ → Option Outcome) (made taped : ℕ → ℕ) : Type 0 where
+    (last : ℕ → Option Outcome) (made taped : ℕ → ℕ) (stopped : ℕ → Bool) : Type 0 where
   -- 1. Holders: a croutine that is held is known, and has one.
   pub known : (p c : ℕ) (f : Phase) → hands p ≡ hand c f → c < size
   pub one : (c p q : ℕ) (f g : Phase) → hands p ≡ hand c f → hands q ≡ hand c g → p ≡ q
@@ -54,12 +55,19 @@ pub record Held (size : ℕ) (hands : ℕ → Option Hand) (states : ℕ → Sta
   pub empty : (p c : ℕ) → hands p ≡ hand c Empty → states c ≡ DataWait
   pub running : (p c : ℕ) → hands p ≡ hand c Running → states c ≡ DataWait
   pub sending : (p c : ℕ) → hands p ≡ hand c Sending → states c ≡ Ready
+  pub checked : (p c : ℕ) → hands p ≡ hand c Checked → states c ≡ Ready
+  pub stopping : (p c : ℕ) → hands p ≡ hand c Stopping → states c ≡ Ready
+  pub last_sending : (p c : ℕ) → hands p ≡ hand c LastSending → states c ≡ Ready
+  -- .. and in Stopping and LastSending the raised stop names it.
+  pub stopping_named : (p c : ℕ) → hands p ≡ hand c Stopping → stopped c ≡ true
+  pub last_named : (p c : ℕ) → hands p ≡ hand c LastSending → stopped c ≡ true
   -- 3. Outcomes: the state of any croutine, and what of its output is unsent.
   -- SLEEP until u only after a Hold until u whose output is unsent.
   pub sleeps : (c u : ℕ) → states c ≡ Sleep u → held_until (last c) ≡ Some u
   pub asleep : (c u : ℕ) → states c ≡ Sleep u → taped c < made c
-  -- FINISHED is the state after a call that said Last, once its thread is out of Running.
-  pub finished : (c : ℕ) → states c ≡ Finished → is_last (last c) ≡ true
+  -- FINISHED is the state only after a call that said Last, or where the raised stop names it; and
+  -- after such a call it is, once its thread is out of Running.
+  pub finished : (c : ℕ) → states c ≡ Finished → stopped c ≡ false → is_last (last c) ≡ true
   pub ended : (c : ℕ) → is_last (last c) ≡ true → NotRunning hands c → states c ≡ Finished
   -- In Running there is a call, and where it holds its output back, that is unsent.
   pub called : (p c : ℕ) → hands p ≡ hand c Running → last c ≢ None
@@ -70,6 +78,7 @@ pub record Held (size : ℕ) (hands : ℕ → Option Hand) (states : ℕ → Sta
   -- Outside Running an unsent output was held back, and the state is then SLEEP or READY.
   pub held_back : (c : ℕ) → taped c < made c → NotRunning hands c → held_until (last c) ≢ None
   pub resting : (c : ℕ) → taped c < made c → NotRunning hands c → states c ≢ DataWait
+  pub unended : (c : ℕ) → taped c < made c → NotRunning hands c → states c ≢ Finished
 
 -- Calls: each component's are lawful for what arrived, and its next fetch begins where they leave
 -- off.
@@ -106,13 +115,13 @@ pub record Delivered (routes : List Route) (hands : ℕ → Option Hand) (calls 
       → length (outs x.out (take (length (calls c) - 1) (calls c))) ≤ length (on_channel x.out tape)
   -- What a thread has to fill are the last of the readers of its message's channel. It is the
   -- player where no component writes the channel, and else the one that holds the component which
-  -- does, in phase Running or Sending.
+  -- does, in phase Running, Sending or LastSending.
   pub suffix : (p : ℕ) → let readers = readers_of routes (tokens p).channel in
       drop (length readers - length (fills p)) readers ≡ fills p
   pub player : (p : ℕ) → fills p ≢ [] → writes_from 0 routes (tokens p).channel ≡ None → p ≡ 0
   pub holder : (p c : ℕ) → fills p ≢ [] → writes_from 0 routes (tokens p).channel ≡ Some c
-      → hands p ≢ hand c Running
-      → hands p ≡ hand c Sending
+      → hands p ≢ hand c Running → hands p ≢ hand c Sending
+      → hands p ≡ hand c LastSending
   -- News and those to clear are components that its message's channel triggers.
   pub told : (p v : ℕ) → lists v (news p) ≡ true → reads routes v 0 ≡ Some (tokens p).channel
   pub looked : (p v : ℕ) → lists v (clearing p) ≡ true → reads routes v 0 ≡ Some (tokens p).channel
@@ -155,7 +164,7 @@ pub record Room (routes : List Route) (counts : List ℕ) (calls : ℕ → List 
 -- All of this: holders, states, calls, deliveries, causes and room; nothing of flags and time.
 abbrev pub HeldIn : Plain → Type 0
 HeldIn w = Held (length w.routes) w.hands w.states (last_of w.routes w.calls)
-    (made_of w.routes w.calls) (taped_of w.routes w.tape)
+    (made_of w.routes w.calls) (taped_of w.routes w.tape) (stops w.stop w.raised)
 
 pub record Consistent (w : Plain) : Type 0 where
   pub wired : IsWired w.routes w.counts
@@ -210,7 +219,39 @@ pub record Timely (routes : List Route) (states : ℕ → State) (calls : ℕ �
       → (j : ℕ) (r : Token) → slice_get tape j ≡ Some r → i < j
       → writes_from 0 routes r.channel ≡ None → t.time < r.time
 
+-- A message is late: it stands on the tape at or behind the played one that comes after so many.
+pub record IsLate (routes : List Route) (after : ℕ) (tape : List Token) (m : Token) : Type 0 where
+  pub place : ℕ
+  pub there : slice_get tape place ≡ Some m
+  pub late : after < length (played_of routes (take (place + 1) tape))
+
+-- A call has a late message in its tuple.
+pub record HasLate (routes : List Route) (after : ℕ) (tape : List Token) (call : Call)
+    : Type 0 where
+  pub place : ℕ
+  pub message : Token
+  pub there : slice_get (messages_of call.tuple) place ≡ Some message
+  pub late : IsLate routes after tape message
+
+-- Obedient: before the stop is raised no more messages are played than it says; and then the
+-- component that it names has at most one call with a late message, and none as long as it is held
+-- in phase Checked or Asked.
+pub record Obedient (routes : List Route) (stop : Option Stop) (raised : Bool)
+    (hands : ℕ → Option Hand) (calls : ℕ → List Call) (tape : List Token) : Type 0 where
+  pub few : (s : Stop) → stop ≡ Some s → raised ≡ false → length (played_of routes tape) ≤ s.after
+  pub one : (s : Stop) → stop ≡ Some s → raised ≡ true → s.component < length routes
+      → (m n : ℕ) (x y : Call) → slice_get (calls s.component) m ≡ Some x
+      → slice_get (calls s.component) n ≡ Some y
+      → HasLate routes s.after tape x → HasLate routes s.after tape y → m ≡ n
+  pub checked : (s : Stop) → stop ≡ Some s → raised ≡ true → (p n : ℕ) (x : Call)
+      → hands p ≡ hand s.component Checked → slice_get (calls s.component) n ≡ Some x
+      → HasLate routes s.after tape x → ⊥
+  pub asked : (s : Stop) → stop ≡ Some s → raised ≡ true → (p n : ℕ) (x : Call)
+      → hands p ≡ hand s.component Asked → slice_get (calls s.component) n ≡ Some x
+      → HasLate routes s.after tape x → ⊥
+
 pub record Sound (w : Plain) : Type 0 where
   pub consistent : Consistent w
   pub wakes : Wakes w.hands w.states w.spent (found_by w) w.news w.clearing
   pub timely : Timely w.routes w.states w.calls w.tape w.clock
+  pub obedient : Obedient w.routes w.stop w.raised w.hands w.calls w.tape

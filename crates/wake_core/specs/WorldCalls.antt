@@ -8,19 +8,21 @@ use Rattle.cy_msg.specs.declared.token.Tuple.{Tuple}
 use Rattle.cy_comp.specs.Calls.{output}
 use Rattle.cy_comp.specs.Routine.{RoutineView}
 use Rattle.wake_core.specs.Run.{Route, writes_from}
-use Rattle.wake_core.specs.Plain.{Plain, Hand, hand, State, Phase, Known, Asked}
+use Rattle.wake_core.specs.Plain.{Plain, Stop, Hand, hand, State, Phase, Known, Checked}
+use Rattle.wake_core.specs.Plain.{Stopping, LastSending, Asked}
 use Rattle.wake_core.specs.Planned.{planned}
 use Rattle.wake_core.specs.declared.entries.TheConstants.{MOST_PLANNED}
 use Rattle.wake_core.specs.Plain.{Running, Sending, Done, lists, taped_of, unsent_of}
 use Rattle.wake_core.specs.Plain.{opening_world}
-use Rattle.wake_core.specs.Events.{IsFree, Acquires, Spends, Readies, Asks, Tapes, Sends}
-use Rattle.wake_core.specs.Events.{Yields, after_spend, after_ready, after_ask, after_tape}
-use Rattle.wake_core.specs.Events.{after_send, after_yield}
+use Rattle.wake_core.specs.Events.{IsFree, Acquires, Spends, Readies, Checks, Stops, Asks, Tapes}
+use Rattle.wake_core.specs.Events.{Sends, Yields, after_spend, after_ready, after_check}
+use Rattle.wake_core.specs.Events.{after_stop, after_close, after_ask, after_tape, after_send}
+use Rattle.wake_core.specs.Events.{after_yield, Closes}
 
 -- The opening world: no component is to be stepped.
-pub record IsOpening (routes : List Route) (counts : List ℕ) (w : Plain)
+pub record IsOpening (routes : List Route) (counts : List ℕ) (stop : Option Stop) (w : Plain)
     (to_step : ℕ → Option Tuple) : Type 0 where
-  pub opens : w ≡ opening_world routes counts
+  pub opens : w ≡ opening_world routes counts stop
   pub stepped : (c : ℕ) → to_step c ≡ None
 
 -- More entries are planned than a world keeps, and this many.
@@ -49,6 +51,16 @@ MaySpend p w = Spends p (in_hand p w) w.clock w (after_spend p (in_hand p w) w)
 abbrev pub MayReady : (p : ℕ) → Plain → Type 0
 MayReady p w = Readies p (in_hand p w) w (after_ready p (in_hand p w) w)
 
+abbrev pub MayCheck : (p : ℕ) → Plain → Type 0
+MayCheck p w = Checks p (in_hand p w) w (after_check p (in_hand p w) w)
+
+-- The stop may be raised, and the run be closed.
+abbrev pub MayStop : Plain → Type 0
+MayStop w = Stops w (after_stop w)
+
+abbrev pub MayClose : Plain → Type 0
+MayClose w = Closes w (after_close w)
+
 abbrev pub MayAsk : (p : ℕ) → Plain → Type 0
 MayAsk p w = Asks p (in_hand p w) w (after_ask p (in_hand p w) w)
 
@@ -64,13 +76,15 @@ pub record MayStep (p : ℕ) (tuple : Tuple) (w : Plain) (to_step : ℕ → Opti
 abbrev pub IsStepped : (p : ℕ) → Plain → (to_step : ℕ → Option Tuple) → Type 0
 IsStepped p w to_step = w.hands p ≡ hand (in_hand p w) Running → to_step (in_hand p w) ≡ None
 
--- The phase of a croutine whose output was sent: a held output is sent in a phase of its own.
+-- The phase of a croutine whose output was sent: a held output is sent in a phase of its own, and
+-- in another one where it is the last.
 abbrev pub phase_sent : Option Hand → Phase
 phase_sent None = Running
 phase_sent (Some h) = by h.phase
   where
     by : Phase → Phase
-    by Known = Sending
+    by Checked = Sending
+    by Stopping = LastSending
     by _ = Running
 
 -- A message comes onto the tape: of a channel that no component writes by the player, and else by

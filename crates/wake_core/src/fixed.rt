@@ -1,23 +1,26 @@
-// What a world keeps of its wiring.
+// What a world keeps of its wiring, and of the stop.
 ghost use Rattle.std.specs.Prelude.{◌≡◌, ◌≤◌, ◌++◌, length, IfOk, IfErr};
 ghost use Rattle.wake_core.specs.declared.error.CoreError.TheVariants as CoreError;
 ghost use Rattle.wake_core.specs.Run.{routes_of, readers_of, roles_of};
-ghost use Rattle.wake_core.specs.Fields.{IsFixed, IsTable, HaveFew};
+ghost use Rattle.wake_core.specs.Fields.{IsFixed, IsWithin, IsTable, HaveFew};
 
 use crate::{CoreError, Route};
 use cy_comp::{Plan, Wiring};
-use cy_msg::{Items, Token};
+use cy_msg::{Items, Stop, Token};
 use std::alloc::Global;
 
 /// What a world keeps of its wiring: the components, how many messages are played on each channel,
-/// and the readers of each channel, so that nothing is looked up while a run goes on. Contracts see
-/// the components by `routes_in`, and the numbers of messages by `counts_in`.
+/// and the readers of each channel, so that nothing is looked up while a run goes on; and the stop
+/// that it was made with, if there is one. Contracts see the components by `routes_in`, the numbers
+/// of messages by `counts_in`, and the stop by `stop_in`.
 #[derive(Drop)]
 pub struct Fixed {
     routes: Vec<Route>,
     counts: Vec<u32>,
     readers: Vec<Items<(u32, u8)>>,
+    stop: Option<Stop>,
     pub ghost lawful: { IsFixed routes.items counts.items },
+    pub ghost within: { IsWithin routes.items counts.items stop },
     ghost table: { IsTable routes.items (length counts.items) readers.items },
 }
 
@@ -27,9 +30,10 @@ impl Fixed {
     ghost use Rattle.wake_core.specs.declared.error.CoreError.TheVariants as CoreError;
     ghost use Rattle.wake_core.specs.declared.entries.TheConstants.{MOST_PLANNED};
     ghost use Rattle.wake_core.specs.Run.{Route, routes_of, readers_of, played_of, writes_from};
+    ghost use Rattle.wake_core.specs.Plain.{stops};
     ghost use Rattle.wake_core.specs.Planned.{planned};
-    ghost use Rattle.wake_core.specs.Fields.{IsFixed, IsTable};
-    ghost use Rattle.wake_core.specs.WorldOf.{routes_in};
+    ghost use Rattle.wake_core.specs.Fields.{IsFixed, IsWithin, IsTable};
+    ghost use Rattle.wake_core.specs.WorldOf.{routes_in, stop_in, IsMade};
 
     /// How many of these messages were played: they stand on channels that no component writes.
     pub fn played_in(&self, tape: &[Token]) -> usize
@@ -47,12 +51,18 @@ impl Fixed {
         self.routes.iter().any(|route| route.out == channel)
     }
 
-    /// What is kept of a wiring for which so many messages are played on each channel.
-    pub(crate) fn new(alloc: Global, wiring: &Wiring, counts: &[u32]) -> Result<Self, CoreError>
+    /// What is kept of a wiring for which so many messages are played on each channel, and of a
+    /// stop.
+    pub(crate) fn new(
+        alloc: Global,
+        wiring: &Wiring,
+        counts: &[u32],
+        stop: Option<Stop>,
+    ) -> Result<Self, CoreError>
         requires counts { length counts.now ≡ length wiring.now.names }
         requires limited { planned (routes_of wiring.now.plans) counts.now ≤ MOST_PLANNED }
-        ensures routes { IfOk result (λ f. f.routes.items ≡ routes_of wiring.now.plans) }
-        ensures counts { IfOk result (λ f. f.counts.items ≡ counts.now) }
+        requires within { IsWithin (routes_of wiring.now.plans) counts.now stop }
+        ensures made { IfOk result (λ f. IsMade (routes_of wiring.now.plans) counts.now stop f) }
         ensures memory { IfErr result (λ e. e ≡ CoreError.Memory) }
     {
         let routes = routes_from(alloc, wiring.plans.as_slice())?;
@@ -61,6 +71,7 @@ impl Fixed {
             routes,
             counts: Vec::from_slice(alloc, counts)?,
             readers,
+            stop,
         })
     }
 
@@ -71,6 +82,23 @@ impl Fixed {
         ensures { result.now ≡ readers_of self.now.routes.items channel }
     {
         self.readers[channel as usize].as_slice()
+    }
+
+    /// The stop, if there is one.
+    pub fn stop(&self) -> Option<Stop>
+        ensures { result ≡ stop_in self.now }
+    {
+        self.stop
+    }
+
+    // Whether the stop names a component.
+    pub(crate) fn names(&self, component: u32) -> bool
+        ensures { result ≡ stops self.now.stop true component }
+    {
+        match self.stop {
+            Some(stop) => stop.component == component,
+            None => false,
+        }
     }
 
     /// The channel that a component writes.

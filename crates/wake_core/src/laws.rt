@@ -3,7 +3,8 @@
 //! A function here does nothing: its contract is a law of `specs/Laws`, `specs/TapeLaws` or
 //! `specs/Bounds`, over the worlds of `specs/Plain`, the events of `specs/Events` and what
 //! `specs/Sound` says of a world.
-ghost use Rattle.wake_core.specs.Laws.{AcquireLaws, SpendLaws, ReadyLaws, AskLaws, FetchLaws};
+ghost use Rattle.wake_core.specs.Laws.{AcquireLaws, SpendLaws, ReadyLaws, CheckLaws, StopLaws};
+ghost use Rattle.wake_core.specs.Laws.{AskLaws, FetchLaws};
 ghost use Rattle.wake_core.specs.Laws.{TapeLaws, SendLaws, FillLaws, LookLaws, ClearLaws};
 ghost use Rattle.wake_core.specs.Laws.{YieldLaws, ReleaseLaws, TickLaws, CloseLaws, RunLaws};
 ghost use Rattle.wake_core.specs.Laws.{TapedLaws, ThreadLaws, FewerLaws, RoomLaws, FoundLaws};
@@ -27,6 +28,16 @@ pub fn spend()
 /// So does making READY one that was woken or is due.
 pub fn ready()
     ensures { ReadyLaws }
+{}
+
+/// So does looking whether the raised stop names one that is READY.
+pub fn check()
+    ensures { CheckLaws }
+{}
+
+/// So does raising the stop.
+pub fn stop()
+    ensures { StopLaws }
 {}
 
 /// So does storing, before the fetch, that it waits again.

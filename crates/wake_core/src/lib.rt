@@ -4,7 +4,7 @@
 //! over the steps of `specs/Settle`, and `specs/Planned` how many entries a run can come to have. A
 //! [`World`] is that of any wiring: `specs/WorldOf` has what it shows of its run.
 //!
-//! `specs/Plain` has the plain world, with flags, states and threads; `specs/Events` the thirteen
+//! `specs/Plain` has the plain world, with flags, states and threads; `specs/Events` the fifteen
 //! events between two of them; `specs/Sound` what holds of every one that events reach;
 //! `specs/LawfulRun` how a run ends. The laws of `specs/Laws`, of the events, `specs/TapeLaws`
 //! and `specs/Bounds` are the contracts of [`laws`]. `specs/Parts` says what the parts show into

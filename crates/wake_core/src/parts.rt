@@ -22,6 +22,8 @@ pub struct Parts {
     pub clock: u64,
     /// Whether all was played and the run is closing.
     pub closing: bool,
-    /// What is kept of the wiring, and of the numbers of messages that are to be played.
+    /// Whether the stop is raised.
+    pub raised: bool,
+    /// What is kept of the wiring, of the numbers of messages that are to be played, and of the stop.
     pub fixed: Fixed,
 }

@@ -9,7 +9,11 @@ pub enum Phase {
     Woken,
     /// Its state is known.
     Known,
-    /// It is to be resumed: it waits for a message again, and its fetch comes next.
+    /// It is to be resumed, and not stopped.
+    Checked,
+    /// It is to be resumed, and the raised stop names it.
+    Stopping,
+    /// It waits for a message again, and its fetch comes next.
     Asked,
     /// Its fetch found nothing.
     Empty,
@@ -17,6 +21,8 @@ pub enum Phase {
     Running,
     /// The output that it held back was sent.
     Sending,
+    /// The output that it held back was sent, and it is stopped.
+    LastSending,
     /// What it is to do next is stored.
     Done,
 }

@@ -49,6 +49,7 @@ pub struct World {
     played: u32,
     clock: u64,
     closing: bool,
+    raised: bool,
     ghost sized: { IsSized (length fixed.routes.items) (length visitors.items)
         (length routines.items) (length found.items) (length spent.items) (length sent.items)
         (length held.items) (length hands.items) (length owed.items) },
@@ -65,8 +66,9 @@ pub struct World {
         (vec_capacity tape) },
     ghost owing: { AreOwing fixed.routes.items owed.items },
     ghost counted: { played ≡ length (played_of fixed.routes.items tape.items) },
-    ghost sound: { Sound (plain_at fixed.routes.items fixed.counts.items visitors.items
-        routines.items found.items spent.items hands.items owed.items tape.items clock closing) },
+    ghost sound: { Sound (plain_at fixed.routes.items fixed.counts.items fixed.stop visitors.items
+        routines.items found.items spent.items hands.items owed.items tape.items clock closing
+        raised) },
 }
 
 impl World {

@@ -30,6 +30,7 @@ impl World {
             played: self.played,
             clock: self.clock,
             closing: self.closing,
+            raised: self.raised,
             fixed: self.fixed,
         }
     }
@@ -69,6 +70,7 @@ impl Parts {
             played: self.played,
             clock: self.clock,
             closing: self.closing,
+            raised: self.raised,
         })
     }
 }

@@ -1,11 +1,11 @@
-// The clock, and the end of the play.
+// The clock, the stop, and the end of the play.
 use crate::World;
 
 impl World {
     ghost use Rattle.std.specs.Prelude.{◌≡◌, ◌≤◌};
-    ghost use Rattle.wake_core.specs.Plain.{played_count, to_play};
-    ghost use Rattle.wake_core.specs.Events.{Ticks, Closes};
+    ghost use Rattle.wake_core.specs.Events.{Ticks, Stops, Closes};
     ghost use Rattle.wake_core.specs.WorldOf.{plain_of, to_step};
+    ghost use Rattle.wake_core.specs.WorldCalls.{MayStop, MayClose};
 
     /// The player sets the clock forward, to a time in nanoseconds.
     pub fn tick(&mut self, thread: u32, time: u64)
@@ -17,10 +17,21 @@ impl World {
         self.clock = time;
     }
 
-    /// The player says that all was played.
+    /// The player raises the stop that the world was made with, when as many messages were played
+    /// as it says.
+    pub fn stop(&mut self, thread: u32)
+        requires player { thread ≡ 0 }
+        requires event { MayStop (plain_of self.old) }
+        ensures event { Stops (plain_of self.old) (plain_of self.new) }
+        ensures steps { to_step self.new ≡ to_step self.old }
+    {
+        self.raised = true;
+    }
+
+    /// The player says that all was played, and the stop raised where one is given.
     pub fn close(&mut self, thread: u32)
         requires player { thread ≡ 0 }
-        requires all { played_count (plain_of self.old) ≡ to_play (plain_of self.old) }
+        requires event { MayClose (plain_of self.old) }
         ensures event { Closes (plain_of self.old) (plain_of self.new) }
         ensures steps { to_step self.new ≡ to_step self.old }
     {

@@ -16,7 +16,7 @@ use crate::phase::Hand;
 use crate::{CoreError, MOST_PLANNED, World, planned};
 use cy_comp::{Routine, Wiring, outcomes_are_answers};
 use cy_fuse::Visitor;
-use cy_msg::Token;
+use cy_msg::{Stop, Token};
 use std::alloc::Global;
 
 // The threads: the player and 64 others.
@@ -28,16 +28,23 @@ impl World {
     ghost use Rattle.wake_core.specs.declared.entries.TheConstants.{MOST_PLANNED};
     ghost use Rattle.wake_core.specs.Run.{routes_of};
     ghost use Rattle.wake_core.specs.Planned.{planned as planned_entries};
+    ghost use Rattle.wake_core.specs.Fields.{IsWithin};
     ghost use Rattle.wake_core.specs.WorldOf.{plain_of, to_step};
     ghost use Rattle.wake_core.specs.WorldCalls.{IsOpening, IsTooMany};
 
-    /// The opening world of a wiring, for a list with so many messages on each channel. It takes
-    /// all the memory that a run needs. `TooMany` says that more entries are planned than a world
-    /// keeps, and how many.
-    pub fn new(alloc: Global, wiring: &Wiring, counts: &[u32]) -> Result<Self, CoreError>
-        requires { length counts.now ≡ length wiring.now.names }
+    /// The opening world of a wiring, for a list with so many messages on each channel, and with a
+    /// stop or none. It takes all the memory that a run needs. `TooMany` says that more entries are
+    /// planned than a world keeps, and how many.
+    pub fn new(
+        alloc: Global,
+        wiring: &Wiring,
+        counts: &[u32],
+        stop: Option<Stop>,
+    ) -> Result<Self, CoreError>
+        requires counts { length counts.now ≡ length wiring.now.names }
+        requires within { IsWithin (routes_of wiring.now.plans) counts.now stop }
         ensures opening { IfOk result (λ w.
-            IsOpening (routes_of wiring.now.plans) counts.now (plain_of w) (to_step w)) }
+            IsOpening (routes_of wiring.now.plans) counts.now stop (plain_of w) (to_step w)) }
         ensures too_many { (count : ℕ) → IsErrOf result (CoreError.TooMany count)
             ↔ IsTooMany (routes_of wiring.now.plans) counts.now count }
     {
@@ -45,19 +52,25 @@ impl World {
         if count > MOST_PLANNED {
             return Err(CoreError::TooMany { count });
         }
-        World::opened(alloc, wiring, counts)
+        World::opened(alloc, wiring, counts, stop)
     }
 
     // The opening world, where no more entries are planned than a world keeps.
-    fn opened(alloc: Global, wiring: &Wiring, counts: &[u32]) -> Result<Self, CoreError>
+    fn opened(
+        alloc: Global,
+        wiring: &Wiring,
+        counts: &[u32],
+        stop: Option<Stop>,
+    ) -> Result<Self, CoreError>
         requires counts { length counts.now ≡ length wiring.now.names }
         requires limited { planned_entries (routes_of wiring.now.plans) counts.now ≤ MOST_PLANNED }
+        requires within { IsWithin (routes_of wiring.now.plans) counts.now stop }
         ensures opening { IfOk result (λ w.
-            IsOpening (routes_of wiring.now.plans) counts.now (plain_of w) (to_step w)) }
+            IsOpening (routes_of wiring.now.plans) counts.now stop (plain_of w) (to_step w)) }
         ensures memory { IfErr result (λ e. e ≡ CoreError.Memory) }
     {
         outcomes_are_answers();
-        let fixed = Fixed::new(alloc, wiring, counts)?;
+        let fixed = Fixed::new(alloc, wiring, counts, stop)?;
         let size = wiring.plans.as_slice().len();
         let visitors = visitors_for(alloc, wiring, counts)?;
         let routines = routines_for(alloc, wiring, counts)?;
@@ -84,6 +97,7 @@ impl World {
             played: 0,
             clock: 0,
             closing: false,
+            raised: false,
         })
     }
 }

@@ -4,7 +4,7 @@ ghost use Rattle.cy_comp.specs.Calls.{output};
 
 use crate::World;
 use cy_comp::{Out, Routine};
-use cy_msg::Token;
+use cy_msg::{Stop, Token};
 
 impl World {
     ghost use Rattle.std.specs.Prelude.{◌≡◌, ◌<◌, ℕ, Some, None, length, slice_get};
@@ -47,6 +47,13 @@ impl World {
         ensures { result ≡ played_count (plain_of self.now) }
     {
         self.played
+    }
+
+    /// The stop that it was made with, if there is one.
+    pub fn given(&self) -> Option<Stop>
+        ensures { result ≡ (plain_of self.now).stop }
+    {
+        self.fixed.stop()
     }
 
     /// The clock, in nanoseconds.

@@ -10,15 +10,38 @@ impl World {
     ghost use Rattle.std.specs.Prelude.{◌≡◌, Some, None, option_map};
     ghost use Rattle.cy_comp.specs.declared.call.Call.{Call};
     ghost use Rattle.wake_core.specs.Run.{set_at};
-    ghost use Rattle.wake_core.specs.Plain.{Ready, Known, last_of, unsent_of};
-    ghost use Rattle.wake_core.specs.Events.{Asks, Fetches, Yields, next_call};
+    ghost use Rattle.wake_core.specs.Plain.{Ready, Known, last_of, unsent_of, stops};
+    ghost use Rattle.wake_core.specs.Events.{Checks, Asks, Fetches, Yields, next_call};
     ghost use Rattle.wake_core.specs.WorldOf.{plain_of, to_step};
-    ghost use Rattle.wake_core.specs.WorldCalls.{in_hand, MayAsk, MayFetch, MayStep, MayYieldAs};
-    ghost use Rattle.wake_core.specs.WorldCalls.{IsStepped};
+    ghost use Rattle.wake_core.specs.WorldCalls.{in_hand, MayCheck, MayAsk, MayFetch, MayStep};
+    ghost use Rattle.wake_core.specs.WorldCalls.{MayYieldAs, IsStepped};
     ghost use Rattle.wake_core.specs.Turns.{IsInHand, Calls};
 
-    /// Stores that the READY croutine in hand, which holds no output back, waits for a message
-    /// again. Its fetch comes next.
+    /// Looks whether the raised stop names the READY croutine in hand: true is said exactly where it
+    /// does. Then it is to end without a call, once an output that it holds back is sent.
+    pub fn check(&mut self, thread: u32) -> bool
+        requires { MayCheck thread (plain_of self.old) }
+        ensures event { Checks thread (in_hand thread (plain_of self.old)) (plain_of self.old)
+            (plain_of self.new) }
+        ensures answer { result ≡ stops (plain_of self.old).stop (plain_of self.old).raised
+            (in_hand thread (plain_of self.old)) }
+        ensures steps { to_step self.new ≡ to_step self.old }
+    {
+        let croutine = self.holding(thread);
+        let is_stopped = self.raised && self.fixed.names(croutine);
+        self.hands[thread as usize] = Some(Hand {
+            croutine,
+            phase: if is_stopped {
+                Phase::Stopping
+            } else {
+                Phase::Checked
+            },
+        });
+        is_stopped
+    }
+
+    /// Stores that the READY croutine in hand, which is not stopped and holds no output back, waits
+    /// for a message again. Its fetch comes next.
     pub fn ask(&mut self, thread: u32)
         requires { MayAsk thread (plain_of self.old) }
         ensures event { Asks thread (in_hand thread (plain_of self.old)) (plain_of self.old)
@@ -93,14 +116,16 @@ impl World {
         }
     }
 
-    /// Thread 0 asks and fetches for the croutine in hand, and steps its component at once on what
-    /// is found: `ask`, `fetch` and `step` in one, without keeping the tuple between them. None
-    /// comes exactly where the fetch finds nothing.
+    /// Thread 0 asks and fetches for the croutine in hand, which isn't stopped, and steps its
+    /// component at once on what is found: `check`, `ask`, `fetch` and `step` in one, without keeping
+    /// the tuple between them. None comes exactly where the fetch finds nothing.
     #[inline(always)]
     pub(crate) fn call(&mut self, component: u32) -> Option<Outcome>
         requires held { IsInHand component Known (plain_of self.old) }
         requires ready { (plain_of self.old).states component ≡ Ready }
         requires none_held { unsent_of (plain_of self.old) component ≡ None }
+        requires unstopped { stops (plain_of self.old).stop (plain_of self.old).raised component
+            ≡ false }
         ensures event { Calls component result (plain_of self.old) (plain_of self.new) }
         ensures steps { to_step self.new ≡ to_step self.old }
     {
@@ -127,7 +152,8 @@ impl World {
     }
 
     /// Stores what the croutine in hand is to do next: it waits after a fetch that found nothing,
-    /// it does what its outcome names after a call, and is READY after a held output was sent.
+    /// does what its outcome names after a call, is READY after a held output was sent, and FINISHED
+    /// where it is stopped.
     pub fn yield_as(&mut self, thread: u32, state: State)
         requires event { MayYieldAs thread state (plain_of self.old) }
         requires stepped { IsStepped thread (plain_of self.old) (to_step self.old) }

@@ -93,13 +93,15 @@ impl World {
     }
 }
 
-// The croutine whose output was sent: a held output is sent in a phase of its own.
+// The croutine whose output was sent: a held output is sent in a phase of its own, and in another
+// one where it is the last.
 fn after_send(hand: Hand) -> Hand
     ensures croutine { result.croutine ≡ hand.croutine }
     ensures phase { result.phase ≡ phase_sent (Some hand) }
 {
     let phase = match hand.phase {
-        Phase::Known => Phase::Sending,
+        Phase::Checked => Phase::Sending,
+        Phase::Stopping => Phase::LastSending,
         _ => Phase::Running,
     };
     Hand { phase, ..hand }
