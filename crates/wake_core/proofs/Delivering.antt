@@ -1,16 +1,16 @@
 -- What each event keeps of the delivery.
-use Rattle.std.proofs.Common.{ℕ, zero, suc, ap₂, ◌+◌, ◌-◌, ◌≡◌, ◌≢◌, ◌⊎◌, ◌≤◌, Bool, true, false, refl, sym, ◌∙◌, ap, inl, inr, arith, List, [], ◌∷◌, ◌++◌, length, take, drop, Some, None, Option, slice_get, true≢false, length-append, ◌==◌, if◌then◌else◌}
+use Rattle.std.proofs.Common.{ℕ, zero, suc, ap₂, ◌+◌, ◌-◌, ◌≡◌, ◌≢◌, ◌⊎◌, ◌≤◌, Bool, true, false, refl, sym, ◌∙◌, ap, inl, inr, arith, List, [], ◌∷◌, ◌++◌, length, take, drop, Some, None, Option, slice_get, true≢false, length-append, ◌==◌, ◌&&◌, if◌then◌else◌}
 use Rattle.std.proofs.Math.Seq.{take-length, take-append_seam}
 use Rattle.std.proofs.lemmas.List.{take-append-le, length-drop, length-take}
-use Rattle.std.proofs.lemmas.Bool.Decides.{nat_tests}
+use Rattle.std.proofs.lemmas.Bool.Decides.{nat_tests, eqb_tells}
 use Rattle.cy_msg.specs.declared.token.Token.{Token}
 use Rattle.cy_msg.specs.Tokens.{on_channel}
 use Rattle.cy_fuse.specs.Fusion.{Arrival}
 use Rattle.cy_comp.specs.declared.call.Call.{Call}
 use Rattle.cy_comp.specs.Calls.{outs}
 use Rattle.wake_core.specs.Run.{Route, set_at, readers_of, writes_from}
-use Rattle.wake_core.specs.Plain.{Hand, hand, Phase, Running, Sending, reads, of_role, lists, lists_reader}
-use Rattle.wake_core.specs.Sound.{Delivered, IsFilled}
+use Rattle.wake_core.specs.Plain.{Hand, hand, Phase, reads, of_role, lists, lists_reader}
+use Rattle.wake_core.specs.Sound.{Delivered, IsFilled, is_handing, hands_on}
 use Rattle.wake_core.proofs.Places.{place, set_at_there, set_at_other}
 use Rattle.wake_core.proofs.Listing.{get_snoc, snoc_at, take_next, lists_snoc}
 use Rattle.wake_core.proofs.Readers.{lists_reader_first, lists_reader_other, reader_reads, reads_reader, left_once, left_reads}
@@ -55,17 +55,35 @@ all_but_one xs x = let n : length (xs ++ x ∷ []) - 1 ≡ length xs = omega (ar
 pub phase_of : (c k : ℕ) (f g : Phase) → hand c f ≡ hand k g → f ≡ g
 phase_of c k f g e = grind (arith, e)
 
--- Of two threads that hold a component in phase Running or Sending neither is another than the other.
-same_holder : (hands : ℕ → Option Hand) (p q c : ℕ) → (hands p ≢ hand c Running → hands p ≡ hand c Sending) → (hands q ≢ hand c Running → hands q ≡ hand c Sending)
+-- A hand in which an output is handed on holds its component in such a phase; and no other hand does.
+pub handing : (h : Option Hand) (c : ℕ) → hands_on h c ≡ true → (f : Phase) × (h ≡ hand c f) × (is_handing f ≡ true)
+handing None c e = cc
+handing (Some h) c e = elim (eqb_tells h.croutine c) [
+  | inl i ↦ (h.phase, ap (λ n. hand n h.phase) i.1, sym (ap (λ b. b && is_handing h.phase) i.0) ∙ e)
+  | inr i ↦ absurd (true≢false (sym e ∙ ap (λ b. b && is_handing h.phase) i.0))
+]
+
+pub hands_its : (c : ℕ) (f : Phase) → is_handing f ≡ true → hands_on (hand c f) c ≡ true
+hands_its c f e = elim (eqb_tells c c) [ inl i ↦ ap (λ b. b && is_handing f) i.0 ∙ e | inr i ↦ absurd (i.1 refl) ]
+
+pub hands_off : (c k : ℕ) (f : Phase) → is_handing f ≡ false → hands_on (hand c f) k ≡ false
+hands_off c k f e = by (c == k)
+  where
+    by : (b : Bool) → (b && is_handing f) ≡ false
+    by true = e
+    by false = refl
+
+-- Of two threads that hand an output of one component on neither is another than the other.
+same_holder : (hands : ℕ → Option Hand) (p q c : ℕ) → hands_on (hands p) c ≡ true → hands_on (hands q) c ≡ true
     → ((f g : Phase) → hands p ≡ hand c f → hands q ≡ hand c g → p ≡ q) → q ≢ p → ⊥
 same_holder hands p q c has also one other =
-    let apart : (f g : Phase) → hands p ≡ hand c f → hands q ≡ hand c g → ⊥ = λ f g a b. other (sym (one f g a b)) in
-    let not_run : hands p ≢ hand c Running = λ r. apart Running Sending r (also (λ s. apart Running Running r s)) in
-    apart Sending Sending (has not_run) (also (λ s. apart Sending Running (has not_run) s))
+    let mine = handing (hands p) c has in
+    let its = handing (hands q) c also in
+    other (sym (one mine.0 its.0 mine.1 its.1))
 
 module _ {routes : List Route} {hands : ℕ → Option Hand} {calls : ℕ → List Call} {arrivals : ℕ → List Arrival} {fills : ℕ → List (ℕ × ℕ)} {news clearing : ℕ → List ℕ} {tokens : ℕ → Token} {tape : List Token} where
   -- Hands may change where those that have to fill still hold what they sent for.
-  pub rehand_delivered : (hands' : ℕ → Option Hand) → ((p c : ℕ) → fills p ≢ [] → writes_from 0 routes (tokens p).channel ≡ Some c → hands' p ≢ hand c Running → hands' p ≡ hand c Sending)
+  pub rehand_delivered : (hands' : ℕ → Option Hand) → ((p c : ℕ) → fills p ≢ [] → writes_from 0 routes (tokens p).channel ≡ Some c → hands_on (hands' p) c ≡ true)
       → Delivered routes hands calls arrivals fills news clearing tokens tape → Delivered routes hands' calls arrivals fills news clearing tokens tape
   rehand_delivered hands' keeps d = record {
     begins = d.begins;
@@ -82,24 +100,24 @@ module _ {routes : List Route} {hands : ℕ → Option Hand} {calls : ℕ → Li
     looked = d.looked;
   }
 
-  -- A hand that isn't Running or Sending may change.
-  pub hand_delivered : (p : ℕ) (old new : Option Hand) → hands p ≡ old → ((c : ℕ) → old ≢ hand c Running) → ((c : ℕ) → old ≢ hand c Sending)
+  -- A hand in which no output is handed on may change.
+  pub hand_delivered : (p : ℕ) (old new : Option Hand) → hands p ≡ old → ((c : ℕ) → hands_on old c ≡ false)
       → Delivered routes hands calls arrivals fills news clearing tokens tape → Delivered routes (set_at p new hands) calls arrivals fills news clearing tokens tape
-  hand_delivered p old new held run send d = rehand_delivered (set_at p new hands) (λ q c some by is. elim (place q p) [
-    | inl e ↦ absurd (send c (sym held ∙ ap hands (sym e) ∙ d.holder q c some by (λ r. run c (sym held ∙ ap hands (sym e) ∙ r))))
-    | inr e ↦ set_at_other p new hands q e ∙ d.holder q c some by (λ r. is (set_at_other p new hands q e ∙ r))
+  hand_delivered p old new held off d = rehand_delivered (set_at p new hands) (λ q c some by. elim (place q p) [
+    | inl e ↦ absurd (true≢false (sym (d.holder q c some by) ∙ ap (λ h. hands_on h c) (ap hands e ∙ held) ∙ off c))
+    | inr e ↦ ap (λ h. hands_on h c) (set_at_other p new hands q e) ∙ d.holder q c some by
   ]) d
 
-  pub phase_delivered : (p c : ℕ) (old : Phase) (new : Option Hand) → hands p ≡ hand c old → old ≢ Running → old ≢ Sending
+  pub phase_delivered : (p c : ℕ) (old : Phase) (new : Option Hand) → hands p ≡ hand c old → is_handing old ≡ false
       → Delivered routes hands calls arrivals fills news clearing tokens tape → Delivered routes (set_at p new hands) calls arrivals fills news clearing tokens tape
-  phase_delivered p c old new held run send d = hand_delivered p (hand c old) new held (λ k e. run (phase_of c k old Running e)) (λ k e. send (phase_of c k old Sending e)) d
+  phase_delivered p c old new held off d = hand_delivered p (hand c old) new held (λ k. hands_off c k old off) d
 
   -- The hand of a thread that has nothing to fill may change.
   pub idle_hand_delivered : (p : ℕ) (new : Option Hand) → fills p ≡ []
       → Delivered routes hands calls arrivals fills news clearing tokens tape → Delivered routes (set_at p new hands) calls arrivals fills news clearing tokens tape
-  idle_hand_delivered p new none d = rehand_delivered (set_at p new hands) (λ q c some by is. elim (place q p) [
+  idle_hand_delivered p new none d = rehand_delivered (set_at p new hands) (λ q c some by. elim (place q p) [
     | inl e ↦ absurd (some (ap fills e ∙ none))
-    | inr e ↦ set_at_other p new hands q e ∙ d.holder q c some by (λ r. is (set_at_other p new hands q e ∙ r))
+    | inr e ↦ ap (λ h. hands_on h c) (set_at_other p new hands q e) ∙ d.holder q c some by
   ]) d
 
   -- News, and those to clear, may become fewer, or go from the one to the other.
@@ -166,7 +184,7 @@ module _ {routes : List Route} {hands : ℕ → Option Hand} {calls : ℕ → Li
       → t.seq ≡ length (on_channel t.channel tape) + 1
       → ((c : ℕ) (x : Route) → slice_get routes c ≡ Some x → t.channel ≡ x.out → slice_get (outs x.out (calls c)) (length (on_channel x.out tape)) ≡ Some t)
       → (writes_from 0 routes t.channel ≡ None → p ≡ 0)
-      → ((c : ℕ) → writes_from 0 routes t.channel ≡ Some c → hands p ≢ hand c Running → hands p ≡ hand c Sending)
+      → ((c : ℕ) → writes_from 0 routes t.channel ≡ Some c → hands_on (hands p) c ≡ true)
       → Delivered routes hands calls arrivals fills news clearing tokens tape
       → Delivered routes hands calls arrivals (set_at p (readers_of routes t.channel) fills) news clearing (set_at p t tokens) (tape ++ t ∷ [])
   tape_delivered p t filled looked cleared alone numbered next player holder d =
@@ -217,9 +235,9 @@ module _ {routes : List Route} {hands : ℕ → Option Hand} {calls : ℕ → Li
           | inl e ↦ e ∙ player (rw (its_token q e) at none)
           | inr e ↦ d.player q (λ n. some (same_fills q e ∙ n)) (rw (same_token q e) at none)
         ];
-        holder = λ q c some by is. elim (place q p) [
-          | inl e ↦ ap hands e ∙ holder c (rw (its_token q e) at by) (λ r. is (ap hands e ∙ r))
-          | inr e ↦ d.holder q c (λ n. some (same_fills q e ∙ n)) (rw (same_token q e) at by) is
+        holder = λ q c some by. elim (place q p) [
+          | inl e ↦ ap (λ n. hands_on (hands n) c) e ∙ holder c (rw (its_token q e) at by)
+          | inr e ↦ d.holder q c (λ n. some (same_fills q e ∙ n)) (rw (same_token q e) at by)
         ];
         told = λ q v l. elim (place q p) [
           | inl e ↦ absurd (true≢false (sym l ∙ ap (lists v) (ap news e ∙ looked)))
@@ -312,9 +330,9 @@ module _ {routes : List Route} {hands : ℕ → Option Hand} {calls : ℕ → Li
           | inl e ↦ d.player q (λ n. cons_none (sym first ∙ ap fills (sym e) ∙ n)) none
           | inr e ↦ d.player q (λ n. some (same_fills q e ∙ n)) none
         ];
-        holder = λ q c some by is. elim (place q p) [
-          | inl e ↦ d.holder q c (λ n. cons_none (sym first ∙ ap fills (sym e) ∙ n)) by is
-          | inr e ↦ d.holder q c (λ n. some (same_fills q e ∙ n)) by is
+        holder = λ q c some by. elim (place q p) [
+          | inl e ↦ d.holder q c (λ n. cons_none (sym first ∙ ap fills (sym e) ∙ n)) by
+          | inr e ↦ d.holder q c (λ n. some (same_fills q e ∙ n)) by
         ];
         told = λ q u l. elim (place q p) [
           | inl e ↦ rw e (news_more u (j == 0) refl (ap (lists u) (sym (set_at_there p (if j == 0 then news p ++ v ∷ [] else news p) news q e)) ∙ l))

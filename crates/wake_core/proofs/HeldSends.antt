@@ -9,13 +9,13 @@ use Rattle.cy_comp.specs.declared.call.Outcome.TheVariants.{Emit, Hold, Last}
 use Rattle.cy_comp.specs.Step.{outcome_after, out_of}
 use Rattle.cy_comp.specs.Calls.{tuples_of, held_until, outs}
 use Rattle.wake_core.specs.Run.{Route}
-use Rattle.wake_core.specs.Plain.{Plain, Phase, last_of, unsent_of}
+use Rattle.wake_core.specs.Plain.{Plain, Phase, Ready, last_of, unsent_of}
 use Rattle.wake_core.specs.Events.{MaySend}
 use Rattle.wake_core.specs.Sound.{Consistent, IsOutput, WasHeld, Timely}
 use Rattle.wake_core.proofs.Listing.{take_next}
 use Rattle.wake_core.proofs.Outputs.{put_out, put_out_one, outs_push, outs_take, last_at}
 use Rattle.wake_core.specs.TapeLaws.{IsUnsent}
-use Rattle.wake_core.proofs.Taping.{unsent_is, unsent_less}
+use Rattle.wake_core.proofs.Taping.{unsent_is, unsent_less, from_held}
 
 -- An output that was held back, with its time.
 pub record IsHeldTo (outcome : Outcome) (out : Out) : Type 0 where
@@ -81,5 +81,7 @@ module _ (w : Plain) (c : ℕ) (t : Token) (is : unsent_of w c ≡ Some t) (s : 
           let named : held_until (last_of w.routes w.calls c) ≡ Some until = ap held_until last ∙ holds in
           elim held [
             | inl r ↦ absurd (some_none until (sym named ∙ r.1))
-            | inr r ↦ let awake = timely.awake c until r.1 less named in rw time awake
+            | inr k ↦
+                let f = from_held p c next w k in
+                let awake = timely.awake c until (s.held.phased p c f.old Ready f.in_hand f.ready) less named in rw time awake
           ]

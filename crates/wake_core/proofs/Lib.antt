@@ -18,6 +18,7 @@ pub mod Taping
 pub mod Waking
 pub mod Timing
 pub mod HeldSends
+pub mod Obeying
 pub mod Sounding
 pub mod Telling
 pub mod Spreading

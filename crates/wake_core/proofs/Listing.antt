@@ -20,6 +20,13 @@ get_snoc [] y (suc n) x e = cc
 get_snoc (z ∷ xs) y zero x e = inl e
 get_snoc (z ∷ xs) y (suc n) x e = elim (get_snoc xs y n x e) [ inl h ↦ inl h | inr h ↦ inr (ap suc h.0, h.1) ]
 
+-- What the first of a list have at a place the list has there.
+pub get_taken : {X : Type 0} (xs : List X) (k n : ℕ) (x : X) → slice_get (take k xs) n ≡ Some x → slice_get xs n ≡ Some x
+get_taken xs zero n x e = cc
+get_taken [] (suc k) n x e = cc
+get_taken (y ∷ xs) (suc k) zero x e = e
+get_taken (y ∷ xs) (suc k) (suc n) x e = get_taken xs k n x e
+
 pub get_last : {X : Type 0} (xs : List X) (y : X) → slice_get (xs ++ y ∷ []) (length xs) ≡ Some y
 get_last [] y = refl
 get_last (x ∷ xs) y = get_last xs y

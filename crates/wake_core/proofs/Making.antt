@@ -11,7 +11,7 @@ use Rattle.cy_comp.specs.Step.{outcome_after, out_of}
 use Rattle.cy_comp.specs.Calls.{cursor_after, tuples_of, last_outcome, is_last, outs}
 use Rattle.wake_core.specs.Run.{Route, set_at}
 use Rattle.wake_core.specs.Planned.{planned_count, first_reader}
-use Rattle.wake_core.specs.Plain.{Plain, hand, Asked, Running, of_role, last_of, made_of, taped_of, outs_of, tail_at, found_by}
+use Rattle.wake_core.specs.Plain.{Plain, hand, DataWait, Asked, Running, of_role, last_of, made_of, taped_of, outs_of, tail_at, found_by}
 use Rattle.wake_core.specs.Events.{call_on, next_call, after_call}
 use Rattle.wake_core.specs.Sound.{HeldIn, Consistent}
 use Rattle.wake_core.proofs.Places.{set_at_there, set_at_other}
@@ -117,7 +117,7 @@ module _ (p c : ℕ) (w : Plain) (call : Call) (held : w.hands p ≡ hand c Aske
   pub all_sent : Consistent w → (x : Route) → slice_get w.routes c ≡ Some x → length (outs x.out (w.calls c)) ≤ length (on_channel x.out w.tape)
   all_sent s x at =
       let no = not_running_of p c Asked held (λ e. cc) s.held in
-      not_less (λ l. s.held.resting c l no (s.held.asked p c held))
+      not_less (λ l. s.held.resting c l no (s.held.phased p c Asked DataWait held refl))
     where
       not_less : (taped_of w.routes w.tape c < made_of w.routes w.calls c → ⊥) → length (outs x.out (w.calls c)) ≤ length (on_channel x.out w.tape)
       not_less n = go (rw at at n)
@@ -138,7 +138,7 @@ module _ (p c : ℕ) (w : Plain) (call : Call) (held : w.hands p ≡ hand c Aske
         out = m.out;
         unfinished = not_last (is_last (last_outcome m.route.kind (w.calls c))) (λ l.
             let is_finished = s.held.ended c (rw m.at l) no in
-            let waits = s.held.asked p c held in cc);
+            let waits = s.held.phased p c Asked DataWait held refl in cc);
       }
     where
       not_last : (b : Bool) → (b ≡ true → ⊥) → b ≡ false

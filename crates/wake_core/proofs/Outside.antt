@@ -10,8 +10,8 @@ use Rattle.cy_comp.specs.declared.call.Call.{Call}
 use Rattle.cy_comp.specs.declared.call.Outcome.{Outcome}
 use Rattle.cy_comp.specs.Calls.{cursor_after, last_outcome, is_last, held_until, outs}
 use Rattle.wake_core.specs.Run.{Route}
-use Rattle.wake_core.specs.Plain.{Plain, Ready, DataWait, Sleep, Finished, reads, last_of, made_of, taped_of, tail_at, found_by}
-use Rattle.wake_core.specs.Sound.{Held, Called, Delivered, Causal, Room, Wakes, Timely, Sound, IsOutput, WasHeld}
+use Rattle.wake_core.specs.Plain.{Plain, Stop, hand, Phase, Ready, DataWait, Sleep, Finished, stops, reads, last_of, made_of, taped_of, tail_at, found_by}
+use Rattle.wake_core.specs.Sound.{Held, Called, Delivered, Causal, Room, Wakes, Timely, Obedient, Sound, IsOutput, WasHeld}
 use Rattle.wake_core.specs.Laws.{AgreesWithin, SaysNothing}
 use Rattle.wake_core.proofs.Delivering.{owes_channel}
 
@@ -74,16 +74,13 @@ module _ (w v : Plain) (a : AgreesWithin w v) where
     false_true : false ≡ true → ⊥
     false_true e = cc
 
-    held : Held (length w.routes) w.hands w.states (last_of w.routes w.calls) (made_of w.routes w.calls) (taped_of w.routes w.tape)
-        → Held (length w.routes) w.hands v.states (last_of w.routes w.calls) (made_of w.routes w.calls) (taped_of w.routes w.tape)
+    held : Held (length w.routes) w.hands w.states (last_of w.routes w.calls) (made_of w.routes w.calls) (taped_of w.routes w.tape) (stops w.stop w.raised)
+        → Held (length w.routes) w.hands v.states (last_of w.routes w.calls) (made_of w.routes w.calls) (taped_of w.routes w.tape) (stops w.stop w.raised)
     held h = record {
       known = h.known;
       one = h.one;
-      woken = λ p c e. a.states c (h.known p c _ e) ∙ h.woken p c e;
-      asked = λ p c e. a.states c (h.known p c _ e) ∙ h.asked p c e;
-      empty = λ p c e. a.states c (h.known p c _ e) ∙ h.empty p c e;
-      running = λ p c e. a.states c (h.known p c _ e) ∙ h.running p c e;
-      sending = λ p c e. a.states c (h.known p c _ e) ∙ h.sending p c e;
+      phased = λ p c f s e m. a.states c (h.known p c f e) ∙ h.phased p c f s e m;
+      stopping = h.stopping;
       sleeps = λ c u e. elim (side c (length w.routes)) [ inl l ↦ h.sleeps c u (sym (a.states c l) ∙ e) | inr o ↦ absurd (never_sleeps u (sym (bare.states c o) ∙ e)) ];
       asleep = λ c u e. elim (side c (length w.routes)) [ inl l ↦ h.asleep c u (sym (a.states c l) ∙ e) | inr o ↦ absurd (never_sleeps u (sym (bare.states c o) ∙ e)) ];
       finished = λ c e. elim (side c (length w.routes)) [ inl l ↦ h.finished c (sym (a.states c l) ∙ e) | inr o ↦ absurd (never_finished (sym (bare.states c o) ∙ e)) ];
@@ -93,6 +90,7 @@ module _ (w v : Plain) (a : AgreesWithin w v) where
       few = h.few;
       held_back = h.held_back;
       resting = λ c l still e. elim (side c (length w.routes)) [ inl i ↦ h.resting c l still (sym (a.states c i) ∙ e) | inr o ↦ never_waits (sym (bare.states c o) ∙ e) ];
+      unended = λ c l still e. elim (side c (length w.routes)) [ inl i ↦ h.unended c l still (sym (a.states c i) ∙ e) | inr o ↦ never_finished (sym (bare.states c o) ∙ e) ];
     }
       where
         never_sleeps : (u : ℕ) → Ready ≡ Sleep u → ⊥
@@ -179,6 +177,16 @@ module _ (w v : Plain) (a : AgreesWithin w v) where
         none_less : {m n : ℕ} → n ≡ 0 → m < n → ⊥
         none_less e l = omega (arith, e, l)
 
+    obedient : ((p c : ℕ) (f : Phase) → w.hands p ≡ hand c f → c < length w.routes) → Obedient w.routes w.stop w.raised w.hands w.calls w.tape → Obedient w.routes w.stop w.raised w.hands v.calls w.tape
+    obedient known o = record {
+      few = o.few;
+      one = λ s given up l m n x y at_m at_n. o.one s given up l m n x y (called_in s.component l m x at_m) (called_in s.component l n y at_n);
+      none_yet = λ s given up p n f x e asks at. o.none_yet s given up p n f x e asks (called_in s.component (known p s.component f e) n x at);
+    }
+      where
+        called_in : (c : ℕ) → c < length w.routes → (n : ℕ) (x : Call) → slice_get (v.calls c) n ≡ Some x → slice_get (w.calls c) n ≡ Some x
+        called_in c l n x at = ap (λ (cs : List Call). slice_get cs n) (sym (a.calls c l)) ∙ at
+
     pub outside_sound : Sound w → Sound v
     outside_sound s = subst Sound (sym a.same) all
       where
@@ -186,8 +194,8 @@ module _ (w v : Plain) (a : AgreesWithin w v) where
         all = record {
           consistent = record {
             wired = s.consistent.wired;
-            held = subst (λ (l : ℕ → Option Outcome). Held (length w.routes) w.hands v.states l (made_of w.routes v.calls) (taped_of w.routes w.tape)) (sym last_same)
-                (subst (λ (m : ℕ → ℕ). Held (length w.routes) w.hands v.states (last_of w.routes w.calls) m (taped_of w.routes w.tape)) (sym made_same) (held s.consistent.held));
+            held = subst (λ (l : ℕ → Option Outcome). Held (length w.routes) w.hands v.states l (made_of w.routes v.calls) (taped_of w.routes w.tape) (stops w.stop w.raised)) (sym last_same)
+                (subst (λ (m : ℕ → ℕ). Held (length w.routes) w.hands v.states (last_of w.routes w.calls) m (taped_of w.routes w.tape) (stops w.stop w.raised)) (sym made_same) (held s.consistent.held));
             called = called s.consistent.called;
             delivered = delivered s.consistent.delivered;
             causal = causal s.consistent.causal;
@@ -195,4 +203,5 @@ module _ (w v : Plain) (a : AgreesWithin w v) where
           };
           wakes = subst (λ (f : ℕ → Option ℕ). Wakes w.hands v.states v.spent f w.news w.clearing) (sym found_same) (wakes s.wakes);
           timely = timely s.timely;
+          obedient = obedient s.consistent.held.known s.obedient;
         }

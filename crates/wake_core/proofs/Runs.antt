@@ -7,14 +7,14 @@ use Rattle.cy_fuse.specs.Laws.{FetchesFind}
 use Rattle.cy_comp.specs.declared.call.Call.{Call}
 use Rattle.cy_comp.specs.Calls.{last_outcome, outs, is_last}
 use Rattle.wake_core.specs.Run.{Route, set_at, readers_of}
-use Rattle.wake_core.specs.Plain.{Plain, Hand, Ready, DataWait, Sleep, Running, blank, opening_world, lists, lists_reader, made_of, taped_of, last_of}
+use Rattle.wake_core.specs.Plain.{Plain, Stop, Hand, Ready, DataWait, Sleep, Running, blank, opening_world, lists, lists_reader, made_of, taped_of, last_of}
 use Rattle.wake_core.specs.Events.{OwesNothing, next_call, after_fetch, Fetches}
 use Rattle.wake_core.specs.Sound.{IsWired, HeldIn, Consistent, Sound}
 use Rattle.wake_core.specs.LawfulRun.{Lost}
-use Rattle.wake_core.specs.Laws.{KeepsCalls, Event, acquire, spend, ready, ask, fetch, tape, send, fill, look, clear, yield_as, release, tick, close, Events, none, more, IsIdle, with_idle}
+use Rattle.wake_core.specs.Laws.{KeepsCalls, Event, acquire, spend, ready, check, stop, ask, fetch, tape, send, fill, look, clear, yield_as, release, tick, close, Events, none, more, IsIdle, with_idle}
 use Rattle.wake_core.proofs.Places.{place, set_at_there, set_at_other, set_at_itself}
 use Rattle.wake_core.proofs.Delivering.{renew_delivered}
-use Rattle.wake_core.proofs.Sounding.{acquire_sound, spend_sound, ready_sound, ask_sound, fetch_sound, tape_sound, send_sound, fill_sound, look_sound, clear_sound, yield_sound, release_sound, tick_sound, close_sound}
+use Rattle.wake_core.proofs.Sounding.{acquire_sound, spend_sound, ready_sound, check_sound, stop_sound, ask_sound, fetch_sound, tape_sound, send_sound, fill_sound, look_sound, clear_sound, yield_sound, release_sound, tick_sound, close_sound}
 
 -- Before any call there is no outcome, and nothing is put out.
 opening_last : (routes : List Route) (c : ℕ) → last_of routes (λ k. []) c ≡ None
@@ -59,7 +59,7 @@ ready_waits e = cc
 nothing : {X : Type 0} (n : ℕ) (x : X) → slice_get [] n ≡ Some x → ⊥
 nothing n x e = cc
 
-module _ (routes : List Route) (counts : List ℕ) (wired : IsWired routes counts) where
+module _ (routes : List Route) (counts : List ℕ) (stop : Option Stop) (wired : IsWired routes counts) where
   none_made : (c : ℕ) → taped_of routes [] c < made_of routes (λ k. []) c → ⊥
   none_made c l = none (taped_of routes [] c) (made_of routes (λ k. []) c) (opening_made routes c) l
     where
@@ -69,30 +69,28 @@ module _ (routes : List Route) (counts : List ℕ) (wired : IsWired routes count
   none_last : (c : ℕ) → is_last (last_of routes (λ k. []) c) ≡ true → ⊥
   none_last c l = false_true (ap is_last (sym (opening_last routes c)) ∙ l)
 
-  opening_held : HeldIn (opening_world routes counts)
+  opening_held : HeldIn (opening_world routes counts stop)
   opening_held = record {
     known = λ p c f e. absurd (none_some record { croutine = c; phase = f } e);
     one = λ c p q f g e. absurd (none_some record { croutine = c; phase = f } e);
-    woken = λ p c e. cc;
-    asked = λ p c e. cc;
-    empty = λ p c e. cc;
-    running = λ p c e. cc;
-    sending = λ p c e. refl;
+    phased = λ p c f s e. absurd (none_some record { croutine = c; phase = f } e);
+    stopping = λ p c f e. absurd (none_some record { croutine = c; phase = f } e);
     sleeps = λ c u e. cc;
     asleep = λ c u e. absurd (ready_sleeps u e);
-    finished = λ c e. cc;
+    finished = λ c e n. cc;
     ended = λ c l no. absurd (none_last c l);
     called = λ p c e. absurd (none_some record { croutine = c; phase = Running } e);
     holds = λ p c u e. absurd (none_some record { croutine = c; phase = Running } e);
     few = λ c. omega (arith, opening_taped routes c);
     held_back = λ c l no. absurd (none_made c l);
     resting = λ c l no. absurd (none_made c l);
+    unended = λ c l no. absurd (none_made c l);
   }
     where
       ready_sleeps : (u : ℕ) → Ready ≡ Sleep u → ⊥
       ready_sleeps u e = cc
 
-  opening_consistent : Consistent (opening_world routes counts)
+  opening_consistent : Consistent (opening_world routes counts stop)
   unfolding outs
   opening_consistent = record {
     wired = wired;
@@ -133,7 +131,7 @@ module _ (routes : List Route) (counts : List ℕ) (wired : IsWired routes count
     };
   }
 
-  pub opening_sound : Sound (opening_world routes counts)
+  pub opening_sound : Sound (opening_world routes counts stop)
   opening_sound = record {
     consistent = opening_consistent;
     wakes = record { none_lost = λ c is_spent some quiet waiting un. ready_waits waiting };
@@ -143,6 +141,11 @@ module _ (routes : List Route) (counts : List ℕ) (wired : IsWired routes count
       awake = λ c u is some. absurd (none_made c some);
       over = λ c x n y t i at out. absurd (nothing n y out.made);
       later = λ c x n y t i at out. absurd (nothing n y out.made);
+    };
+    obedient = record {
+      few = λ s given down. omega arith;
+      one = λ s given up. absurd (false_true up);
+      none_yet = λ s given up. absurd (false_true up);
     };
   }
 
@@ -154,6 +157,8 @@ event_sound : FetchesFind → (w v : Plain) → Event w v → Sound w → Sound 
 event_sound law w v (acquire {p} {c} e) s = acquire_sound p c w v e s
 event_sound law w v (spend {p} {c} {seen} e) s = spend_sound p c seen w v e s
 event_sound law w v (ready {p} {c} e) s = ready_sound p c w v e s
+event_sound law w v (check {p} {c} e) s = check_sound p c w v e s
+event_sound law w v (stop e) s = stop_sound w v e s
 event_sound law w v (ask {p} {c} e) s = ask_sound p c w v e s
 event_sound law w v (fetch {p} {c} e) s = fetch_sound law p c w v e s
 event_sound law w v (tape {t} e) s = tape_sound t w v e s
@@ -188,6 +193,8 @@ event_calls : (w v : Plain) → Event w v → (c : ℕ) → take (length (w.call
 event_calls w v (acquire e) = same_calls w v (ap (λ (u : Plain). u.calls) e.effect)
 event_calls w v (spend e) = same_calls w v (ap (λ (u : Plain). u.calls) e.effect)
 event_calls w v (ready e) = same_calls w v (ap (λ (u : Plain). u.calls) e.effect)
+event_calls w v (check e) = same_calls w v (ap (λ (u : Plain). u.calls) e.effect)
+event_calls w v (stop e) = same_calls w v (ap (λ (u : Plain). u.calls) e.effect)
 event_calls w v (ask e) = same_calls w v (ap (λ (u : Plain). u.calls) e.effect)
 event_calls w v (fetch {p} {c} e) = fetch_calls p c w v e
 event_calls w v (tape e) = same_calls w v (ap (λ (u : Plain). u.calls) e.effect)
@@ -245,7 +252,7 @@ retoken tokens w same s = record {
       | inr o ↦ rw o.filled (drop_all (readers_of w.routes (tokens p).channel))
     ];
     player = λ p some none. elim (same p) [ inl e ↦ s.delivered.player p some (rw e at none) | inr o ↦ absurd (some o.filled) ];
-    holder = λ p c some by is. elim (same p) [ inl e ↦ s.delivered.holder p c some (rw e at by) is | inr o ↦ absurd (some o.filled) ];
+    holder = λ p c some by. elim (same p) [ inl e ↦ s.delivered.holder p c some (rw e at by) | inr o ↦ absurd (some o.filled) ];
     told = λ p v l. elim (same p) [ inl e ↦ rw e (s.delivered.told p v l) | inr o ↦ absurd (false_true (sym (ap (lists v) o.looked) ∙ l)) ];
     looked = λ p v l. elim (same p) [ inl e ↦ rw e (s.delivered.looked p v l) | inr o ↦ absurd (false_true (sym (ap (lists v) o.cleared) ∙ l)) ];
   };
@@ -254,7 +261,7 @@ retoken tokens w same s = record {
 }
 
 retoken_sound : (tokens : ℕ → Token) (w : Plain) → ((p : ℕ) → (tokens p ≡ w.tokens p) ⊎ OwesNothing p w) → Sound w → Sound record w { tokens = tokens }
-retoken_sound tokens w same s = record { consistent = retoken tokens w same s.consistent; wakes = s.wakes; timely = s.timely }
+retoken_sound tokens w same s = record { consistent = retoken tokens w same s.consistent; wakes = s.wakes; timely = s.timely; obedient = s.obedient }
 
 one_token : (p : ℕ) (t : Token) (w : Plain) → OwesNothing p w → (q : ℕ) → (set_at p t w.tokens q ≡ w.tokens q) ⊎ OwesNothing q w
 one_token p t w owes q = elim (place q p) [ inl e ↦ inr (subst (λ n. OwesNothing n w) (sym e) owes) | inr e ↦ inl (set_at_other p t w.tokens q e) ]

@@ -1,19 +1,19 @@
 -- What a message that comes onto the tape keeps.
-use Rattle.std.proofs.Common.{ℕ, ◌+◌, ◌-◌, take, ◌≡◌, ◌≢◌, ◌≤◌, ◌<◌, refl, sym, ◌∙◌, ap, subst, inl, inr, arith, List, [], ◌∷◌, ◌++◌, length, Some, None, Option, slice_get, slice_index, length-append}
+use Rattle.std.proofs.Common.{ℕ, ◌+◌, ◌-◌, take, ◌≡◌, ◌≢◌, ◌≤◌, ◌<◌, ◌⊎◌, true, refl, sym, ◌∙◌, ap, subst, inl, inr, arith, List, [], ◌∷◌, ◌++◌, length, Some, None, Option, slice_get, slice_index, length-append}
 use Rattle.std.proofs.lemmas.Option.{slice_get_within, slice_get_past}
 use Rattle.cy_msg.specs.declared.token.Token.{Token}
 use Rattle.cy_msg.specs.Tokens.{on_channel}
 use Rattle.cy_comp.specs.Calls.{outs}
 use Rattle.wake_core.specs.Run.{Route, set_at, writes_from}
 use Rattle.wake_core.specs.Planned.{planned_count, first_reader}
-use Rattle.wake_core.specs.Plain.{Plain, hand, Phase, Known, Running, Sending, made_of, taped_of, outs_of, unsent_of}
+use Rattle.wake_core.specs.Plain.{Plain, hand, State, Ready, Phase, Woken, Checked, Stopping, Asked, Running, Sending, LastSending, stops, made_of, taped_of, outs_of, unsent_of}
 use Rattle.wake_core.specs.Events.{OwesNothing, IsNext, MaySend, after_tape, after_send}
-use Rattle.wake_core.specs.Sound.{HeldIn, Consistent, IsWired, Room}
+use Rattle.wake_core.specs.Sound.{HeldIn, Consistent, IsWired, Room, state_in, is_ending, is_handing, hands_on}
 use Rattle.wake_core.specs.TapeLaws.{IsUnsent}
 use Rattle.wake_core.proofs.Places.{set_at_there, set_at_itself}
 use Rattle.wake_core.proofs.HeldCalls.{OneTaped, send_running_held, send_held_held, same_taped_held}
 use Rattle.wake_core.proofs.Arrived.{on_channel-own, on_channel-other}
-use Rattle.wake_core.proofs.Delivering.{idle_hand_delivered, tape_delivered}
+use Rattle.wake_core.proofs.Delivering.{handing, hands_its, idle_hand_delivered, tape_delivered}
 use Rattle.wake_core.proofs.Standing.{item_stands}
 use Rattle.wake_core.proofs.Calling.{tape_causal}
 use Rattle.wake_core.proofs.Outputs.{outs_at, outs_few, outs_but_last}
@@ -99,6 +99,57 @@ send_taped w c t is wired =
 pub send_written : {counts : List ℕ} (w : Plain) (c : ℕ) (t : Token) → unsent_of w c ≡ Some t → IsWired w.routes counts → writes_from 0 w.routes t.channel ≡ Some c
 send_written w c t is wired = let u = unsent_is w c t is in ap (writes_from 0 w.routes) u.its ∙ writes_own wired c u.route u.at
 
+-- One that held its output back, before and after that is sent.
+pub record FromHeld (p c : ℕ) (next : Phase) (w : Plain) : Type 0 where
+  pub old : Phase
+  pub in_hand : w.hands p ≡ hand c old
+  pub calm : old ≢ Running
+  pub unwatched : (old ≢ Woken) × (old ≢ Asked)
+  pub ready : state_in old ≡ Some Ready
+  pub next_calm : next ≢ Running
+  pub next_ready : (s : State) → state_in next ≡ Some s → Ready ≡ s
+  pub handing : is_handing next ≡ true
+  pub ending : is_ending next ≡ true → is_ending old ≡ true
+
+pub from_held : (p c : ℕ) (next : Phase) (w : Plain) → ((w.hands p ≡ hand c Checked) × (next ≡ Sending)) ⊎ ((w.hands p ≡ hand c Stopping) × (next ≡ LastSending)) → FromHeld p c next w
+from_held p c next w (inl k) = record {
+  old = Checked;
+  in_hand = k.0;
+  calm = λ e. cc;
+  unwatched = ((λ e. cc), (λ e. cc));
+  ready = refl;
+  next_calm = λ e. sending_runs (sym k.1 ∙ e);
+  next_ready = λ s e. some_of s (ap state_in (sym k.1) ∙ e);
+  handing = ap is_handing k.1;
+  ending = λ e. absurd (sending_ends (ap is_ending (sym k.1) ∙ e));
+}
+  where
+    sending_runs : Sending ≡ Running → ⊥
+    sending_runs e = cc
+
+    some_of : (s : State) → Some Ready ≡ Some s → Ready ≡ s
+    some_of s e = cc
+
+    sending_ends : is_ending Sending ≡ true → ⊥
+    sending_ends e = cc
+from_held p c next w (inr k) = record {
+  old = Stopping;
+  in_hand = k.0;
+  calm = λ e. cc;
+  unwatched = ((λ e. cc), (λ e. cc));
+  ready = refl;
+  next_calm = λ e. sending_runs (sym k.1 ∙ e);
+  next_ready = λ s e. some_of s (ap state_in (sym k.1) ∙ e);
+  handing = ap is_handing k.1;
+  ending = λ e. refl;
+}
+  where
+    sending_runs : LastSending ≡ Running → ⊥
+    sending_runs e = cc
+
+    some_of : (s : State) → Some Ready ≡ Some s → Ready ≡ s
+    some_of s e = cc
+
 module _ (p c : ℕ) (next : Phase) (t : Token) (w : Plain) (held : MaySend p c next w) (is : unsent_of w c ≡ Some t) where
   pub unsent_less : taped_of w.routes w.tape c < made_of w.routes w.calls c
   unsent_less = slice_get_within (outs_of w.routes w.calls c) (taped_of w.routes w.tape c) t is
@@ -107,12 +158,17 @@ module _ (p c : ℕ) (next : Phase) (t : Token) (w : Plain) (held : MaySend p c 
   send_in wired h = elim held [
     | inl r ↦ let same : w.hands ≡ set_at p (hand c next) w.hands = rw r.2 (sym (ap (λ x. set_at p x w.hands) (sym r.0) ∙ set_at_itself p w.hands)) in
         subst (λ hands. HeldIn (record (after_tape p t w) { hands = hands })) same (send_running_held p c r.0 r.1 unsent_less (send_taped w c t is wired) h)
-    | inr k ↦ rw k.2 (send_held_held p c k.0 k.1 unsent_less (send_taped w c t is wired) h)
+    | inr k ↦
+        let f = from_held p c next w k in
+        send_held_held p c f.old next f.in_hand f.calm f.next_calm f.ready f.next_ready (λ e. h.stopping p c f.old f.in_hand (f.ending e)) unsent_less (send_taped w c t is wired) h
   ]
 
   -- The phase in which the component is in hand.
   its_hand : (f : Phase) × (w.hands p ≡ hand c f)
-  its_hand = elim held [ inl r ↦ (Running, r.0) | inr k ↦ (Known, k.0) ]
+  its_hand = elim held [ inl r ↦ (Running, r.0) | inr k ↦ ((from_held p c next w k).old, (from_held p c next w k).in_hand) ]
+
+  pub next_hands : is_handing next ≡ true
+  next_hands = elim held [ inl r ↦ ap is_handing r.2 | inr k ↦ (from_held p c next w k).handing ]
 
   pub send_consistent : OwesNothing p w → Consistent w → Consistent (after_send p c next t w)
   send_consistent owes s =
@@ -120,7 +176,7 @@ module _ (p c : ℕ) (next : Phase) (t : Token) (w : Plain) (held : MaySend p c 
       let written : writes_from 0 w.routes t.channel ≡ Some c = send_written w c t is s.wired in
       let alone : (q : ℕ) → q ≢ p → w.fills q ≢ [] → (w.tokens q).channel ≢ t.channel = λ q other some same.
       let not : (f : Phase) → w.hands q ≡ hand c f → ⊥ = λ f e. other (s.held.one c q p f its_hand.0 e its_hand.1) in
-      not Sending (s.delivered.holder q c some (ap (writes_from 0 w.routes) same ∙ written) (not Running)) in
+      let its = handing (w.hands q) c (s.delivered.holder q c some (ap (writes_from 0 w.routes) same ∙ written)) in not its.0 its.1 in
       record {
         wired = s.wired;
         held = send_in s.wired s.held;
@@ -129,8 +185,7 @@ module _ (p c : ℕ) (next : Phase) (t : Token) (w : Plain) (held : MaySend p c 
             (u.number ∙ ap (λ n. length (on_channel n w.tape) + 1) (sym u.its))
             (λ k x at same. same_output u k x at (s.wired.own_outs k c x u.route at u.at (sym same ∙ u.its)))
             (λ none. absurd (none_some c (sym none ∙ written)))
-            (λ k some running. let e : c ≡ k = one_of (sym written ∙ some) in
-            rw (sym e) (set_at_there p (hand c next) w.hands p refl ∙ ap (hand c) (is_sending (λ r. running (set_at_there p (hand c next) w.hands p refl ∙ ap (hand c) r ∙ ap (λ n. hand n Running) e)))))
+            (λ k some. ap (λ h. hands_on h k) (set_at_there p (hand c next) w.hands p refl) ∙ ap (hands_on (hand c next)) (sym (one_of (sym written ∙ some))) ∙ hands_its c next next_hands)
             (idle_hand_delivered p (hand c next) owes.filled s.delivered);
         causal = tape_causal t (item_stands s.delivered) s.causal;
         room = send_room w c t is s;
@@ -148,9 +203,6 @@ module _ (p c : ℕ) (next : Phase) (t : Token) (w : Plain) (held : MaySend p c 
           let same : u.route ≡ x = cc in
           subst (λ (y : Route). slice_get (outs y.out (w.calls k)) (length (on_channel y.out w.tape)) ≡ Some t) same
           (ap (λ n. slice_get (outs u.route.out (w.calls n)) (length (on_channel u.route.out w.tape))) e ∙ u.next)
-
-      is_sending : next ≢ Running → next ≡ Sending
-      is_sending n = elim held [ inl r ↦ absurd (n r.2) | inr k ↦ k.2 ]
 
   -- Then nothing is unsent.
   pub send_all : Consistent w → unsent_of (after_send p c next t w) c ≡ None

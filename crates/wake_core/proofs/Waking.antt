@@ -2,7 +2,7 @@
 use Rattle.std.proofs.Common.{ℕ, ◌≡◌, ◌≢◌, ◌⊎◌, Bool, true, false, refl, sym, ◌∙◌, ap, inl, inr, arith, Option, None, List, ◌++◌, ◌∷◌, [], if◌then◌else◌}
 use Rattle.std.proofs.lemmas.Bool.Decides.{nat_tests}
 use Rattle.wake_core.specs.Run.{set_at}
-use Rattle.wake_core.specs.Plain.{Hand, hand, State, Ready, DataWait, Phase, Fresh, Woken, Known, Asked, Empty, Running, Sending, Done, lists}
+use Rattle.wake_core.specs.Plain.{Hand, hand, State, Ready, DataWait, Phase, Fresh, Woken, Known, Checked, Asked, Empty, Running, Done, lists}
 use Rattle.wake_core.specs.Events.{phase_after_spend, is_waiting}
 use Rattle.wake_core.specs.Sound.{Wakes, Unwatched}
 use Rattle.wake_core.proofs.Places.{place, set_at_there, set_at_other}
@@ -58,12 +58,12 @@ module _ {hands : ℕ → Option Hand} {states : ℕ → State} {spent : ℕ →
       ready_waits : Ready ≡ DataWait → ⊥
       ready_waits e = cc
 
-  pub ask_wakes : (p c : ℕ) → hands p ≡ hand c Known → Wakes hands states spent found news clearing
+  pub ask_wakes : (p c : ℕ) → hands p ≡ hand c Checked → Wakes hands states spent found news clearing
       → Wakes (set_at p (hand c Asked) hands) (set_at c DataWait states) spent found news clearing
   ask_wakes p c held h = record {
     none_lost = λ k is_spent some quiet waiting un.
         let other : k ≢ c = λ e. (un p).1 (set_at_there p (hand c Asked) hands p refl ∙ ap (λ n. hand n Asked) (sym e)) in
-        h.none_lost k is_spent some quiet (sym (set_at_other c DataWait states k other) ∙ waiting) (unwatched_before hands p c Known (hand c Asked) held (λ e. cc) (λ e. cc) (λ e. cc) k un);
+        h.none_lost k is_spent some quiet (sym (set_at_other c DataWait states k other) ∙ waiting) (unwatched_before hands p c Checked (hand c Asked) held (λ e. cc) (λ e. cc) (λ e. cc) k un);
   }
 
   pub none_wakes : (p c : ℕ) → hands p ≡ hand c Asked → found c ≡ None → Wakes hands states spent found news clearing
@@ -83,9 +83,11 @@ module _ {hands : ℕ → Option Hand} {states : ℕ → State} {spent : ℕ →
   }
 
   -- An output that was held back is sent.
-  pub send_wakes : (p c : ℕ) → hands p ≡ hand c Known → Wakes hands states spent found news clearing → Wakes (set_at p (hand c Sending) hands) states spent found news clearing
-  send_wakes p c held h = record {
-    none_lost = λ k is_spent some quiet waiting un. h.none_lost k is_spent some quiet waiting (unwatched_before hands p c Known (hand c Sending) held (λ e. cc) (λ e. cc) (λ e. cc) k un);
+  -- A hand changes from a phase in which nobody watches.
+  pub hand_wakes : (p c : ℕ) (old : Phase) (new : Option Hand) → hands p ≡ hand c old → old ≢ Woken → old ≢ Asked → old ≢ Running → Wakes hands states spent found news clearing
+      → Wakes (set_at p new hands) states spent found news clearing
+  hand_wakes p c old new held a b d h = record {
+    none_lost = λ k is_spent some quiet waiting un. h.none_lost k is_spent some quiet waiting (unwatched_before hands p c old new held a b d k un);
   }
 
   -- A message arrives that triggers a component, which joins the news.
@@ -158,10 +160,4 @@ module _ {hands : ℕ → Option Hand} {states : ℕ → State} {spent : ℕ →
     none_lost = λ k is_spent some quiet waiting un.
         let other : k ≢ c = λ e. named (sym (set_at_there c state states k e) ∙ waiting) in
         h.none_lost k is_spent some quiet (sym (set_at_other c state states k other) ∙ waiting) (λ q. grind (arith, set_at_other, held, other, un q));
-  }
-
-  pub release_wakes : (p c : ℕ) (old : Phase) → hands p ≡ hand c old → old ≢ Woken → old ≢ Asked → old ≢ Running → Wakes hands states spent found news clearing
-      → Wakes (set_at p None hands) states spent found news clearing
-  release_wakes p c old held a b d h = record {
-    none_lost = λ k is_spent some quiet waiting un. h.none_lost k is_spent some quiet waiting (unwatched_before hands p c old None held a b d k un);
   }

@@ -1,7 +1,8 @@
 -- What holds of every world that can be reached, part by part. Each part speaks only of the things
 -- that it names, so that an event which leaves them alone keeps it. All is said as equations,
 -- orders and denials, so that it is a proposition.
-use Rattle.std.specs.Prelude.{ℕ, ◌+◌, ◌-◌, ◌≡◌, ◌≢◌, ◌≤◌, ◌<◌, Bool, true, false, List, [], ◌∷◌}
+use Rattle.std.specs.Prelude.{ℕ, ◌+◌, ◌-◌, ◌≡◌, ◌≢◌, ◌≤◌, ◌<◌, ◌==◌, ◌&&◌, Bool, true, false}
+use Rattle.std.specs.Prelude.{List, [], ◌∷◌}
 use Rattle.std.specs.Prelude.{◌++◌, length, take, drop, Option, Some, None, slice_get}
 use Rattle.cy_msg.specs.declared.token.Token.{Token}
 use Rattle.cy_msg.specs.declared.token.Tuple.{Tuple}
@@ -18,8 +19,8 @@ use Rattle.cy_comp.specs.Calls.{output}
 use Rattle.wake_core.specs.Run.{Route, readers_of, writes_from, played_of}
 use Rattle.wake_core.specs.Planned.{planned_count, first_reader}
 use Rattle.wake_core.specs.Plain.{Plain, Stop, Hand, hand, State, Ready, DataWait, Sleep, Finished}
-use Rattle.wake_core.specs.Plain.{Phase, Woken, Checked, Stopping, Asked, Empty, Running, Sending}
-use Rattle.wake_core.specs.Plain.{LastSending, reads, of_role, lists, lists_reader, last_of, made_of}
+use Rattle.wake_core.specs.Plain.{Phase, Fresh, Woken, Known, Checked, Stopping, Asked, Empty}
+use Rattle.wake_core.specs.Plain.{Running, Sending, LastSending, Done, reads, of_role, lists, lists_reader, last_of, made_of}
 use Rattle.wake_core.specs.Plain.{taped_of, found_by, stops}
 
 -- The components that a world is made for, with the number of messages that are played on each
@@ -41,6 +42,37 @@ pub record IsWired (routes : List Route) (counts : List ℕ) : Type 0 where
 abbrev pub NotRunning : (ℕ → Option Hand) → ℕ → Type 0
 NotRunning hands c = (p : ℕ) → hands p ≢ hand c Running
 
+-- The state of a croutine that is held in a phase, where the phase tells it; and whether it is a
+-- phase in which the croutine ends by the stop.
+abbrev pub state_in : Phase → Option State
+state_in Fresh = None
+state_in Woken = Some DataWait
+state_in Known = None
+state_in Checked = Some Ready
+state_in Stopping = Some Ready
+state_in Asked = Some DataWait
+state_in Empty = Some DataWait
+state_in Running = Some DataWait
+state_in Sending = Some Ready
+state_in LastSending = Some Ready
+state_in Done = None
+
+abbrev pub is_ending : Phase → Bool
+is_ending Stopping = true
+is_ending LastSending = true
+is_ending _ = false
+
+-- Whether it is a phase in which an output is handed on; and whether a hand holds a croutine in one.
+abbrev pub is_handing : Phase → Bool
+is_handing Running = true
+is_handing Sending = true
+is_handing LastSending = true
+is_handing _ = false
+
+abbrev pub hands_on : Option Hand → (component : ℕ) → Bool
+hands_on None c = false
+hands_on (Some h) c = h.croutine == c && is_handing h.phase
+
 -- One holder, and what its phase says of the state. Of each croutine there is the outcome of its
 -- last call, how many outputs its calls made, and how many of them are taped; where there are more,
 -- the last is unsent; and whether the raised stop names it.
@@ -49,18 +81,11 @@ pub record Held (size : ℕ) (hands : ℕ → Option Hand) (states : ℕ → Sta
   -- 1. Holders: a croutine that is held is known, and has one.
   pub known : (p c : ℕ) (f : Phase) → hands p ≡ hand c f → c < size
   pub one : (c p q : ℕ) (f g : Phase) → hands p ≡ hand c f → hands q ≡ hand c g → p ≡ q
-  -- 2. Phases: the state of a croutine that is held.
-  pub woken : (p c : ℕ) → hands p ≡ hand c Woken → states c ≡ DataWait
-  pub asked : (p c : ℕ) → hands p ≡ hand c Asked → states c ≡ DataWait
-  pub empty : (p c : ℕ) → hands p ≡ hand c Empty → states c ≡ DataWait
-  pub running : (p c : ℕ) → hands p ≡ hand c Running → states c ≡ DataWait
-  pub sending : (p c : ℕ) → hands p ≡ hand c Sending → states c ≡ Ready
-  pub checked : (p c : ℕ) → hands p ≡ hand c Checked → states c ≡ Ready
-  pub stopping : (p c : ℕ) → hands p ≡ hand c Stopping → states c ≡ Ready
-  pub last_sending : (p c : ℕ) → hands p ≡ hand c LastSending → states c ≡ Ready
-  -- .. and in Stopping and LastSending the raised stop names it.
-  pub stopping_named : (p c : ℕ) → hands p ≡ hand c Stopping → stopped c ≡ true
-  pub last_named : (p c : ℕ) → hands p ≡ hand c LastSending → stopped c ≡ true
+  -- 2. Phases: the state of a croutine that is held; and the raised stop names one that ends by it.
+  pub phased : (p c : ℕ) (f : Phase) (s : State) → hands p ≡ hand c f → state_in f ≡ Some s
+      → states c ≡ s
+  pub stopping : (p c : ℕ) (f : Phase) → hands p ≡ hand c f → is_ending f ≡ true
+      → stopped c ≡ true
   -- 3. Outcomes: the state of any croutine, and what of its output is unsent.
   -- SLEEP until u only after a Hold until u whose output is unsent.
   pub sleeps : (c u : ℕ) → states c ≡ Sleep u → held_until (last c) ≡ Some u
@@ -120,8 +145,7 @@ pub record Delivered (routes : List Route) (hands : ℕ → Option Hand) (calls 
       drop (length readers - length (fills p)) readers ≡ fills p
   pub player : (p : ℕ) → fills p ≢ [] → writes_from 0 routes (tokens p).channel ≡ None → p ≡ 0
   pub holder : (p c : ℕ) → fills p ≢ [] → writes_from 0 routes (tokens p).channel ≡ Some c
-      → hands p ≢ hand c Running → hands p ≢ hand c Sending
-      → hands p ≡ hand c LastSending
+      → hands_on (hands p) c ≡ true
   -- News and those to clear are components that its message's channel triggers.
   pub told : (p v : ℕ) → lists v (news p) ≡ true → reads routes v 0 ≡ Some (tokens p).channel
   pub looked : (p v : ℕ) → lists v (clearing p) ≡ true → reads routes v 0 ≡ Some (tokens p).channel
@@ -233,8 +257,14 @@ pub record HasLate (routes : List Route) (after : ℕ) (tape : List Token) (call
   pub there : slice_get (messages_of call.tuple) place ≡ Some message
   pub late : IsLate routes after tape message
 
+-- Whether it is a phase between the look for the stop and the fetch.
+abbrev pub is_asking : Phase → Bool
+is_asking Checked = true
+is_asking Asked = true
+is_asking _ = false
+
 -- Obedient: before the stop is raised no more messages are played than it says; and then the
--- component that it names has at most one call with a late message, and none as long as it is held
+-- component that it names has at most one call with a late message, and none yet where it is held
 -- in phase Checked or Asked.
 pub record Obedient (routes : List Route) (stop : Option Stop) (raised : Bool)
     (hands : ℕ → Option Hand) (calls : ℕ → List Call) (tape : List Token) : Type 0 where
@@ -243,12 +273,9 @@ pub record Obedient (routes : List Route) (stop : Option Stop) (raised : Bool)
       → (m n : ℕ) (x y : Call) → slice_get (calls s.component) m ≡ Some x
       → slice_get (calls s.component) n ≡ Some y
       → HasLate routes s.after tape x → HasLate routes s.after tape y → m ≡ n
-  pub checked : (s : Stop) → stop ≡ Some s → raised ≡ true → (p n : ℕ) (x : Call)
-      → hands p ≡ hand s.component Checked → slice_get (calls s.component) n ≡ Some x
-      → HasLate routes s.after tape x → ⊥
-  pub asked : (s : Stop) → stop ≡ Some s → raised ≡ true → (p n : ℕ) (x : Call)
-      → hands p ≡ hand s.component Asked → slice_get (calls s.component) n ≡ Some x
-      → HasLate routes s.after tape x → ⊥
+  pub none_yet : (s : Stop) → stop ≡ Some s → raised ≡ true → (p n : ℕ) (f : Phase) (x : Call)
+      → hands p ≡ hand s.component f → is_asking f ≡ true
+      → slice_get (calls s.component) n ≡ Some x → HasLate routes s.after tape x → ⊥
 
 pub record Sound (w : Plain) : Type 0 where
   pub consistent : Consistent w
