@@ -14,7 +14,6 @@ use Rattle.cy_comp.specs.declared.call.Out.{Out}
 use Rattle.cy_comp.specs.declared.call.Outcome.{Outcome}
 use Rattle.cy_comp.specs.declared.call.Outcome.TheVariants.{Emit, Last}
 use Rattle.cy_comp.specs.Step.{Kept, opening_of, sum_of, held_sum, values_of, is_between, greater_of, is_last_passed, counted, second_of, third_of, passes, passed, made_at, on_value, answer_of, step, kept_after, outcome_after}
-use Rattle.cy_comp.specs.Calls.{is_last}
 use Rattle.cy_comp.specs.Laws.{IsOf, CameWith, IsAnswer, no_output, passes_on, makes_value, holds_back, ends_with}
 
 -- The messages of a tuple that classes pass on.
@@ -44,33 +43,28 @@ either_is false tuple x y p q = q
 abbrev KeptCame : List Tuple → Kept → Type 0
 KeptCame tuples kept = (value : ℤ) → kept.greatest ≡ Some value → CameWith tuples value
 
--- What a call of a class answers, and what it keeps; and only a Take ends.
-record IsStep (k : Kind) (tuples : List Tuple) (tuple : Tuple) (s : Kept × Outcome) : Type 0 where
+-- What a call answers, and what it keeps.
+record IsStep (tuples : List Tuple) (tuple : Tuple) (s : Kept × Outcome) : Type 0 where
   kept : KeptCame tuples s.0
   answer : IsAnswer tuples tuple s.1
-  ends : is_last (Some s.1) ≡ true → (n : ℕ) × (k ≡ kind.Take n)
 
-module _ (k : Kind) (tuples : List Tuple) (tuple : Tuple) where
-  emits : (kept : Kept) (o : Option Out) → KeptCame tuples kept → IsAnswer tuples tuple (Emit o) → IsStep k tuples tuple (kept, Emit o)
-  emits kept o came answer = record { kept = came; answer = answer; ends = λ e. absurd (false_true e) }
-    where
-      false_true : false ≡ true → ⊥
-      false_true e = cc
+module _ (tuples : List Tuple) (tuple : Tuple) where
+  emits : (kept : Kept) (o : Option Out) → KeptCame tuples kept → IsAnswer tuples tuple (Emit o) → IsStep tuples tuple (kept, Emit o)
+  emits kept o came answer = record { kept = came; answer = answer }
 
-  on_value_steps : (kept : Kept) (o : Option ℤ) (answer : ℤ → Kept × Outcome) → KeptCame tuples kept → ((value : ℤ) → o ≡ Some value → IsStep k tuples tuple (answer value))
-      → IsStep k tuples tuple (on_value kept o answer)
+  on_value_steps : (kept : Kept) (o : Option ℤ) (answer : ℤ → Kept × Outcome) → KeptCame tuples kept → ((value : ℤ) → o ≡ Some value → IsStep tuples tuple (answer value))
+      → IsStep tuples tuple (on_value kept o answer)
   on_value_steps kept None answer came all = emits kept None came no_output
   on_value_steps kept (Some value) answer came all = all value refl
 
-  emits_either : (b : Bool) (kept : Kept) (x y : Option Out) → KeptCame tuples kept → IsAnswer tuples tuple (Emit x) → IsAnswer tuples tuple (Emit y) → IsStep k tuples tuple (kept, cond b (Emit x) (Emit y))
+  emits_either : (b : Bool) (kept : Kept) (x y : Option Out) → KeptCame tuples kept → IsAnswer tuples tuple (Emit x) → IsAnswer tuples tuple (Emit y) → IsStep tuples tuple (kept, cond b (Emit x) (Emit y))
   emits_either true kept x y came p q = emits kept x came p
   emits_either false kept x y came p q = emits kept y came q
 
-  either_steps : (b : Bool) (x y : Kept × Outcome) → IsStep k tuples tuple x → IsStep k tuples tuple y → IsStep k tuples tuple (cond b x y)
+  either_steps : (b : Bool) (x y : Kept × Outcome) → IsStep tuples tuple x → IsStep tuples tuple y → IsStep tuples tuple (cond b x y)
   either_steps true x y p q = p
   either_steps false x y p q = q
 
-module _ (tuples : List Tuple) (tuple : Tuple) where
   sum_answers : (o : Option (List ℤ)) → IsAnswer tuples tuple (Emit (option_map (λ (vs : List ℤ). made_at (first_of tuple).time (held_sum vs)) o))
   sum_answers None = no_output
   sum_answers (Some vs) = makes_value (inr (sum_of vs, refl))
@@ -86,28 +80,25 @@ module _ (tuples : List Tuple) (tuple : Tuple) where
   came_some : (value : ℤ) → CameWith tuples value → (other : ℤ) → Some value ≡ Some other → CameWith tuples other
   came_some value came other e = let same : value ≡ other = cc in subst (CameWith tuples) same came
 
-  ends_or_passes : (b : Bool) (n : ℕ) (kept : Kept) → KeptCame tuples kept → IsStep (kind.Take n) tuples tuple (kept, cond b (Last (Some (passed (first_of tuple)))) (passes (first_of tuple)))
-  ends_or_passes true n kept came = record { kept = came; answer = ends_with (first_is tuple); ends = λ e. (n, refl) }
-  ends_or_passes false n kept came = emits (kind.Take n) tuples tuple kept _ came (passes_on (first_is tuple))
+  ends_or_passes : (b : Bool) (n : ℕ) (kept : Kept) → KeptCame tuples kept → IsStep tuples tuple (kept, cond b (Last (Some (passed (first_of tuple)))) (passes (first_of tuple)))
+  ends_or_passes true n kept came = record { kept = came; answer = ends_with (first_is tuple) }
+  ends_or_passes false n kept came = emits kept _ came (passes_on (first_is tuple))
 
   -- The one table of classes: what each may answer.
-  answers : (k : Kind) (kept : Kept) → KeptCame tuples kept → ((value : ℤ) → (first_of tuple).whole ≡ Some value → CameWith tuples value) → IsStep k tuples tuple (answer_of k kept (first_of tuple) tuple)
-  answers kind.Pass kept came first = emits _ tuples tuple kept _ came (passes_on (first_is tuple))
-  answers (kind.Filter lo hi) kept came first = on_value_steps _ tuples tuple kept (first_of tuple).whole _ came (λ v is. emits_either _ tuples tuple (is_between lo hi v) kept _ None came (passes_on (first_is tuple)) no_output)
-  answers kind.Sum kept came first = emits _ tuples tuple kept _ came (sum_answers (values_of (messages_of tuple)))
-  answers kind.Count kept came first = emits _ tuples tuple _ _ came (makes_value (inr (pos (kept.calls + 1), refl)))
-  answers kind.Max kept came first = on_value_steps _ tuples tuple kept (first_of tuple).whole _ came (λ v is.
+  answers : (k : Kind) (kept : Kept) → KeptCame tuples kept → ((value : ℤ) → (first_of tuple).whole ≡ Some value → CameWith tuples value) → IsStep tuples tuple (answer_of k kept (first_of tuple) tuple)
+  answers kind.Pass kept came first = emits kept _ came (passes_on (first_is tuple))
+  answers (kind.Filter lo hi) kept came first = on_value_steps kept (first_of tuple).whole _ came (λ v is. emits_either (is_between lo hi v) kept _ None came (passes_on (first_is tuple)) no_output)
+  answers kind.Sum kept came first = emits kept _ came (sum_answers (values_of (messages_of tuple)))
+  answers kind.Count kept came first = emits _ _ came (makes_value (inr (pos (kept.calls + 1), refl)))
+  answers kind.Max kept came first = on_value_steps kept (first_of tuple).whole _ came (λ v is.
       let most = greater_came kept.greatest v came (first v is) in
-      emits _ tuples tuple _ _ (came_some (greater_of kept.greatest v) most) (makes_value (inl most)))
-  answers (kind.Window n) kept came first = on_value_steps _ tuples tuple kept (first_of tuple).whole _ came (λ v is. emits _ tuples tuple _ _ came (makes_value (inr (sum_of (keep_last n (kept.last ++ v ∷ [])), refl))))
-  answers kind.Change kept came first = on_value_steps _ tuples tuple kept (first_of tuple).whole _ came (λ v is. either_steps _ tuples tuple (is_last_passed kept.passed v) _ _
-      (emits _ tuples tuple kept None came no_output) (emits _ tuples tuple (record kept { passed = Some v }) _ came (passes_on (first_is tuple))))
-  answers kind.Select kept came first = on_value_steps _ tuples tuple kept (first_of tuple).whole _ came (λ v is. emits _ tuples tuple kept _ came
+      emits _ _ (came_some (greater_of kept.greatest v) most) (makes_value (inl most)))
+  answers (kind.Window n) kept came first = on_value_steps kept (first_of tuple).whole _ came (λ v is. emits _ _ came (makes_value (inr (sum_of (keep_last n (kept.last ++ v ∷ [])), refl))))
+  answers kind.Change kept came first = on_value_steps kept (first_of tuple).whole _ came (λ v is. either_steps (is_last_passed kept.passed v) _ _
+      (emits kept None came no_output) (emits (record kept { passed = Some v }) _ came (passes_on (first_is tuple))))
+  answers kind.Select kept came first = on_value_steps kept (first_of tuple).whole _ came (λ v is. emits kept _ came
       (passes_on (either_is (int_eq v (pos 0)) tuple (second_of tuple) (third_of tuple) (second_is tuple) (third_is tuple))))
-  answers (kind.Hold delay) kept came first = record { kept = came; answer = holds_back (omega arith) (first_is tuple); ends = λ e. absurd (false_true e) }
-    where
-      false_true : false ≡ true → ⊥
-      false_true e = cc
+  answers (kind.Hold delay) kept came first = record { kept = came; answer = holds_back (omega arith) (first_is tuple) }
   answers (kind.Take n) kept came first = ends_or_passes (counted kept.calls == n) n (record kept { calls = counted kept.calls }) came
 
 kept_came : (tuples : List Tuple) (k : Kind) (kept : Kept) (earlier : List Tuple) → KeptCame tuples kept
@@ -127,7 +118,7 @@ last_there : (earlier : List Tuple) (last : Tuple) → slice_get (earlier ++ las
 last_there [] last = refl
 last_there (x ∷ earlier) last = last_there earlier last
 
-outcome_steps : (k : Kind) (earlier : List Tuple) (tuple : Tuple) → IsStep k (earlier ++ tuple ∷ []) tuple (step k (kept_after k (opening_of k) earlier) tuple)
+outcome_steps : (k : Kind) (earlier : List Tuple) (tuple : Tuple) → IsStep (earlier ++ tuple ∷ []) tuple (step k (kept_after k (opening_of k) earlier) tuple)
 outcome_steps k earlier tuple =
     let tuples = earlier ++ tuple ∷ [] in
     let kept = kept_came tuples k (opening_of k) earlier (λ value e. absurd (none-some value e))
@@ -137,7 +128,3 @@ outcome_steps k earlier tuple =
 pub outcome_answers : (k : Kind) (earlier : List Tuple) (tuple : Tuple) → IsAnswer (earlier ++ tuple ∷ []) tuple (outcome_after k earlier tuple)
 unfolding outcome_after
 outcome_answers k earlier tuple = (outcome_steps k earlier tuple).answer
-
-pub outcome_ends : (k : Kind) (earlier : List Tuple) (tuple : Tuple) → is_last (Some (outcome_after k earlier tuple)) ≡ true → (n : ℕ) × (k ≡ kind.Take n)
-unfolding outcome_after
-outcome_ends k earlier tuple = (outcome_steps k earlier tuple).ends

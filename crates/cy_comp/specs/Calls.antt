@@ -46,10 +46,6 @@ is_last (Some (Emit out)) = false
 is_last (Some (Hold until out)) = false
 is_last (Some (Last out)) = true
 
--- Whether a component is finished: the outcome of its last call was its last.
-abbrev pub is_finished : Kind → List Call → Bool
-is_finished k calls = is_last (last_outcome k calls)
-
 -- Until when an outcome holds its output back, where it does.
 abbrev pub held_until : Option Outcome → Option ℕ
 held_until None = None
@@ -100,4 +96,4 @@ pub record LawfulCalls (k : Kind) (arrivals : List Arrival) (readers queue : ℕ
   pub outputs : (n : ℕ) (x : Call) → slice_get calls n ≡ Some x
       → x.out ≡ out_of (outcome_after k (tuples_of (take n calls)) x.tuple)
   pub no_call_after_last : (n : ℕ) (x : Call) → slice_get calls n ≡ Some x
-      → is_finished k (take n calls) ≡ false
+      → is_last (last_outcome k (take n calls)) ≡ false

@@ -1,28 +1,8 @@
 // Where a component's calls leave it.
 ghost use Rattle.std.specs.Prelude.{◌≡◌, ◌+◌};
-ghost use Rattle.cy_comp.specs.Calls.{cursor_after, is_finished as has_ended};
-ghost use Rattle.cy_comp.specs.declared.kind.Kind.TheVariants as kind;
+ghost use Rattle.cy_comp.specs.Calls.{cursor_after};
 
-use crate::{Call, Kind};
-
-/// Whether a component of a class has ended after these calls, since the last one's outcome is its
-/// last.
-pub fn is_finished(kind: &Kind, calls: &[Call]) -> bool
-    ensures { result ≡ has_ended kind.now calls.now }
-{
-    match *kind {
-        Kind::Take { n } => has_taken(n, calls),
-        // None of its answers is its last.
-        _ => false,
-    }
-}
-
-// Whether these calls are all that a component takes.
-fn has_taken(n: u32, calls: &[Call]) -> bool
-    ensures { result ≡ has_ended (kind.Take n) calls.now }
-{
-    n > 0 && calls.len() == n as usize
-}
+use crate::Call;
 
 // The position after one.
 fn position_after(position: u64) -> u128

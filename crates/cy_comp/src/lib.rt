@@ -20,7 +20,7 @@ mod wiring;
 
 pub use body::{Body, Component};
 pub use call::{Call, Out, Outcome};
-pub use ended::{is_finished, next_cursor};
+pub use ended::next_cursor;
 pub use error::CompError;
 pub use kind::{Kind, MOST_WINDOW};
 pub use laws::outcomes_are_answers;

@@ -1,7 +1,8 @@
 -- A component that is called: what the world then shows is what the serial run says.
-use Rattle.std.proofs.Common.{ℕ, ◌+◌, ◌≡◌, ◌≢◌, ◌≤◌, ◌<◌, true, false, refl, sym, ◌∙◌, ap, inl, inr, arith, List, [], ◌∷◌, ◌++◌, length, Option, Some, None, is_some, slice_get}
+use Rattle.std.proofs.Common.{ℕ, ◌+◌, ◌≡◌, ◌≢◌, ◌≤◌, ◌<◌, Bool, true, false, refl, sym, ◌∙◌, ap, inl, inr, arith, List, [], ◌∷◌, ◌++◌, length, Option, Some, None, is_some, option_map, slice_get}
 use Rattle.std.proofs.lemmas.Option.{slice_get_past}
 use Rattle.std.specs.Option.{option_map_or}
+use mathlib.Core.Path.{fun_ext}
 use Rattle.cy_msg.specs.declared.token.Token.{Token}
 use Rattle.cy_msg.specs.declared.token.Tuple.{Tuple}
 use Rattle.cy_msg.specs.Tokens.{on_channel}
@@ -15,8 +16,8 @@ use Rattle.cy_comp.specs.Calls.{tuples_of, last_outcome, held_until, output, out
 use Rattle.wake_core.specs.Run.{Route, Run, set_at, put, played_of}
 use Rattle.wake_core.specs.Planned.{planned_count, first_reader}
 use Rattle.wake_core.specs.Serial.{is_runnable, resume, follow, send, call_at, call_on}
-use Rattle.wake_core.specs.Plain.{Plain, hand, State, Ready, Known, Asked, Running, last_of, unsent_of, taped_of, made_of, found_by}
-use Rattle.wake_core.specs.Events.{Asks, Fetches, Yields, Releases, next_call, after_ask, after_fetch, after_call}
+use Rattle.wake_core.specs.Plain.{Plain, hand, State, Ready, DataWait, Known, Asked, Empty, Running, Sending, last_of, unsent_of, taped_of, made_of, found_by}
+use Rattle.wake_core.specs.Events.{Asks, Fetches, Yields, Releases, next_call, state_after, after_ask, after_fetch, after_call, is_finished}
 use Rattle.wake_core.specs.Sound.{Sound, Consistent}
 use Rattle.wake_core.specs.Rest.{run_shown, StaysFixed}
 use Rattle.wake_core.specs.Turns.{IsInHand, Delivered, IsCalled, Resumes, left_of}
@@ -37,7 +38,7 @@ pub called_by : (c : ℕ) (call : Call) (w m n : Plain) → IsInHand c Known w �
 called_by c call w m n h a f some =
     let is : n ≡ after_call 0 c call (after_ask 0 c w) = f.effect ∙ ap (λ (o : Option Call). after_fetch 0 c o m) some ∙ ap (after_call 0 c call) a.effect in
     record {
-      same = is ∙ ap (λ (x : Plain). record w { cursors = x.cursors; calls = set_at c (w.calls c ++ call ∷ []) w.calls; states = x.states; hands = x.hands }) (sym is);
+      same = is ∙ ap (λ (x : Plain). record w { cursors = x.cursors; calls = set_at c (w.calls c ++ call ∷ []) w.calls; states = set_at c DataWait w.states; hands = x.hands }) (sym is);
       in_hand = record {
         alone = λ q other. idle_by q w n
             (ap (λ (x : Plain). x.hands q) is ∙ set_at_other 0 (hand c Running) (set_at 0 (hand c Asked) w.hands) q other ∙ set_at_other 0 (hand c Asked) w.hands q other)
@@ -53,13 +54,48 @@ called_by c call w m n h a f some =
       none_held = a.none_held;
     }
 
+-- What has ended after a call.
+abbrev ended_after : ℕ → Outcome → (ℕ → Bool) → ℕ → Bool
+ended_after c (Emit out) ended = ended
+ended_after c (Hold until out) ended = ended
+ended_after c (Last out) ended = set_at c true ended
+
+-- It is what the states say, once the croutine has yielded as the outcome says.
+ended_here : (c : ℕ) (o : Outcome) (ended : ℕ → Bool) → ended c ≡ false → is_finished (state_after o) ≡ ended_after c o ended c
+ended_here c (Emit out) ended going = sym going
+ended_here c (Hold until out) ended going = sym going
+ended_here c (Last out) ended going = sym (set_at_same c true ended)
+
+ended_other : (c : ℕ) (o : Outcome) (ended : ℕ → Bool) (k : ℕ) → k ≢ c → ended_after c o ended k ≡ ended k
+ended_other c (Emit out) ended k apart = refl
+ended_other c (Hold until out) ended k apart = refl
+ended_other c (Last out) ended k apart = set_at_other c true ended k apart
+
+yields_as : (c : ℕ) (state : State) (n v : Plain) (o : Outcome) → n.hands 0 ≡ hand c Running → last_of n.routes n.calls c ≡ Some o → Yields 0 c state n v → state ≡ state_after o
+yields_as c state n v o held last y = elim y.held [
+  | inl e ↦ absurd (other_empty (sym held ∙ e.0))
+  | inr rest ↦ elim rest [
+    | inl e ↦ same (sym e.1 ∙ ap (option_map state_after) last)
+    | inr e ↦ absurd (other_sending (sym held ∙ e.0))
+  ]
+]
+  where
+    other_empty : hand c Running ≡ hand c Empty → ⊥
+    other_empty e = grind (arith, e)
+
+    other_sending : hand c Running ≡ hand c Sending → ⊥
+    other_sending e = grind (arith, e)
+
+    same : {a b : State} → Some a ≡ Some b → a ≡ b
+    same e = cc
+
 -- What follows a call whose outcome holds nothing back is that its output is sent, where there is one.
-follow_sent : (routes : List Route) (x : Route) (c : ℕ) (o : Outcome) (r : Run) → held_until (Some o) ≡ None → follow routes x c o r ≡ send routes x c (out_of o) r
+follow_sent : (routes : List Route) (x : Route) (c : ℕ) (o : Outcome) (r : Run) → held_until (Some o) ≡ None → follow routes x c o r ≡ send routes x c (out_of o) (record r { ended = ended_after c o r.ended })
 follow_sent routes x c (Emit out) r e = refl
 follow_sent routes x c (Hold until out) r e = cc
 follow_sent routes x c (Last out) r e = refl
 
-follow_held : (routes : List Route) (x : Route) (c : ℕ) (o : Outcome) (r : Run) → held_until (Some o) ≢ None → follow routes x c o r ≡ record r { unsent = set_at c true r.unsent }
+follow_held : (routes : List Route) (x : Route) (c : ℕ) (o : Outcome) (r : Run) → held_until (Some o) ≢ None → follow routes x c o r ≡ record r { unsent = set_at c true r.unsent; ended = ended_after c o r.ended }
 follow_held routes x c (Emit out) r some = absurd (some refl)
 follow_held routes x c (Hold until out) r some = refl
 follow_held routes x c (Last out) r some = absurd (some refl)
@@ -78,6 +114,9 @@ module _ (c : ℕ) (call : Call) (w m : Plain) (u : IsMade w c call) (h : IsInHa
 
   called_out : call.out ≡ out_of outcome
   called_out = u.out
+
+  called_states : m.states ≡ set_at c DataWait w.states
+  called_states = ap (λ (y : Plain). y.states) k.same
 
   called_calls : m.calls ≡ set_at c (w.calls c ++ call ∷ []) w.calls
   called_calls = ap (λ (y : Plain). y.calls) k.same
@@ -136,6 +175,13 @@ module _ (c : ℕ) (call : Call) (w m : Plain) (u : IsMade w c call) (h : IsInHa
   abbrev called_run : Run
   called_run = record (run_shown w) { calls = set_at c (w.calls c ++ call ∷ []) w.calls }
 
+  -- What has ended with it, and the run with that.
+  abbrev ended : ℕ → Bool
+  ended = ended_after c outcome (run_shown w).ended
+
+  abbrev ended_run : Run
+  ended_run = record called_run { ended = ended }
+
   resumed : resume w.routes (run_shown w) c ≡ follow w.routes u.route c outcome called_run
   resumed =
       let r : Run = run_shown w in
@@ -158,10 +204,10 @@ module _ (c : ℕ) (call : Call) (w m : Plain) (u : IsMade w c call) (h : IsInHa
       room : length (w.calls c) < planned_count w.routes w.counts (first_reader u.route)
       room = call_in_room law (after_ask 0 c w) 0 c u.route call (set_at_same 0 (hand c Asked) w.hands) k.found u.at asked
 
-  -- What the world shows after it: the output waits to be sent, ..
-  held_called_run : held_until (Some outcome) ≢ None → run_shown m ≡ resume w.routes (run_shown w) c
+  -- What the world shows after it, but for what has ended: the output waits to be sent, ..
+  held_called_run : held_until (Some outcome) ≢ None → record (run_shown m) { ended = ended } ≡ resume w.routes (run_shown w) c
   held_called_run some =
-      run_is m (record called_run { unsent = set_at c true called_run.unsent })
+      run_is m (record called_run { unsent = set_at c true called_run.unsent }) ended
       (ap (λ (y : Plain). y.arrivals) k.same) called_calls
       (λ j. elim (place j c) [
         | inl e ↦ ap (λ n. is_some (unsent_of m n)) e ∙ waits (out_of outcome) refl ∙ sym (set_at_there c true called_run.unsent j e)
@@ -175,16 +221,16 @@ module _ (c : ℕ) (call : Call) (w m : Plain) (u : IsMade w c call) (h : IsInHa
       waits (Some o) e = ap is_some (called_some o (called_out ∙ e))
 
   -- .. or there is none, ..
-  silent_run : held_until (Some outcome) ≡ None → unsent_of m c ≡ None → run_shown m ≡ resume w.routes (run_shown w) c
+  silent_run : held_until (Some outcome) ≡ None → unsent_of m c ≡ None → record (run_shown m) { ended = ended } ≡ resume w.routes (run_shown w) c
   silent_run sent none =
-      run_is m called_run
+      run_is m called_run ended
       (ap (λ (y : Plain). y.arrivals) k.same) called_calls
       (λ j. elim (place j c) [
         | inl e ↦ ap (λ n. is_some (unsent_of m n)) e ∙ ap is_some none ∙ sym (ap is_some k.none_held) ∙ ap (λ n. is_some (unsent_of w n)) (sym e)
         | inr apart ↦ ap is_some (called_other j apart)
       ])
       (ap (λ (y : Plain). y.tape) k.same) (ap (λ (y : Plain). y.clock) k.same)
-      ∙ ap (λ (o : Option Out). send w.routes u.route c o called_run) (sym (silent call.out refl) ∙ called_out)
+      ∙ ap (λ (o : Option Out). send w.routes u.route c o ended_run) (sym (silent call.out refl) ∙ called_out)
       ∙ sym (resumed ∙ follow_sent w.routes u.route c outcome called_run sent)
     where
       some_none : {t : Token} → Some t ≡ None → ⊥
@@ -196,30 +242,30 @@ module _ (c : ℕ) (call : Call) (w m : Plain) (u : IsMade w c call) (h : IsInHa
 
   -- .. or it is sent at once.
   module _ (t : Token) (n : Plain) (sent : held_until (Some outcome) ≡ None) (unsent : unsent_of m c ≡ Some t) (d : Delivered c Running t m n) where
-    sent_run : run_shown n ≡ resume w.routes (run_shown w) c
+    sent_run : record (run_shown n) { ended = ended } ≡ resume w.routes (run_shown w) c
     sent_run =
-        delivered_run c Running t m n called_run d (ap (λ (y : Plain). y.arrivals) (sym k.same)) (sym called_calls) (ap (λ (y : Plain). y.tape) (sym k.same)) (ap (λ (y : Plain). y.clock) (sym k.same))
+        delivered_run c Running t m n called_run ended d (ap (λ (y : Plain). y.arrivals) (sym k.same)) (sym called_calls) (ap (λ (y : Plain). y.tape) (sym k.same)) (ap (λ (y : Plain). y.clock) (sym k.same))
         (ap is_some k.none_held) (λ j apart. sym (ap is_some (called_other j apart)))
-        ∙ ap (λ (y : Plain). put y.routes t called_run) k.same
+        ∙ ap (λ (y : Plain). put y.routes t ended_run) k.same
         ∙ loud call.out refl
         ∙ sym (resumed ∙ follow_sent w.routes u.route c outcome called_run sent)
       where
         none_some : None ≡ Some t → ⊥
         none_some e = cc
 
-        loud : (o : Option Out) → call.out ≡ o → put w.routes t called_run ≡ send w.routes u.route c (out_of outcome) called_run
+        loud : (o : Option Out) → call.out ≡ o → put w.routes t ended_run ≡ send w.routes u.route c (out_of outcome) ended_run
         loud None e = absurd (none_some (sym (called_none e) ∙ unsent))
         loud (Some o) e =
             let both : Some (output u.route.out (length (outs u.route.out (w.calls c ++ call ∷ []))) o) ≡ Some t = sym (called_some o e) ∙ unsent in
             let same : output u.route.out (length (outs u.route.out (w.calls c ++ call ∷ []))) o ≡ t = cc in
-            ap (λ (y : Token). put w.routes y called_run) (sym same)
-            ∙ ap (λ (l : List Call). put w.routes (output u.route.out (length (outs u.route.out l)) o) called_run) (sym (set_at_same c (w.calls c ++ call ∷ []) w.calls))
-            ∙ ap (λ (y : Option Out). send w.routes u.route c y called_run) (sym e ∙ called_out)
+            ap (λ (y : Token). put w.routes y ended_run) (sym same)
+            ∙ ap (λ (l : List Call). put w.routes (output u.route.out (length (outs u.route.out l)) o) ended_run) (sym (set_at_same c (w.calls c ++ call ∷ []) w.calls))
+            ∙ ap (λ (y : Option Out). send w.routes u.route c y ended_run) (sym e ∙ called_out)
 
-  -- The croutine yields, and is given back.
-  called_ends : (n : Plain) → IsInHand c Running n → run_shown n ≡ resume w.routes (run_shown w) c → left_of n < left_of w → StaysFixed w n
-      → (state : State) (o v : Plain) → Yields 0 c state n o → Releases 0 c o v → Resumes c w v
-  called_ends n hand run less stays state o v y r =
+  -- The croutine yields, which says what has ended, and is given back.
+  called_ends : (n : Plain) → IsInHand c Running n → n.states ≡ m.states → last_of n.routes n.calls c ≡ Some outcome → record (run_shown n) { ended = ended } ≡ resume w.routes (run_shown w) c
+      → left_of n < left_of w → StaysFixed w n → (state : State) (o v : Plain) → Yields 0 c state n o → Releases 0 c o v → Resumes c w v
+  called_ends n hand states last run less stays state o v y r =
       let e = ends_same c state n o v hand.alone hand.owes y r in
       record {
         rest = ends_rest c state n o v hand.alone hand.owes y r;
@@ -229,8 +275,14 @@ module _ (c : ℕ) (call : Call) (w m : Plain) (u : IsMade w c call) (h : IsInHa
             (ap (λ (x : Plain). x.closing) e ∙ stays.closing)
             (ap (λ (x : Plain). x.clock) e ∙ stays.clock)
             (ap (λ (x : Plain). played_of x.routes x.tape) e ∙ stays.played);
-        turn = inl record { can = called_can; run = ap run_shown e ∙ run; left = rw (ap left_of e) less };
+        turn = inl record { can = called_can; run = ap run_shown e ∙ ap (λ (f : ℕ → Bool). record (run_shown n) { ended = f }) (fun_ext ends) ∙ run; left = rw (ap left_of e) less };
       }
+    where
+      ends : (j : ℕ) → is_finished (set_at c state n.states j) ≡ ended j
+      ends j = elim (place j c) [
+        | inl here ↦ ap is_finished (set_at_there c state n.states j here ∙ yields_as c state n o outcome hand.held last y) ∙ ended_here c outcome (run_shown w).ended (ap is_finished ready) ∙ ap ended (sym here)
+        | inr apart ↦ ap is_finished (set_at_other c state n.states j apart ∙ ap (λ (f : ℕ → State). f j) (states ∙ called_states) ∙ set_at_other c DataWait w.states j apart) ∙ sym (ended_other c outcome (run_shown w).ended j apart)
+      ]
 
   called_stays : StaysFixed w m
   called_stays = stays_by w m (ap (λ (x : Plain). x.routes) k.same) (ap (λ (x : Plain). x.counts) k.same) (ap (λ (x : Plain). x.closing) k.same) (ap (λ (x : Plain). x.clock) k.same)
@@ -238,19 +290,19 @@ module _ (c : ℕ) (call : Call) (w m : Plain) (u : IsMade w c call) (h : IsInHa
 
   -- After a call whose output is held back, or that has none.
   quiet_resumes : FetchesFind → (held_until (Some outcome) ≡ None → unsent_of m c ≡ None) → (state : State) (o v : Plain) → Yields 0 c state m o → Releases 0 c o v → Resumes c w v
-  quiet_resumes law none state o v y r = called_ends m k.in_hand (by (held_until (Some outcome)) refl) (called_less law) called_stays state o v y r
+  quiet_resumes law none state o v y r = called_ends m k.in_hand refl called_last (by (held_until (Some outcome)) refl) (called_less law) called_stays state o v y r
     where
       some_none : {u : ℕ} → Some u ≡ None → ⊥
       some_none e = cc
 
-      by : (x : Option ℕ) → held_until (Some outcome) ≡ x → run_shown m ≡ resume w.routes (run_shown w) c
+      by : (x : Option ℕ) → held_until (Some outcome) ≡ x → record (run_shown m) { ended = ended } ≡ resume w.routes (run_shown w) c
       by None e = silent_run e (none e)
       by (Some u) e = held_called_run (λ no. some_none (sym e ∙ no))
 
   -- After one whose output was sent at once.
   sent_resumes : FetchesFind → (t : Token) (n : Plain) → held_until (Some outcome) ≡ None → unsent_of m c ≡ Some t → Delivered c Running t m n
       → (state : State) (o v : Plain) → Yields 0 c state n o → Releases 0 c o v → Resumes c w v
-  sent_resumes law t n sent unsent d state o v y r = called_ends n d.in_hand (sent_run t n sent unsent d) less (stays_by w n
+  sent_resumes law t n sent unsent d state o v y r = called_ends n d.in_hand (ap (λ (x : Plain). x.states) d.same) (ap (λ (x : Plain). last_of x.routes x.calls c) d.same ∙ called_last) (sent_run t n sent unsent d) less (stays_by w n
       (ap (λ (x : Plain). x.routes) d.same ∙ called_stays.routes)
       (ap (λ (x : Plain). x.counts) d.same ∙ called_stays.counts)
       (ap (λ (x : Plain). x.closing) d.same ∙ called_stays.closing)

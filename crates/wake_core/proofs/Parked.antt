@@ -5,12 +5,12 @@ use Rattle.cy_fuse.specs.Laws.{FetchesFind}
 use Rattle.cy_comp.specs.declared.call.Call.{Call}
 use Rattle.wake_core.specs.Run.{Route, set_at}
 use Rattle.wake_core.specs.Plain.{Plain, Hand, hand, State, Ready, DataWait, Sleep, Finished, Known, Asked, Empty, Done, unsent_of, found_by}
-use Rattle.wake_core.specs.Events.{Asks, Fetches, Yields, Releases, call_on, next_call, after_ask, after_fetch, after_none, after_yield, after_release}
+use Rattle.wake_core.specs.Events.{Asks, Fetches, Yields, Releases, call_on, next_call, after_ask, after_fetch, after_none, after_yield, after_release, is_finished}
 use Rattle.wake_core.specs.Sound.{Sound}
 use Rattle.wake_core.specs.Rest.{IsAtRest}
 use Rattle.wake_core.specs.Turns.{Resumes, Waits, Parks, is_ready, is_due, is_woken, finds_nothing, parked_world}
 use Rattle.wake_core.proofs.Places.{set_at_same, set_at_again, set_at_itself}
-use Rattle.wake_core.proofs.Playing.{idle_by}
+use Rattle.wake_core.proofs.Playing.{idle_by, shown_stored}
 use Rattle.wake_core.proofs.Storing.{with_parts}
 use Rattle.wake_core.proofs.Taken.{taken_world, taken_by}
 use Rattle.wake_core.proofs.Sounding.{ask_sound, fetch_sound, yield_sound, release_sound}
@@ -121,11 +121,12 @@ resumes_parked c w m v r p = by (finds_nothing c m) refl
     by : (b : Bool) → finds_nothing c m ≡ b → Resumes c w v
     by false e = subst (Resumes c w) (sym (p.stays e)) r
     by true e =
+        let ready = nothing_ready (m.states c) (is_some (unsent_of m c)) (is_some (found_by m c)) e in
         let parked : Resumes c w (parked_world c m) = record {
           rest = λ q. idle_by q m (parked_world c m) refl refl refl refl (r.rest q);
           stays = record { routes = r.stays.routes; counts = r.stays.counts; closing = r.stays.closing; clock = r.stays.clock; played = r.stays.played };
           turn = elim r.turn [
-            | inl t ↦ inl record { can = t.can; run = t.run; left = t.left }
+            | inl t ↦ inl record { can = t.can; run = shown_stored c DataWait m (sym (ap is_finished ready)) ∙ t.run; left = t.left }
             | inr t ↦ absurd (true_false (sym e ∙ waiting_idle t))
           ];
         } in

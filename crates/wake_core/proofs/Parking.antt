@@ -5,19 +5,20 @@ use Rattle.std.proofs.lemmas.Option.{slice_get_within, slice_get_past}
 use Rattle.cy_msg.specs.declared.token.Token.{Token}
 use Rattle.cy_fuse.specs.Fetch.{fetch}
 use Rattle.cy_comp.specs.declared.call.Outcome.{Outcome}
-use Rattle.cy_comp.specs.Calls.{is_last, held_until, last_outcome}
+use Rattle.cy_comp.specs.Calls.{held_until, last_outcome}
 use Rattle.wake_core.specs.Run.{Route, Run, finds}
 use Rattle.wake_core.specs.Serial.{is_past, is_runnable, can_resume}
 use Rattle.wake_core.specs.Plain.{Plain, Hand, hand, State, Ready, DataWait, Sleep, Finished, Phase, Woken, Known, Asked, Running, last_of, outs_of, taped_of, made_of, unsent_of, found_by, tail_at, lists}
+use Rattle.wake_core.specs.Events.{is_finished}
 use Rattle.wake_core.specs.Sound.{Sound, Consistent, NotRunning}
 use Rattle.wake_core.specs.Rest.{IsAtRest, run_shown}
 use Rattle.wake_core.specs.Turns.{IsParked, IsInHand}
 use Rattle.wake_core.proofs.Places.{place}
 use Rattle.wake_core.proofs.Listing.{lists_first, lists_rest}
 
--- Whether a component can be resumed, by its last outcome, whether an output is unsent, and what a fetch finds.
-can : Option Outcome → Bool → Option ℕ → ℕ → Bool
-can last unsent found clock = not (is_last last) && (if unsent then is_past (held_until last) clock else is_some found)
+-- Whether a component can be resumed, by whether it has ended, its last outcome, whether an output is unsent, and what a fetch finds.
+can : Bool → Option Outcome → Bool → Option ℕ → ℕ → Bool
+can ended last unsent found clock = not ended && (if unsent then is_past (held_until last) clock else is_some found)
 
 and_false : (b : Bool) → b && false ≡ false
 and_false true = refl
@@ -50,13 +51,13 @@ runnable_at : (routes : List Route) (r : Run) (c : ℕ) (x : Route) → slice_ge
 runnable_at routes r c x at = rw at refl
 
 runnable_is : (w : Plain) (c : ℕ) (x : Route) → slice_get w.routes c ≡ Some x → Consistent w
-    → is_runnable w.routes (run_shown w) c ≡ can (last_of w.routes w.calls c) (is_some (unsent_of w c)) (found_by w c) w.clock
+    → is_runnable w.routes (run_shown w) c ≡ can (is_finished (w.states c)) (last_of w.routes w.calls c) (is_some (unsent_of w c)) (found_by w c) w.clock
 unfolding can
 runnable_is w c x at s =
-    let by_found : can_resume x (run_shown w) c ≡ can (last_outcome x.kind (w.calls c)) (is_some (unsent_of w c)) (found_by w c) w.clock =
-    ap (λ (o : Option ℕ). can (last_outcome x.kind (w.calls c)) (is_some (unsent_of w c)) o w.clock) (finds_shown w c x at s) in
+    let by_found : can_resume x (run_shown w) c ≡ can (is_finished (w.states c)) (last_outcome x.kind (w.calls c)) (is_some (unsent_of w c)) (found_by w c) w.clock =
+    ap (λ (o : Option ℕ). can (is_finished (w.states c)) (last_outcome x.kind (w.calls c)) (is_some (unsent_of w c)) o w.clock) (finds_shown w c x at s) in
     let last : last_of w.routes w.calls c ≡ last_outcome x.kind (w.calls c) = rw at refl in
-    runnable_at w.routes (run_shown w) c x at ∙ by_found ∙ ap (λ (o : Option Outcome). can o (is_some (unsent_of w c)) (found_by w c) w.clock) (sym last)
+    runnable_at w.routes (run_shown w) c x at ∙ by_found ∙ ap (λ (o : Option Outcome). can (is_finished (w.states c)) o (is_some (unsent_of w c)) (found_by w c) w.clock) (sym last)
 
 none_unknown : (w : Plain) (c : ℕ) → slice_get w.routes c ≡ None → is_runnable w.routes (run_shown w) c ≡ false
 none_unknown w c at = rw at refl
@@ -82,12 +83,12 @@ parked_still c w rest s p = by_route (slice_get w.routes c) refl
     late : (until clock : ℕ) → (until < clock → ⊥) → nat_lt until clock ≡ false
     late until clock never = grind (arith, nat_tests, never)
 
-    by_state : (st : State) → w.states c ≡ st → can (last_of w.routes w.calls c) (is_some (unsent_of w c)) (found_by w c) w.clock ≡ false
+    by_state : (st : State) → w.states c ≡ st → can (is_finished (w.states c)) (last_of w.routes w.calls c) (is_some (unsent_of w c)) (found_by w c) w.clock ≡ false
     by_state Ready e = absurd (p.resting e)
     by_state DataWait e =
         let sent : unsent_of w c ≡ None = unsent_none w c (λ l. s.consistent.held.resting c l (not_running w rest c) e) in
         let found : found_by w c ≡ None = none_found (found_by w c) refl in
-        rw (sent, found) (and_false (not (is_last (last_of w.routes w.calls c))))
+        rw (sent, found) (and_false (not (is_finished (w.states c))))
       where
         none_found : (o : Option ℕ) → found_by w c ≡ o → o ≡ None
         none_found None e' = refl
@@ -100,18 +101,12 @@ parked_still c w rest s p = by_route (slice_get w.routes c) refl
         let some : is_some (unsent_of w c) ≡ true = unsent_some w c (s.consistent.held.asleep c until e) in
         let held_to = s.consistent.held.sleeps c until e in
         let never : until < w.clock → ⊥ = λ l. p.not_due (rw e l) in
-        rw (some, held_to, late until w.clock never) (and_false (not (is_last (last_of w.routes w.calls c))))
-    by_state Finished e = rw (s.consistent.held.finished c e) refl
+        rw (some, held_to, late until w.clock never) (and_false (not (is_finished (w.states c))))
+    by_state Finished e = rw e refl
 
     by_route : (o : Option Route) → slice_get w.routes c ≡ o → is_runnable w.routes (run_shown w) c ≡ false
     by_route None at = none_unknown w c at
     by_route (Some x) at = runnable_is w c x at s.consistent ∙ by_state (w.states c) refl
-
--- What a READY croutine in hand is about to do.
-pub record Holds (w : Plain) (c : ℕ) : Type 0 where
-  pub route : Route
-  pub at : slice_get w.routes c ≡ Some route
-  pub more : is_last (last_outcome route.kind (w.calls c)) ≡ false
 
 one_of : {m n : ℕ} → Some m ≡ Some n → m ≡ n
 one_of e = cc
@@ -129,15 +124,8 @@ module _ (c : ℕ) (w : Plain) (h : IsInHand c Known w) (s : Sound w) (ready : w
       none : None ≡ hand c Running → ⊥
       none e = cc
 
-  not_last : is_last (last_of w.routes w.calls c) ≡ false
-  not_last = by (is_last (last_of w.routes w.calls c)) refl
-    where
-      ready_ended : Ready ≡ Finished → ⊥
-      ready_ended e = cc
-
-      by : (b : Bool) → is_last (last_of w.routes w.calls c) ≡ b → b ≡ false
-      by false e = refl
-      by true e = absurd (ready_ended (sym ready ∙ s.consistent.held.ended c e known_running))
+  not_ended : is_finished (w.states c) ≡ false
+  not_ended = ap is_finished ready
 
   -- One that holds an output back can be resumed.
   pub held_can : is_some (unsent_of w c) ≡ true → is_runnable w.routes (run_shown w) c ≡ true
@@ -158,12 +146,12 @@ module _ (c : ℕ) (w : Plain) (h : IsInHand c Known w) (s : Sound w) (ready : w
       by_route less None at = let none : made_of w.routes w.calls c ≡ 0 = rw at refl in absurd (omega (arith, less, none))
       by_route less (Some x) at =
           let over = past (held_until (last_of w.routes w.calls c)) refl (s.consistent.held.held_back c less known_running) less in
-          runnable_is w c x at s.consistent ∙ rw (not_last, some, over) refl
+          runnable_is w c x at s.consistent ∙ rw (not_ended, some, over) refl
 
   -- One that holds none can be where a fetch finds something.
   pub found_can : (x : Route) → slice_get w.routes c ≡ Some x → unsent_of w c ≡ None → is_runnable w.routes (run_shown w) c ≡ is_some (found_by w c)
   unfolding can
-  found_can x at none = runnable_is w c x at s.consistent ∙ rw (not_last, none) refl
+  found_can x at none = runnable_is w c x at s.consistent ∙ rw (not_ended, none) refl
 
 -- The first of a scan that can be resumed is found behind those that can't.
 pub find_behind : (p : ℕ → Bool) (before after : List ℕ) (c : ℕ) → ((k : ℕ) → lists k before ≡ true → p k ≡ false) → p c ≡ true → find p (before ++ c ∷ after) ≡ Some c

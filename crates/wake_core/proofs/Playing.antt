@@ -7,22 +7,33 @@ use Rattle.cy_fuse.specs.Fusion.{Arrival}
 use Rattle.cy_comp.specs.declared.call.Call.{Call}
 use Rattle.wake_core.specs.Run.{Route, Run, set_at, arrive, readers_of, writes_from, played_of}
 use Rattle.wake_core.specs.Serial.{play}
-use Rattle.wake_core.specs.Plain.{Plain, unsent_of, outs_of}
-use Rattle.wake_core.specs.Events.{OwesNothing, Ticks, Tapes, after_tape}
+use Rattle.wake_core.specs.Plain.{Plain, State, unsent_of, outs_of}
+use Rattle.wake_core.specs.Events.{OwesNothing, Ticks, Tapes, after_tape, is_finished}
 use Rattle.wake_core.specs.Laws.{IsIdle}
 use Rattle.wake_core.specs.Rest.{IsAtRest, run_shown}
 use Rattle.wake_core.specs.Turns.{Delivers, Plays}
-use Rattle.wake_core.proofs.Places.{place, set_at_same, set_at_other}
+use Rattle.wake_core.proofs.Places.{place, set_at_same, set_at_there, set_at_other}
 use Rattle.wake_core.proofs.Taping.{played_taped}
 
--- What a world shows is a run where each part of it is.
-pub run_is : (v : Plain) (r : Run) → v.arrivals ≡ r.arrivals → v.calls ≡ r.calls → ((k : ℕ) → is_some (unsent_of v k) ≡ r.unsent k) → v.tape ≡ r.tape → v.clock ≡ r.clock → run_shown v ≡ r
-run_is v r a c u t k =
-    ap (λ (x : ℕ → List Arrival). record (run_shown v) { arrivals = x }) a
-    ∙ ap (λ (x : ℕ → List Call). record (run_shown v) { arrivals = r.arrivals; calls = x }) c
-    ∙ ap (λ (x : ℕ → Bool). record (run_shown v) { arrivals = r.arrivals; calls = r.calls; unsent = x }) (fun_ext u)
-    ∙ ap (λ (x : List Token). record r { tape = x; clock = v.clock }) t
-    ∙ ap (λ (x : ℕ). record r { clock = x }) k
+-- What a world shows is a run where each part of it is, but for what has ended.
+pub run_is : (v : Plain) (r : Run) (f : ℕ → Bool) → v.arrivals ≡ r.arrivals → v.calls ≡ r.calls → ((k : ℕ) → is_some (unsent_of v k) ≡ r.unsent k) → v.tape ≡ r.tape → v.clock ≡ r.clock
+    → record (run_shown v) { ended = f } ≡ record r { ended = f }
+run_is v r f a c u t k =
+    ap (λ (x : ℕ → List Arrival). record (run_shown v) { ended = f; arrivals = x }) a
+    ∙ ap (λ (x : ℕ → List Call). record (run_shown v) { ended = f; arrivals = r.arrivals; calls = x }) c
+    ∙ ap (λ (x : ℕ → Bool). record (run_shown v) { ended = f; arrivals = r.arrivals; calls = r.calls; unsent = x }) (fun_ext u)
+    ∙ ap (λ (x : List Token). record r { ended = f; tape = x; clock = v.clock }) t
+    ∙ ap (λ (x : ℕ). record r { ended = f; clock = x }) k
+
+-- A state that is stored shows nothing where it says of the end what the one before said.
+pub shown_stored : (c : ℕ) (s : State) (w : Plain) → is_finished s ≡ is_finished (w.states c) → run_shown (record w { states = set_at c s w.states }) ≡ run_shown w
+shown_stored c s w same = ap (λ (f : ℕ → Bool). record (run_shown w) { ended = f }) (fun_ext by)
+  where
+    by : (k : ℕ) → is_finished (set_at c s w.states k) ≡ is_finished (w.states k)
+    by k = elim (place k c) [
+      | inl e ↦ ap is_finished (set_at_there c s w.states k e) ∙ same ∙ ap (λ n. is_finished (w.states n)) (sym e)
+      | inr apart ↦ ap is_finished (set_at_other c s w.states k apart)
+    ]
 
 -- A thread is idle where it has what an idle one has.
 pub idle_by : (q : ℕ) (w v : Plain) → v.hands q ≡ w.hands q → v.fills q ≡ w.fills q → v.news q ≡ w.news q → v.clearing q ≡ w.clearing q → IsIdle q w → IsIdle q v
@@ -85,7 +96,8 @@ plays_by t w m n v rest tick tape d =
         }
         | inr e ↦ delivered_other 0 taped v d' q e (idle_by q w taped refl (set_at_other 0 (readers_of w.routes t.channel) w.fills q e) refl refl (rest q))
       ];
-      run = run_is v (play w.routes t (run_shown w))
+      run = ap (λ (x : Plain). record (run_shown v) { ended = λ k. is_finished (x.states k) }) d'.same
+          ∙ run_is v (play w.routes t (run_shown w)) (run_shown w).ended
           (delivered_arrivals 0 taped v d' t w refl refl refl)
           (ap (λ (x : Plain). x.calls) d'.same)
           (λ k. ap (λ (x : Plain). is_some (unsent_of x k)) d'.same ∙ ap (λ n. is_some (slice_get (outs_of w.routes w.calls k) n)) (played_taped w t unwritten k))

@@ -1,5 +1,5 @@
 -- A croutine that is resumed: the world then shows the step of the serial run, or what it showed before.
-use Rattle.std.proofs.Common.{ℕ, zero, suc, ◌+◌, ◌-◌, ◌≡◌, ◌≢◌, ◌≤◌, ◌<◌, true, false, refl, sym, ◌∙◌, ap, subst, inl, inr, arith, List, [], ◌∷◌, ◌++◌, length, length-append, Option, Some, None, is_some, slice_get}
+use Rattle.std.proofs.Common.{ℕ, zero, suc, ◌+◌, ◌-◌, ◌≡◌, ◌≢◌, ◌≤◌, ◌<◌, Bool, true, false, refl, sym, ◌∙◌, ap, subst, inl, inr, arith, List, [], ◌∷◌, ◌++◌, length, length-append, Option, Some, None, is_some, slice_get}
 use Rattle.std.proofs.lemmas.Option.{slice_get_within}
 use Rattle.cy_msg.specs.declared.token.Token.{Token}
 use Rattle.cy_comp.specs.declared.call.Call.{Call}
@@ -9,11 +9,11 @@ use Rattle.wake_core.specs.Run.{Route, Run, set_at, arrive, put, readers_of, fin
 use Rattle.wake_core.specs.Planned.{planned_count, first_reader, counts_from}
 use Rattle.wake_core.specs.Serial.{resume, resume_by, send, last_out, call_at}
 use Rattle.wake_core.specs.Plain.{Plain, hand, State, Ready, DataWait, Phase, Known, Asked, Empty, Sending, Done, unsent_of}
-use Rattle.wake_core.specs.Events.{Asks, Fetches, Yields, Releases, OwesNothing, next_call, after_ask, after_fetch, after_none}
+use Rattle.wake_core.specs.Events.{Asks, Fetches, Yields, Releases, OwesNothing, next_call, after_ask, after_fetch, after_none, is_finished}
 use Rattle.wake_core.specs.Sound.{Sound}
 use Rattle.wake_core.specs.Rest.{IsAtRest, run_shown, StaysFixed}
 use Rattle.wake_core.specs.Turns.{IsAlone, IsInHand, Delivered, Resumes, sum_below, calls_left, left_of}
-use Rattle.wake_core.proofs.Places.{place, set_at_same, set_at_other, set_at_again}
+use Rattle.wake_core.proofs.Places.{place, set_at_same, set_at_other, set_at_again, set_at_itself}
 use Rattle.wake_core.proofs.Taping.{unsent_is}
 use Rattle.wake_core.proofs.Totals.{output_room}
 use Rattle.wake_core.proofs.Playing.{run_is, idle_by}
@@ -111,10 +111,10 @@ calls_less w c x call at room =
 pub stays_by : (w v : Plain) → v.routes ≡ w.routes → v.counts ≡ w.counts → v.closing ≡ w.closing → v.clock ≡ w.clock → played_of v.routes v.tape ≡ played_of w.routes w.tape → StaysFixed w v
 stays_by w v r n c k p = record { routes = r; counts = n; closing = c; clock = k; played = p }
 
--- What a world shows after an output was put.
-pub delivered_run : (c : ℕ) (next : Phase) (t : Token) (w m : Plain) (r : Run) → Delivered c next t w m → r.arrivals ≡ w.arrivals → r.calls ≡ w.calls → r.tape ≡ w.tape → r.clock ≡ w.clock
-    → r.unsent c ≡ false → ((k : ℕ) → k ≢ c → r.unsent k ≡ is_some (unsent_of w k)) → run_shown m ≡ put w.routes t r
-delivered_run c next t w m r d a k p l none others = run_is m (put w.routes t r)
+-- What a world shows after an output was put, but for what has ended.
+pub delivered_run : (c : ℕ) (next : Phase) (t : Token) (w m : Plain) (r : Run) (f : ℕ → Bool) → Delivered c next t w m → r.arrivals ≡ w.arrivals → r.calls ≡ w.calls → r.tape ≡ w.tape → r.clock ≡ w.clock
+    → r.unsent c ≡ false → ((k : ℕ) → k ≢ c → r.unsent k ≡ is_some (unsent_of w k)) → record (run_shown m) { ended = f } ≡ put w.routes t (record r { ended = f })
+delivered_run c next t w m r f d a k p l none others = run_is m (put w.routes t r) f
     (d.arrivals ∙ ap (arrive (readers_of w.routes t.channel) t) (sym a))
     (ap (λ (x : Plain). x.calls) d.same ∙ sym k)
     (λ j. elim (place j c) [
@@ -139,8 +139,11 @@ module _ (c : ℕ) (t : Token) (w m n v : Plain) (h : IsInHand c Known w) (s : S
       resume_at w.routes (run_shown w) c u.route u.at ∙ resume_held w.routes (run_shown w) c u.route held_some
       ∙ ap (λ (o : Option Out). send w.routes u.route c o free) is.last
       ∙ ap (λ (x : Token). put w.routes x free) (sym is.is) in
+      let states : set_at c Ready m.states ≡ w.states =
+      ap (λ (x : Plain). set_at c Ready x.states) d.same ∙ ap (λ (s : State). set_at c s w.states) (sym ready) ∙ set_at_itself c w.states in
       ap run_shown (ends_same c Ready m n v d.in_hand.alone d.in_hand.owes y r)
-      ∙ delivered_run c Sending t w m free d refl refl refl refl (set_at_same c false (run_shown w).unsent) (λ k apart. set_at_other c false (run_shown w).unsent k apart)
+      ∙ ap (λ (s : ℕ → State). record (run_shown m) { ended = λ k. is_finished (s k) }) states
+      ∙ delivered_run c Sending t w m free (run_shown w).ended d refl refl refl refl (set_at_same c false (run_shown w).unsent) (λ k apart. set_at_other c false (run_shown w).unsent k apart)
       ∙ sym sent
 
   pub held_resumes : Resumes c w v

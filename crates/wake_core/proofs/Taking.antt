@@ -2,8 +2,8 @@
 use Rattle.std.proofs.Common.{ℕ, ◌≡◌, ◌≢◌, ◌⊎◌, Bool, true, false, not, ◌&&◌, ◌||◌, refl, sym, ◌∙◌, ap, subst, inl, inr, List, [], ◌∷◌, ◌++◌, Option, None, append_assoc, if◌then◌else◌, length, ◌<◌}
 use Rattle.std.proofs.lemmas.Bool.Decides.{eqb_tells}
 use Rattle.wake_core.specs.Run.{set_at}
-use Rattle.wake_core.specs.Plain.{Plain, Hand, hand, State, Ready, Fresh, Woken, Known, lists}
-use Rattle.wake_core.specs.Events.{Acquires, Spends, Readies, Releases, IsDue, is_waiting, phase_after_spend, after_ready}
+use Rattle.wake_core.specs.Plain.{Plain, Hand, hand, State, Ready, DataWait, Sleep, Finished, Fresh, Woken, Known, lists}
+use Rattle.wake_core.specs.Events.{Acquires, Spends, Readies, Releases, IsDue, is_waiting, is_finished, phase_after_spend, after_ready}
 use Rattle.wake_core.specs.Sound.{Sound}
 use Rattle.wake_core.specs.Rest.{IsAtRest}
 use Rattle.wake_core.specs.Turns.{Takes, IsParked, Passes, Finds, IsInHand}
@@ -12,8 +12,8 @@ use Rattle.wake_core.proofs.Listing.{lists-append, lists_snoc, either}
 use Rattle.wake_core.proofs.Playing.{idle_by}
 
 takes_is : (c : ℕ) (w v : Plain) (s : State) (b : Bool) → c < length w.routes → v ≡ record w { hands = set_at 0 (hand c Known) w.hands; states = set_at c s w.states; spent = set_at c b w.spent }
-    → (w.spent c ≡ true → b ≡ true) → (s ≡ Ready → (IsDue (w.states c) w.clock → ⊥) → (w.states c ≡ Ready) ⊎ (w.spent c ≡ false)) → ((IsDue (w.states c) w.clock → ⊥) → b ≡ true) → (IsDue (w.states c) w.clock → b ≡ w.spent c) → (s ≢ Ready → (b ≡ true) × (s ≡ w.states c) × (IsDue s w.clock → ⊥)) → Takes c w v
-takes_is c w v s b known e spends woken fresh due parked =
+    → (w.spent c ≡ true → b ≡ true) → (s ≡ Ready → (IsDue (w.states c) w.clock → ⊥) → (w.states c ≡ Ready) ⊎ (w.spent c ≡ false)) → ((IsDue (w.states c) w.clock → ⊥) → b ≡ true) → (IsDue (w.states c) w.clock → b ≡ w.spent c) → (s ≢ Ready → (b ≡ true) × (s ≡ w.states c) × (IsDue s w.clock → ⊥)) → is_finished s ≡ is_finished (w.states c) → Takes c w v
+takes_is c w v s b known e spends woken fresh due parked ended =
     let state : v.states c ≡ s = ap (λ (x : Plain). x.states c) e ∙ set_at_same c s w.states in
     let flag : v.spent c ≡ b = ap (λ (x : Plain). x.spent c) e ∙ set_at_same c b w.spent in
     let clock : v.clock ≡ w.clock = ap (λ (x : Plain). x.clock) e in
@@ -32,7 +32,21 @@ takes_is c w v s b known e spends woken fresh due parked =
             record { spent = flag ∙ is.0; resting = other; not_due = subst (λ n. IsDue (v.states c) n → ⊥) (sym clock) (subst (λ (y : State). IsDue y w.clock → ⊥) (sym state) is.2) },
             state ∙ is.1,
           );
+      ended = ap is_finished state ∙ ended;
     }
+
+-- Whatever is due or was woken hasn't ended.
+due_goes_on : (s : State) (clock : ℕ) → IsDue s clock → false ≡ is_finished s
+due_goes_on Ready clock due = refl
+due_goes_on DataWait clock due = refl
+due_goes_on (Sleep until) clock due = refl
+due_goes_on Finished clock due = absurd due
+
+woken_goes_on : (s : State) (b : Bool) → is_waiting s && not b ≡ true → false ≡ is_finished s
+woken_goes_on Ready b e = refl
+woken_goes_on DataWait b e = refl
+woken_goes_on (Sleep until) b e = refl
+woken_goes_on Finished b e = cc
 
 -- Whatever was woken had a clear flag.
 clear : (s : State) (b : Bool) → is_waiting s && not b ≡ true → b ≡ false
@@ -54,7 +68,7 @@ module _ (c : ℕ) (w m : Plain) (a : Acquires 0 c w m) where
       r.effect ∙ ap (after_ready 0 c) a.effect
       ∙ ap (λ (h : ℕ → Option Hand). record w { hands = h; states = set_at c Ready w.states }) (set_at_again 0 (hand c Fresh) (hand c Known) w.hands)
       ∙ ap (λ (b : ℕ → Bool). record w { hands = set_at 0 (hand c Known) w.hands; states = set_at c Ready w.states; spent = b }) (sym (set_at_itself c w.spent)) in (
-        takes_is c w v Ready (w.spent c) a.known e (λ was. was) (λ is late. absurd (late due)) (λ late. absurd (late due)) (λ is. refl) (λ other. absurd (other refl)),
+        takes_is c w v Ready (w.spent c) a.known e (λ was. was) (λ is late. absurd (late due)) (λ late. absurd (late due)) (λ is. refl) (λ other. absurd (other refl)) (due_goes_on (w.states c) w.clock due),
         ap (λ (x : Plain). x.states c) e ∙ set_at_same c Ready w.states,
       )
 
@@ -74,12 +88,13 @@ module _ (c : ℕ) (w m : Plain) (a : Acquires 0 c w m) where
     -- It is woken.
     pub takes_woken : (v : Plain) → is_waiting (m.states c) && not (m.spent c) ≡ true → Readies 0 c n v → Takes c w v × (v.states c ≡ Ready)
     takes_woken v waits r =
+        let woke : is_waiting (w.states c) && not (w.spent c) ≡ true = sym (ap (λ (x : Plain). is_waiting (x.states c) && not (x.spent c)) a.effect) ∙ waits in
         let e : v ≡ record w { hands = set_at 0 (hand c Known) w.hands; states = set_at c Ready w.states; spent = set_at c true w.spent } =
         r.effect
         ∙ ap (λ (h : ℕ → Option Hand). record n { hands = set_at 0 (hand c Known) h; states = set_at c Ready n.states }) spent_hands
         ∙ ap (λ (h : ℕ → Option Hand). record n { hands = h; states = set_at c Ready n.states }) (set_at_again 0 (hand c (phase_after_spend (m.states c) (m.spent c))) (hand c Known) w.hands)
         ∙ ap (λ (x : Plain). record x { hands = set_at 0 (hand c Known) w.hands; states = set_at c Ready x.states }) spent_is in (
-          takes_is c w v Ready true a.known e (λ was. refl) (λ is late. inr (clear (w.states c) (w.spent c) (sym (ap (λ (x : Plain). is_waiting (x.states c) && not (x.spent c)) a.effect) ∙ waits))) (λ late. refl) (λ due. absurd (not_due due)) (λ other. absurd (other refl)),
+          takes_is c w v Ready true a.known e (λ was. refl) (λ is late. inr (clear (w.states c) (w.spent c) woke)) (λ late. refl) (λ due. absurd (not_due due)) (λ other. absurd (other refl)) (woken_goes_on (w.states c) (w.spent c) woke),
           ap (λ (x : Plain). x.states c) e ∙ set_at_same c Ready w.states,
         )
 
@@ -90,7 +105,7 @@ module _ (c : ℕ) (w m : Plain) (a : Acquires 0 c w m) where
         spent_is
         ∙ ap (λ (h : ℕ → Option Hand). record w { hands = h; spent = set_at c true w.spent }) (spent_hands ∙ ap (λ (b : Bool). set_at 0 (hand c (if b then Woken else Known)) w.hands) not)
         ∙ ap (λ (t : ℕ → State). record w { hands = set_at 0 (hand c Known) w.hands; states = t; spent = set_at c true w.spent }) (sym (set_at_itself c w.states)) in
-        takes_is c w n (w.states c) true a.known e (λ was. refl) (λ is late. inl is) (λ late. refl) (λ due. absurd (not_due due)) (λ other. (refl, refl, not_due))
+        takes_is c w n (w.states c) true a.known e (λ was. refl) (λ is late. inl is) (λ late. refl) (λ due. absurd (not_due due)) (λ other. (refl, refl, not_due)) refl
 
 -- Whoever takes one at rest has it in hand.
 pub takes_hand : (c : ℕ) (w v : Plain) → IsAtRest w → Takes c w v → IsInHand c Known v

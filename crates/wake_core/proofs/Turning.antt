@@ -4,11 +4,12 @@ use Rattle.wake_core.specs.Run.{Route, Run, played_of}
 use Rattle.wake_core.specs.Settle.{Settles, still, goes}
 use Rattle.wake_core.specs.Serial.{is_runnable, resume, next}
 use Rattle.wake_core.specs.Plain.{Plain, State, Ready, DataWait, Sleep, Finished, unsent_of, lists}
-use Rattle.wake_core.specs.Events.{IsDue}
+use Rattle.wake_core.specs.Events.{IsDue, is_finished}
 use Rattle.wake_core.specs.Sound.{Sound}
 use Rattle.wake_core.specs.Rest.{IsAtRest, run_shown, StaysFixed, IsScanOf}
 use Rattle.wake_core.specs.Turns.{Takes, Passes, Finds, Resumes, Steps, Waits, Turns, IsSettled, sum_below, loose, loose_of, left_of, turns_left}
 use Rattle.wake_core.proofs.Places.{place, set_at_same, set_at_other}
+use Rattle.wake_core.proofs.Playing.{shown_stored}
 use Rattle.wake_core.proofs.Parking.{parked_still, find_behind, find_none, unsent_some}
 use Rattle.wake_core.proofs.Resuming.{sum_less}
 use Rattle.wake_core.proofs.Taking.{passes_rest}
@@ -18,7 +19,7 @@ passes_shown : (order : List ℕ) (w v : Plain) → Passes order w v → run_sho
 passes_shown order w v p = ap run_shown p.effect
 
 takes_shown : (c : ℕ) (w v : Plain) → Takes c w v → run_shown v ≡ run_shown w
-takes_shown c w v t = ap run_shown t.same
+takes_shown c w v t = ap run_shown t.same ∙ ap (λ (f : ℕ → State). run_shown (record w { states = f })) t.states ∙ shown_stored c (v.states c) w t.ended
 
 -- Those that were passed can't be resumed.
 passed_still : (order : List ℕ) (w v : Plain) → IsAtRest w → Sound v → Passes order w v → (k : ℕ) → lists k order ≡ true → is_runnable w.routes (run_shown w) k ≡ false
@@ -121,7 +122,7 @@ module _ (order : List ℕ) (c : ℕ) (w m v : Plain) (rest : IsAtRest w) (f : F
 
   module _ (t : Waits c m v) where
     waited_shown : run_shown v ≡ run_shown w
-    waited_shown = ap run_shown t.same ∙ found_shown
+    waited_shown = ap run_shown t.same ∙ shown_stored c DataWait m (sym (ap is_finished f.ready)) ∙ found_shown
 
     -- It wasn't due, since one that sleeps holds an output back.
     not_due : IsDue (f.between.states c) f.between.clock → ⊥

@@ -43,6 +43,13 @@ is_waiting DataWait = true
 is_waiting (Sleep until) = false
 is_waiting Finished = false
 
+-- Whether a state is FINISHED.
+abbrev pub is_finished : State → Bool
+is_finished Ready = false
+is_finished DataWait = false
+is_finished (Sleep until) = false
+is_finished Finished = true
+
 -- Acquire: a thread with nothing in hand takes a croutine that is free.
 abbrev pub after_acquire : (p c : ℕ) → Plain → Plain
 after_acquire p c w = record w { hands = set_at p (hand c Fresh) w.hands }

@@ -8,6 +8,7 @@ use Rattle.wake_core.specs.Run.{Run, writes_from, played_of}
 use Rattle.wake_core.specs.Serial.{last_clock}
 use Rattle.wake_core.specs.Plain.{Plain, blank, lists, opening_world, unsent_of, played_count}
 use Rattle.wake_core.specs.Plain.{to_play}
+use Rattle.wake_core.specs.Events.{is_finished}
 use Rattle.wake_core.specs.Laws.{IsIdle}
 
 -- Nobody holds a croutine, and nobody owes anything.
@@ -24,12 +25,14 @@ at_rest w = record w {
   tokens = λ p. blank;
 }
 
--- What a world shows of its run: no flags, states, cursors or threads.
+-- What a world shows of its run: no flags, cursors or threads, and of states whether they are
+-- FINISHED.
 abbrev pub run_shown : Plain → Run
 run_shown w = record {
   arrivals = w.arrivals;
   calls = w.calls;
   unsent = λ c. is_some (unsent_of w c);
+  ended = λ c. is_finished (w.states c);
   tape = w.tape;
   clock = w.clock;
 }

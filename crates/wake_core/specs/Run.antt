@@ -19,18 +19,27 @@ route_of p = record { kind = p.kind; readers = p.readers; queue = p.queue; out =
 abbrev pub routes_of : List Plan → List Route
 routes_of plans = map route_of plans
 
--- Of each component, by its number: what arrived, its calls, and whether its last output waits to
--- be sent. Of all: the messages in the order in which they were sent, and the clock.
+-- Of each component, by its number: what arrived, its calls, whether its last output waits to be
+-- sent, and whether it has ended: it is not resumed any more. Of all: the messages in the order in
+-- which they were sent, and the clock.
 pub record Run : Type 0 where
   pub arrivals : ℕ → List Arrival
   pub calls : ℕ → List Call
   pub unsent : ℕ → Bool
+  pub ended : ℕ → Bool
   pub tape : List Token
   pub clock : ℕ
 
 -- Before anything is played.
 abbrev pub opening : Run
-opening = record { arrivals = λ c. []; calls = λ c. []; unsent = λ c. false; tape = []; clock = 0 }
+opening = record {
+  arrivals = λ c. [];
+  calls = λ c. [];
+  unsent = λ c. false;
+  ended = λ c. false;
+  tape = [];
+  clock = 0;
+}
 
 -- The same but at one place.
 unfoldable pub set_at : {X : Type 0} → ℕ → X → (ℕ → X) → ℕ → X

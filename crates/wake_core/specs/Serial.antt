@@ -10,7 +10,7 @@ use Rattle.cy_comp.specs.declared.call.Out.{Out}
 use Rattle.cy_comp.specs.declared.call.Outcome.{Outcome}
 use Rattle.cy_comp.specs.declared.call.Outcome.TheVariants.{Emit, Hold, Last}
 use Rattle.cy_comp.specs.Step.{outcome_after, out_of}
-use Rattle.cy_comp.specs.Calls.{tuples_of, last_outcome, is_last, held_until, outs, output}
+use Rattle.cy_comp.specs.Calls.{tuples_of, last_outcome, held_until, outs, output}
 use Rattle.wake_core.specs.Run.{Route, Run, opening, set_at, put, tail_of, finds}
 use Rattle.wake_core.specs.Settle.{Settles, Runs}
 
@@ -18,12 +18,12 @@ abbrev pub is_past : Option ℕ → ℕ → Bool
 is_past None clock = false
 is_past (Some until) clock = nat_lt until clock
 
--- Whether a component can be resumed: its last call was not its last of all, and either its held
--- output is due, or it holds none and a fetch finds something.
+-- Whether a component can be resumed: it has not ended, and either its held output is due, or it
+-- holds none and a fetch finds something.
 abbrev pub can_resume : Route → Run → ℕ → Bool
 can_resume x w c =
     let last = last_outcome x.kind (w.calls c) in
-    not (is_last last) && (if w.unsent c then is_past (held_until last) w.clock else is_some
+    not (w.ended c) && (if w.unsent c then is_past (held_until last) w.clock else is_some
     (finds x w c))
 
 abbrev pub is_runnable : List Route → Run → ℕ → Bool
@@ -42,11 +42,13 @@ abbrev pub last_out : Option Outcome → Option Out
 last_out None = None
 last_out (Some outcome) = out_of outcome
 
--- What follows a call: a held output waits, another one is sent at once.
+-- What follows a call: a held output waits, another one is sent at once. The last call of all ends
+-- its component.
 abbrev pub follow : List Route → Route → ℕ → Outcome → Run → Run
 follow routes x c (Emit out) w = send routes x c out w
 follow routes x c (Hold until out) w = record w { unsent = set_at c true w.unsent }
-follow routes x c (Last out) w = send routes x c out w
+follow routes x c (Last out) w =
+    send routes x c out (record w { ended = set_at c true w.ended })
 
 -- A call on the tuple at a position.
 abbrev pub call_on : List Route → Route → ℕ → ℕ → Option Tuple → Run → Run

@@ -14,7 +14,7 @@ use Rattle.wake_core.specs.Serial.{is_runnable, resume, play, next}
 use Rattle.wake_core.specs.Plain.{Plain, hand, State, Ready, DataWait, Sleep, Finished, Phase}
 use Rattle.wake_core.specs.Plain.{Known, Running, lists, lists_reader, last_of, unsent_of, found_by}
 use Rattle.wake_core.specs.Events.{OwesNothing, IsDue, Asks, Fetches, Sends, Yields, Releases}
-use Rattle.wake_core.specs.Events.{next_call, after_send, after_yield, is_waiting}
+use Rattle.wake_core.specs.Events.{next_call, after_send, after_yield, is_waiting, is_finished}
 use Rattle.wake_core.specs.WorldCalls.{in_hand, phase_sent}
 use Rattle.wake_core.specs.Laws.{IsIdle}
 use Rattle.wake_core.specs.Sound.{Sound}
@@ -73,7 +73,8 @@ pub record IsParked (c : ℕ) (w : Plain) : Type 0 where
   pub not_due : IsDue (w.states c) w.clock → ⊥
 
 -- A croutine is acquired and updated: it is READY then, or it is parked with the state that it had.
--- Its flag is spent then, but stays where it was due.
+-- Its flag is spent then, but stays where it was due. One that has ended stays so, and no other
+-- ends.
 pub record Takes (c : ℕ) (w v : Plain) : Type 0 where
   pub known : c < length w.routes
   pub same : v ≡ record w { hands = v.hands; states = v.states; spent = v.spent }
@@ -86,6 +87,7 @@ pub record Takes (c : ℕ) (w v : Plain) : Type 0 where
   pub woken : v.states c ≡ Ready → (IsDue (w.states c) w.clock → ⊥)
       → (w.states c ≡ Ready) ⊎ (w.spent c ≡ false)
   pub parked : v.states c ≢ Ready → IsParked c v × (v.states c ≡ w.states c)
+  pub ended : is_finished (v.states c) ≡ is_finished (w.states c)
 
 -- A croutine was taken, and is READY.
 pub record IsTaken (c : ℕ) (w v : Plain) : Type 0 where
@@ -135,7 +137,7 @@ pub record IsCalled (c : ℕ) (call : Call) (w v : Plain) : Type 0 where
   pub same : v ≡ record w {
     cursors = v.cursors;
     calls = set_at c (w.calls c ++ call ∷ []) w.calls;
-    states = v.states;
+    states = set_at c DataWait w.states;
     hands = v.hands;
   }
   pub in_hand : IsInHand c Running v
