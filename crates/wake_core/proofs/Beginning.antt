@@ -16,7 +16,7 @@ use Rattle.wake_core.specs.declared.found.Found.{Found}
 use Rattle.wake_core.specs.declared.owed.Owed.{Owed}
 use Rattle.wake_core.specs.Run.{Route, route_of, readers_of, played_of}
 use Rattle.wake_core.specs.Planned.{planned, planned_count, counts_from, first_reader}
-use Rattle.wake_core.specs.Plain.{Plain, Hand, hand, Phase, State, Ready, blank, opening_world}
+use Rattle.wake_core.specs.Plain.{Plain, Stop, Hand, hand, Phase, State, Ready, blank, opening_world}
 use Rattle.wake_core.specs.Sound.{IsWired, Sound}
 use Rattle.wake_core.specs.Fields.{read, no_visitor, no_routine, shown_calls, calls_at, fills_of, plain_at, queue_of, IsFlagged, IsStepping, IsWaiting, IsVisited, IsRoomy, IsOwing, AreOwing}
 use Rattle.wake_core.specs.private.Opening.{first_visitor, first_routine, IsNothing, AreNothing}
@@ -172,10 +172,11 @@ roomy_begins routes counts tape room = record {
 }
 
 -- The plain world of these parts.
-abbrev made : List Route → List ℕ → (ℕ → State) → (ℕ → Bool) → (ℕ → List Call) → (ℕ → List Arrival) → (ℕ → Option Hand) → (ℕ → List (ℕ × ℕ)) → (ℕ → List ℕ) → (ℕ → List ℕ) → (ℕ → Token) → Plain
-made routes counts st sp cs ar hs fs ns cl ts = record {
+abbrev made : List Route → List ℕ → Option Stop → (ℕ → State) → (ℕ → Bool) → (ℕ → List Call) → (ℕ → List Arrival) → (ℕ → Option Hand) → (ℕ → List (ℕ × ℕ)) → (ℕ → List ℕ) → (ℕ → List ℕ) → (ℕ → Token) → Plain
+made routes counts stop st sp cs ar hs fs ns cl ts = record {
   routes = routes;
   counts = counts;
+  stop = stop;
   states = st;
   spent = sp;
   cursors = λ c. cursor_after (cs c);
@@ -189,12 +190,13 @@ made routes counts st sp cs ar hs fs ns cl ts = record {
   tape = [];
   clock = 0;
   closing = false;
+  raised = false;
 }
 
-pub plain_begins : (routes : List Route) (counts : List ℕ) (size room : ℕ) (owed : List Owed) → AreNothing room 65 owed
-    → plain_at routes counts (map (first_visitor routes counts) routes) (map (first_routine routes counts) routes) (replicate size None) (replicate size true) (replicate 65 None) owed [] 0 false
-    ≡ opening_world routes counts
-plain_begins routes counts size room owed h =
+pub plain_begins : (routes : List Route) (counts : List ℕ) (stop : Option Stop) (size room : ℕ) (owed : List Owed) → AreNothing room 65 owed
+    → plain_at routes counts stop (map (first_visitor routes counts) routes) (map (first_routine routes counts) routes) (replicate size None) (replicate size true) (replicate 65 None) owed [] 0 false false
+    ≡ opening_world routes counts stop
+plain_begins routes counts stop size room owed h =
     let routines = map (first_routine routes counts) routes in
     let visitors = map (first_visitor routes counts) routes in
     let st : read (λ r. r.state) Ready routines ≡ (λ k. Ready) = read_all (λ r. r.state) Ready routines (made_each (λ r. r.state) (first_routine routes counts) Ready routes (λ x. refl)) in
@@ -206,15 +208,15 @@ plain_begins routes counts size room owed h =
     let ns : read (λ o. drop o.looked o.news.items) [] owed ≡ (λ k. []) = read_all (λ o. drop o.looked o.news.items) [] owed (λ i o at. no_news o (h.each i o at)) in
     let cl : read (λ o. o.clearing.items) [] owed ≡ (λ k. []) = read_all (λ o. o.clearing.items) [] owed (λ i o at. (h.each i o at).clearing) in
     let ts : read (λ o. o.token) blank owed ≡ (λ k. blank) = read_all (λ o. o.token) blank owed (λ i o at. (h.each i o at).token) in
-    ap (λ x. made routes counts x (read (λ b. b) true (replicate size true)) (calls_at routines (replicate size None)) (read (λ v. v.arrivals) [] visitors) (read (λ h. h) None (replicate 65 None)) (read (fills_of routes) [] owed) (read (λ o. drop o.looked o.news.items) [] owed) (read (λ o. o.clearing.items) [] owed) (read (λ o. o.token) blank owed)) st
-    ∙ ap (λ x. made routes counts (λ k. Ready) x (calls_at routines (replicate size None)) (read (λ v. v.arrivals) [] visitors) (read (λ h. h) None (replicate 65 None)) (read (fills_of routes) [] owed) (read (λ o. drop o.looked o.news.items) [] owed) (read (λ o. o.clearing.items) [] owed) (read (λ o. o.token) blank owed)) sp
-    ∙ ap (λ x. made routes counts (λ k. Ready) (λ k. true) x (read (λ v. v.arrivals) [] visitors) (read (λ h. h) None (replicate 65 None)) (read (fills_of routes) [] owed) (read (λ o. drop o.looked o.news.items) [] owed) (read (λ o. o.clearing.items) [] owed) (read (λ o. o.token) blank owed)) cs
-    ∙ ap (λ x. made routes counts (λ k. Ready) (λ k. true) (λ k. []) x (read (λ h. h) None (replicate 65 None)) (read (fills_of routes) [] owed) (read (λ o. drop o.looked o.news.items) [] owed) (read (λ o. o.clearing.items) [] owed) (read (λ o. o.token) blank owed)) ar
-    ∙ ap (λ x. made routes counts (λ k. Ready) (λ k. true) (λ k. []) (λ k. []) x (read (fills_of routes) [] owed) (read (λ o. drop o.looked o.news.items) [] owed) (read (λ o. o.clearing.items) [] owed) (read (λ o. o.token) blank owed)) hs
-    ∙ ap (λ x. made routes counts (λ k. Ready) (λ k. true) (λ k. []) (λ k. []) (λ k. None) x (read (λ o. drop o.looked o.news.items) [] owed) (read (λ o. o.clearing.items) [] owed) (read (λ o. o.token) blank owed)) fs
-    ∙ ap (λ x. made routes counts (λ k. Ready) (λ k. true) (λ k. []) (λ k. []) (λ k. None) (λ k. []) x (read (λ o. o.clearing.items) [] owed) (read (λ o. o.token) blank owed)) ns
-    ∙ ap (λ x. made routes counts (λ k. Ready) (λ k. true) (λ k. []) (λ k. []) (λ k. None) (λ k. []) (λ k. []) x (read (λ o. o.token) blank owed)) cl
-    ∙ ap (λ x. made routes counts (λ k. Ready) (λ k. true) (λ k. []) (λ k. []) (λ k. None) (λ k. []) (λ k. []) (λ k. []) x) ts
+    ap (λ x. made routes counts stop x (read (λ b. b) true (replicate size true)) (calls_at routines (replicate size None)) (read (λ v. v.arrivals) [] visitors) (read (λ h. h) None (replicate 65 None)) (read (fills_of routes) [] owed) (read (λ o. drop o.looked o.news.items) [] owed) (read (λ o. o.clearing.items) [] owed) (read (λ o. o.token) blank owed)) st
+    ∙ ap (λ x. made routes counts stop (λ k. Ready) x (calls_at routines (replicate size None)) (read (λ v. v.arrivals) [] visitors) (read (λ h. h) None (replicate 65 None)) (read (fills_of routes) [] owed) (read (λ o. drop o.looked o.news.items) [] owed) (read (λ o. o.clearing.items) [] owed) (read (λ o. o.token) blank owed)) sp
+    ∙ ap (λ x. made routes counts stop (λ k. Ready) (λ k. true) x (read (λ v. v.arrivals) [] visitors) (read (λ h. h) None (replicate 65 None)) (read (fills_of routes) [] owed) (read (λ o. drop o.looked o.news.items) [] owed) (read (λ o. o.clearing.items) [] owed) (read (λ o. o.token) blank owed)) cs
+    ∙ ap (λ x. made routes counts stop (λ k. Ready) (λ k. true) (λ k. []) x (read (λ h. h) None (replicate 65 None)) (read (fills_of routes) [] owed) (read (λ o. drop o.looked o.news.items) [] owed) (read (λ o. o.clearing.items) [] owed) (read (λ o. o.token) blank owed)) ar
+    ∙ ap (λ x. made routes counts stop (λ k. Ready) (λ k. true) (λ k. []) (λ k. []) x (read (fills_of routes) [] owed) (read (λ o. drop o.looked o.news.items) [] owed) (read (λ o. o.clearing.items) [] owed) (read (λ o. o.token) blank owed)) hs
+    ∙ ap (λ x. made routes counts stop (λ k. Ready) (λ k. true) (λ k. []) (λ k. []) (λ k. None) x (read (λ o. drop o.looked o.news.items) [] owed) (read (λ o. o.clearing.items) [] owed) (read (λ o. o.token) blank owed)) fs
+    ∙ ap (λ x. made routes counts stop (λ k. Ready) (λ k. true) (λ k. []) (λ k. []) (λ k. None) (λ k. []) x (read (λ o. o.clearing.items) [] owed) (read (λ o. o.token) blank owed)) ns
+    ∙ ap (λ x. made routes counts stop (λ k. Ready) (λ k. true) (λ k. []) (λ k. []) (λ k. None) (λ k. []) (λ k. []) x (read (λ o. o.token) blank owed)) cl
+    ∙ ap (λ x. made routes counts stop (λ k. Ready) (λ k. true) (λ k. []) (λ k. []) (λ k. None) (λ k. []) (λ k. []) (λ k. []) x) ts
   where
     calls_none : (k : ℕ) → (read (λ r. r) no_routine (map (first_routine routes counts) routes) k).calls ≡ []
     calls_none k = by (slice_get routes k) refl
@@ -257,10 +259,10 @@ owing_from {routes} {n} {owed} s h = record { each = λ p o at. nothing_owing o 
 pub counted_from : (routes : List Route) {tape : List Token} → tape ≡ [] → 0 ≡ length (played_of routes tape)
 counted_from routes e = rw e refl
 
-pub plain_from : {routes R : List Route} {counts C : List ℕ} {visitors : List VisitorView} {routines : List RoutineView} (n : ℕ) {found : List (Option Found)} {spent : List Bool} {hands : List (Option Hand)} {owed : List Owed} {tape : List Token}
-    → routes ≡ R → counts ≡ C → visitors ≡ map (first_visitor R C) R → routines ≡ map (first_routine R C) R → found ≡ replicate n None → spent ≡ replicate n true → hands ≡ replicate 65 None → AreNothing (4 * n) 65 owed → tape ≡ []
-    → plain_at routes counts visitors routines found spent hands owed tape 0 false ≡ opening_world R C
-plain_from {R = R} {C = C} n {owed = owed} a b c d e f g h i = rw (a, b, c, d, e, f, g, i) (plain_begins R C n (4 * n) owed h)
+pub plain_from : {routes R : List Route} {counts C : List ℕ} {stop S : Option Stop} {visitors : List VisitorView} {routines : List RoutineView} (n : ℕ) {found : List (Option Found)} {spent : List Bool} {hands : List (Option Hand)} {owed : List Owed} {tape : List Token}
+    → routes ≡ R → counts ≡ C → stop ≡ S → visitors ≡ map (first_visitor R C) R → routines ≡ map (first_routine R C) R → found ≡ replicate n None → spent ≡ replicate n true → hands ≡ replicate 65 None → AreNothing (4 * n) 65 owed → tape ≡ []
+    → plain_at routes counts stop visitors routines found spent hands owed tape 0 false false ≡ opening_world R C S
+plain_from {R = R} {C = C} {S = S} n {owed = owed} a b s c d e f g h i = rw (a, b, s, c, d, e, f, g, i) (plain_begins R C S n (4 * n) owed h)
 
-pub sound_from : {w : Plain} {R : List Route} {C : List ℕ} → w ≡ opening_world R C → IsWired R C → Sound w
-sound_from {R = R} {C = C} e wired = subst Sound (sym e) (opening_sound R C wired)
+pub sound_from : {w : Plain} {R : List Route} {C : List ℕ} {S : Option Stop} → w ≡ opening_world R C S → IsWired R C → Sound w
+sound_from {R = R} {C = C} {S = S} e wired = subst Sound (sym e) (opening_sound R C S wired)

@@ -165,7 +165,7 @@ module _ (p c : ℕ) (w : Plain) (call : Call) (held : w.hands p ≡ hand c Aske
     held = call_in s.held;
     called = call_called c call (next_is s) s.called;
     delivered = call_delivered c call (all_sent s) (λ x at. (put_out x.out (length (outs x.out (w.calls c))) call.out, outs_push x.out (w.calls c) call))
-        (phase_delivered p c Asked (hand c Running) held (λ e. cc) (λ e. cc) s.delivered);
+        (phase_delivered p c Asked (hand c Running) held refl s.delivered);
     causal = call_causal c call (next_is s) s.delivered.numbered (sent_few s) s.causal;
     room = call_room c call (fits law s) s.room;
   }

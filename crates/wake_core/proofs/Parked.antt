@@ -1,19 +1,19 @@
 -- A croutine whose next turn would find nothing is parked at rest: that turn, in one call.
-use Rattle.std.proofs.Common.{ℕ, ◌-◌, ◌≡◌, ◌<◌, ◌||◌, ◌&&◌, Bool, true, false, not, refl, sym, ◌∙◌, ap, subst, inl, inr, length, Option, Some, None, is_some, option_map, option_and_then, slice_get}
+use Rattle.std.proofs.Common.{ℕ, ◌-◌, ◌≡◌, ◌<◌, ◌||◌, ◌&&◌, Bool, true, false, not, refl, sym, ◌∙◌, ap, subst, inl, inr, length, Option, Some, None, is_some, option_map, if◌then◌else◌, option_and_then, slice_get}
 use Rattle.cy_fuse.specs.Fusion.{fused}
 use Rattle.cy_fuse.specs.Laws.{FetchesFind}
 use Rattle.cy_comp.specs.declared.call.Call.{Call}
 use Rattle.wake_core.specs.Run.{Route, set_at}
-use Rattle.wake_core.specs.Plain.{Plain, Hand, hand, State, Ready, DataWait, Sleep, Finished, Known, Asked, Empty, Done, unsent_of, found_by}
-use Rattle.wake_core.specs.Events.{Asks, Fetches, Yields, Releases, call_on, next_call, after_ask, after_fetch, after_none, after_yield, after_release, is_finished}
+use Rattle.wake_core.specs.Plain.{Plain, Hand, hand, State, Ready, DataWait, Sleep, Finished, Known, Checked, Stopping, Asked, Empty, Done, unsent_of, found_by}
+use Rattle.wake_core.specs.Events.{Checks, Asks, Fetches, Yields, Releases, call_on, next_call, after_ask, after_fetch, after_none, after_yield, after_release, is_finished}
 use Rattle.wake_core.specs.Sound.{Sound}
 use Rattle.wake_core.specs.Rest.{IsAtRest}
-use Rattle.wake_core.specs.Turns.{Resumes, Waits, Parks, is_ready, is_due, is_woken, finds_nothing, parked_world}
+use Rattle.wake_core.specs.Turns.{Resumes, Waits, IsUnstopped, Parks, is_ready, is_due, is_woken, finds_nothing, parked_world}
 use Rattle.wake_core.proofs.Places.{set_at_same, set_at_again, set_at_itself}
 use Rattle.wake_core.proofs.Playing.{idle_by, shown_stored}
 use Rattle.wake_core.proofs.Storing.{with_parts}
 use Rattle.wake_core.proofs.Taken.{taken_world, taken_by}
-use Rattle.wake_core.proofs.Sounding.{ask_sound, fetch_sound, yield_sound, release_sound}
+use Rattle.wake_core.proofs.Sounding.{check_sound, ask_sound, fetch_sound, yield_sound, release_sound}
 
 -- A test has one answer.
 pub true_false : true ≡ false → ⊥
@@ -37,7 +37,7 @@ nothing_found true true (Some x) e = cc
 nothing_found true false (Some x) e = cc
 nothing_found false u (Some x) e = cc
 
-module _ (c : ℕ) (w : Plain) (rest : IsAtRest w) (known : c < length w.routes) (s : Sound w) (idle : finds_nothing c w ≡ true) where
+module _ (c : ℕ) (w : Plain) (rest : IsAtRest w) (known : c < length w.routes) (calm : IsUnstopped c w) (s : Sound w) (idle : finds_nothing c w ≡ true) where
   ready : w.states c ≡ Ready
   ready = nothing_ready (w.states c) (is_some (unsent_of w c)) (is_some (found_by w c)) idle
 
@@ -59,12 +59,23 @@ module _ (c : ℕ) (w : Plain) (rest : IsAtRest w) (known : c < length w.routes)
       or_true true = refl
       or_true false = refl
 
+  -- It isn't stopped.
+  abbrev checked : Plain
+  checked = record t { hands = set_at 0 (hand c Checked) t.hands }
+
+  checks : Checks 0 c t checked
+  checks = record {
+    held = set_at_same 0 (hand c Known) w.hands;
+    ready = set_at_same c Ready w.states;
+    effect = ap (λ b. record t { hands = set_at 0 (hand c (if b then Stopping else Checked)) t.hands }) (sym (calm ready));
+  }
+
   -- It asks.
   abbrev asked : Plain
-  asked = after_ask 0 c t
+  asked = after_ask 0 c checked
 
-  asks : Asks 0 c t asked
-  asks = record { held = set_at_same 0 (hand c Known) w.hands; ready = set_at_same c Ready w.states; none_held = none_held; effect = refl }
+  asks : Asks 0 c checked asked
+  asks = record { held = set_at_same 0 (hand c Checked) t.hands; none_held = none_held; effect = refl }
 
   -- Its fetch finds nothing.
   none_next : next_call asked c ≡ None
@@ -80,7 +91,7 @@ module _ (c : ℕ) (w : Plain) (rest : IsAtRest w) (known : c < length w.routes)
   missed = after_none 0 c asked
 
   fetches : Fetches 0 c asked missed
-  fetches = record { held = set_at_same 0 (hand c Asked) t.hands; effect = ap (λ (o : Option Call). after_fetch 0 c o asked) (sym none_next) }
+  fetches = record { held = set_at_same 0 (hand c Asked) checked.hands; effect = ap (λ (o : Option Call). after_fetch 0 c o asked) (sym none_next) }
 
   -- It yields, and is given back.
   abbrev yielded : Plain
@@ -101,7 +112,7 @@ module _ (c : ℕ) (w : Plain) (rest : IsAtRest w) (known : c < length w.routes)
       (set_at_again c DataWait DataWait (set_at c Ready w.states) ∙ set_at_again c Ready DataWait w.states)
       refl
       (set_at_again 0 (hand c Done) None missed.hands ∙ set_at_again 0 (hand c Empty) None asked.hands
-      ∙ set_at_again 0 (hand c Asked) None t.hands ∙ set_at_again 0 (hand c Known) None w.hands
+      ∙ set_at_again 0 (hand c Asked) None checked.hands ∙ set_at_again 0 (hand c Checked) None t.hands ∙ set_at_again 0 (hand c Known) None w.hands
       ∙ ap (λ (h : Option Hand). set_at 0 h w.hands) (sym (rest 0).hand) ∙ set_at_itself 0 w.hands)
 
   pub parked_sound : FetchesFind → Sound (parked_world c w)
@@ -109,7 +120,8 @@ module _ (c : ℕ) (w : Plain) (rest : IsAtRest w) (known : c < length w.routes)
       (release_sound 0 c yielded (after_release 0 yielded) releases
       (yield_sound 0 c DataWait missed yielded yields
       (fetch_sound law 0 c asked missed fetches
-      (ask_sound 0 c t asked asks taken_sound))))
+      (ask_sound 0 c checked asked asks
+      (check_sound 0 c t checked checks taken_sound)))))
 
 -- A croutine that was resumed may be parked: one that only waited isn't READY, and stays.
 pub resumes_parked : (c : ℕ) (w m v : Plain) → Resumes c w m → Parks c m v → Resumes c w v

@@ -17,9 +17,9 @@ use Rattle.wake_core.specs.declared.found.Found.{Found}
 use Rattle.wake_core.specs.declared.owed.Owed.{Owed}
 use Rattle.wake_core.specs.declared.parts.Parts.{Parts}
 use Rattle.wake_core.specs.declared.world.World.{World}
-use Rattle.wake_core.specs.WorldOf.{plain_of, routes_in, counts_in}
+use Rattle.wake_core.specs.WorldOf.{plain_of, routes_in, counts_in, stop_in}
 use Rattle.wake_core.specs.Run.{Route, readers_of, writes_from}
-use Rattle.wake_core.specs.Plain.{Plain, Hand, Ready, blank, opening_world, outs_of, taped_of}
+use Rattle.wake_core.specs.Plain.{Plain, Stop, Hand, Ready, blank, opening_world, outs_of, taped_of}
 use Rattle.wake_core.specs.Sound.{Sound}
 use Rattle.wake_core.specs.Fields.{read, no_routine, no_visitor, calls_at, shown_calls, fills_of, plain_at, IsFixed, IsStepping, IsWaiting, IsVisited, IsRoomy}
 use Rattle.wake_core.specs.private.Opening.{IsNothing, AreNothing}
@@ -36,8 +36,8 @@ use Rattle.wake_core.proofs.Runs.{replaced_sound}
 use Rattle.wake_core.proofs.Beginning.{read_all, read_equal, read_made, read_beyond}
 
 -- The plain world of these parts, with calls and threads given.
-abbrev pub shown_with : List Route → List ℕ → List VisitorView → List RoutineView → List Bool → List Token → ℕ → Bool → (ℕ → List Call) → Plain
-shown_with routes counts visitors routines spent tape clock closing calls = record (opening_world routes counts) {
+abbrev pub shown_with : List Route → List ℕ → Option Stop → List VisitorView → List RoutineView → List Bool → List Token → ℕ → Bool → Bool → (ℕ → List Call) → Plain
+shown_with routes counts stop visitors routines spent tape clock closing raised calls = record (opening_world routes counts stop) {
   states = read (λ r. r.state) Ready routines;
   spent = read (λ b. b) true spent;
   cursors = λ c. cursor_after (calls c);
@@ -46,6 +46,7 @@ shown_with routes counts visitors routines spent tape clock closing calls = reco
   tape = tape;
   clock = clock;
   closing = closing;
+  raised = raised;
 }
 
 -- Where no component is to be stepped, each shows the calls of its routine.
@@ -53,11 +54,11 @@ calls_are : (routines : List RoutineView) (found : List (Option Found)) → ((c 
 calls_are routines found none = fun_ext (λ c. ap (shown_calls (read (λ r. r) no_routine routines c)) (none c))
 
 -- A world at rest is the one that its parts show.
-pub rests : (routes : List Route) (counts : List ℕ) (visitors : List VisitorView) (routines : List RoutineView) (found : List (Option Found)) (spent : List Bool) (hands : List (Option Hand)) (owed : List Owed) (tape : List Token) (clock : ℕ) (closing : Bool)
+pub rests : (routes : List Route) (counts : List ℕ) (stop : Option Stop) (visitors : List VisitorView) (routines : List RoutineView) (found : List (Option Found)) (spent : List Bool) (hands : List (Option Hand)) (owed : List Owed) (tape : List Token) (clock : ℕ) (closing raised : Bool)
     → ((c : ℕ) → read (λ f. f) None found c ≡ None)
-    → shown_with routes counts visitors routines spent tape clock closing (λ c. (read (λ r. r) no_routine routines c).calls) ≡ at_rest (plain_at routes counts visitors routines found spent hands owed tape clock closing)
-rests routes counts visitors routines found spent hands owed tape clock closing none =
-    ap (shown_with routes counts visitors routines spent tape clock closing) (sym (calls_are routines found none))
+    → shown_with routes counts stop visitors routines spent tape clock closing raised (λ c. (read (λ r. r) no_routine routines c).calls) ≡ at_rest (plain_at routes counts stop visitors routines found spent hands owed tape clock closing raised)
+rests routes counts stop visitors routines found spent hands owed tape clock closing raised none =
+    ap (shown_with routes counts stop visitors routines spent tape clock closing raised) (sym (calls_are routines found none))
 
 -- Nobody runs where nobody holds a croutine, so no component is to be stepped.
 pub none_runs : {hands : ℕ → Option Hand} {found : ℕ → Option Found} → ((p : ℕ) → hands p ≡ None) → IsStepping hands found → (c : ℕ) → found c ≡ None
@@ -71,19 +72,19 @@ abbrev with_threads : Plain → (ℕ → Option Hand) → (ℕ → List (ℕ × 
 with_threads w hs fs ns cl ts = record w { hands = hs; fills = fs; news = ns; clearing = cl; tokens = ts }
 
 -- A world that is put together is the one that its parts show.
-pub joined : (routes : List Route) (counts : List ℕ) (visitors : List VisitorView) (routines : List RoutineView) (n room : ℕ) {found : List (Option Found)} (spent : List Bool) {hands : List (Option Hand)} {owed : List Owed} (tape : List Token) (clock : ℕ) (closing : Bool)
+pub joined : (routes : List Route) (counts : List ℕ) (stop : Option Stop) (visitors : List VisitorView) (routines : List RoutineView) (n room : ℕ) {found : List (Option Found)} (spent : List Bool) {hands : List (Option Hand)} {owed : List Owed} (tape : List Token) (clock : ℕ) (closing raised : Bool)
     → found ≡ replicate n None → hands ≡ replicate 65 None → AreNothing room 65 owed
-    → plain_at routes counts visitors routines found spent hands owed tape clock closing ≡ shown_with routes counts visitors routines spent tape clock closing (λ c. (read (λ r. r) no_routine routines c).calls)
-joined routes counts visitors routines n room {found} spent {hands} {owed} tape clock closing is held nothing =
+    → plain_at routes counts stop visitors routines found spent hands owed tape clock closing raised ≡ shown_with routes counts stop visitors routines spent tape clock closing raised (λ c. (read (λ r. r) no_routine routines c).calls)
+joined routes counts stop visitors routines n room {found} spent {hands} {owed} tape clock closing raised is held nothing =
     let none : (c : ℕ) → read (λ f. f) None found c ≡ None = λ c. ap (λ (fs : List (Option Found)). read (λ f. f) None fs c) is ∙ ap (λ (fs : ℕ → Option Found). fs c) (read_equal None n) in
-    let w : Plain = shown_with routes counts visitors routines spent tape clock closing (λ c. (read (λ r. r) no_routine routines c).calls) in
+    let w : Plain = shown_with routes counts stop visitors routines spent tape clock closing raised (λ c. (read (λ r. r) no_routine routines c).calls) in
     let hs : read (λ h. h) None hands ≡ (λ p. None) = ap (λ (l : List (Option Hand)). read (λ h. h) None l) held ∙ read_equal None 65 in
     let fs : read (fills_of routes) [] owed ≡ (λ p. []) = read_all (fills_of routes) [] owed (λ i o at. no_fills o (nothing.each i o at)) in
     let ns : read (λ o. drop o.looked o.news.items) [] owed ≡ (λ p. []) = read_all (λ o. drop o.looked o.news.items) [] owed (λ i o at. no_news o (nothing.each i o at)) in
     let cl : read (λ o. o.clearing.items) [] owed ≡ (λ p. []) = read_all (λ o. o.clearing.items) [] owed (λ i o at. (nothing.each i o at).clearing) in
     let ts : read (λ o. o.token) blank owed ≡ (λ p. blank) = read_all (λ o. o.token) blank owed (λ i o at. (nothing.each i o at).token) in
     let threads : Plain → Plain = λ u. with_threads u (read (λ h. h) None hands) (read (fills_of routes) [] owed) (read (λ o. drop o.looked o.news.items) [] owed) (read (λ o. o.clearing.items) [] owed) (read (λ o. o.token) blank owed) in
-    ap (λ (cs : ℕ → List Call). threads (shown_with routes counts visitors routines spent tape clock closing cs)) (calls_are routines found none)
+    ap (λ (cs : ℕ → List Call). threads (shown_with routes counts stop visitors routines spent tape clock closing raised cs)) (calls_are routines found none)
     ∙ ap (λ (h : ℕ → Option Hand). with_threads w h (read (fills_of routes) [] owed) (read (λ o. drop o.looked o.news.items) [] owed) (read (λ o. o.clearing.items) [] owed) (read (λ o. o.token) blank owed)) hs
     ∙ ap (λ (f : ℕ → List (ℕ × ℕ)). with_threads w (λ p. None) f (read (λ o. drop o.looked o.news.items) [] owed) (read (λ o. o.clearing.items) [] owed) (read (λ o. o.token) blank owed)) fs
     ∙ ap (λ (m : ℕ → List ℕ). with_threads w (λ p. None) (λ p. []) m (read (λ o. o.clearing.items) [] owed) (read (λ o. o.token) blank owed)) ns
@@ -245,13 +246,13 @@ module _ (p : Parts) (fit : AreFit p) {visitors : List VisitorView} {routines : 
       (subst (λ (rs : List RoutineView). IsRoomy (routes_in p.fixed) (counts_in p.fixed) (read (λ v. v) no_visitor p.visitors) (read (λ r. r) no_routine rs) (vec_capacity p.tape)) (sym b) fit.roomy)
 
   pub together_shown : (n room : ℕ) {found : List (Option Found)} {hands : List (Option Hand)} {owed : List Owed} → found ≡ replicate n None → hands ≡ replicate 65 None → AreNothing room 65 owed
-      → plain_at (routes_in p.fixed) (counts_in p.fixed) visitors routines found spent hands owed p.tape.items p.clock p.closing ≡ shown_by p
+      → plain_at (routes_in p.fixed) (counts_in p.fixed) (stop_in p.fixed) visitors routines found spent hands owed p.tape.items p.clock p.closing p.raised ≡ shown_by p
   unfolding shown_by
   together_shown n room none held nothing =
-      joined (routes_in p.fixed) (counts_in p.fixed) visitors routines n room spent p.tape.items p.clock p.closing none held nothing
-      ∙ ap (λ (vs : List VisitorView). shown_with (routes_in p.fixed) (counts_in p.fixed) vs routines spent p.tape.items p.clock p.closing (λ c. (read (λ r. r) no_routine routines c).calls)) a
-      ∙ ap (λ (rs : List RoutineView). shown_with (routes_in p.fixed) (counts_in p.fixed) p.visitors rs spent p.tape.items p.clock p.closing (λ c. (read (λ r. r) no_routine rs c).calls)) b
-      ∙ ap (λ (bs : List Bool). shown_with (routes_in p.fixed) (counts_in p.fixed) p.visitors p.routines bs p.tape.items p.clock p.closing (λ c. (read (λ r. r) no_routine p.routines c).calls)) d
+      joined (routes_in p.fixed) (counts_in p.fixed) (stop_in p.fixed) visitors routines n room spent p.tape.items p.clock p.closing p.raised none held nothing
+      ∙ ap (λ (vs : List VisitorView). shown_with (routes_in p.fixed) (counts_in p.fixed) (stop_in p.fixed) vs routines spent p.tape.items p.clock p.closing p.raised (λ c. (read (λ r. r) no_routine routines c).calls)) a
+      ∙ ap (λ (rs : List RoutineView). shown_with (routes_in p.fixed) (counts_in p.fixed) (stop_in p.fixed) p.visitors rs spent p.tape.items p.clock p.closing p.raised (λ c. (read (λ r. r) no_routine rs c).calls)) b
+      ∙ ap (λ (bs : List Bool). shown_with (routes_in p.fixed) (counts_in p.fixed) (stop_in p.fixed) p.visitors p.routines bs p.tape.items p.clock p.closing p.raised (λ c. (read (λ r. r) no_routine p.routines c).calls)) d
 
 -- A world that is taken apart.
 abbrev parts_with : World → List RoutineView → List VisitorView → List Bool → Parts
@@ -263,6 +264,7 @@ parts_with s routines visitors spent = record {
   played = s.played;
   clock = s.clock;
   closing = s.closing;
+  raised = s.raised;
   fixed = s.fixed;
 }
 
@@ -273,7 +275,7 @@ module _ (s : World) (rest : IsAtRest (plain_of s)) where
 
   its_rest : shown_by (parts_with s s.routines.items s.visitors.items s.spent.items) ≡ at_rest (plain_of s)
   unfolding plain_of shown_by
-  its_rest = rests s.fixed.routes.items s.fixed.counts.items s.visitors.items s.routines.items s.found.items s.spent.items s.hands.items s.owed.items s.tape.items s.clock s.closing none_found
+  its_rest = rests s.fixed.routes.items s.fixed.counts.items s.fixed.stop s.visitors.items s.routines.items s.found.items s.spent.items s.hands.items s.owed.items s.tape.items s.clock s.closing s.raised none_found
 
   its_parts : AreFit (parts_with s s.routines.items s.visitors.items s.spent.items)
   unfolding plain_of shown_by

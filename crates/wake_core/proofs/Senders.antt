@@ -13,7 +13,7 @@ use Rattle.wake_core.proofs.Arriving.{there}
 use Rattle.wake_core.proofs.Reading.{read_within}
 use Rattle.wake_core.proofs.HeldLaws.{not_running_of}
 use Rattle.wake_core.proofs.Writers.{writes_own}
-use Rattle.wake_core.proofs.Taping.{unsent_is}
+use Rattle.wake_core.proofs.Taping.{from_held, unsent_is}
 
 none_some : {X : Type 0} {x : X} → None ≡ Some x → ⊥
 none_some e = cc
@@ -47,7 +47,7 @@ abbrev pub SendsAs : (p : ℕ) → Option Hand → Token → Plain → Plain →
 SendsAs p o t w v = Sends p (option_map_or (λ (h : Hand). h.croutine) o 0) (phase_sent o) t w v
 
 holder : (w : Plain) (p c : ℕ) (next : Phase) → MaySend p c next w → (f : Phase) × (w.hands p ≡ hand c f)
-holder w p c next may = elim may [ inl r ↦ (Running, r.0) | inr k ↦ (Known, k.0) ]
+holder w p c next may = elim may [ inl r ↦ (Running, r.0) | inr k ↦ let f = from_held p c next w k in (f.old, f.in_hand) ]
 
 module _ (s : World) (p : ℕ) (t : Token) (may : MayTape p t (plain_of s)) where
   pub thread_known : p ≤ 64
@@ -79,7 +79,9 @@ module _ (s : World) (p : ℕ) (t : Token) (may : MayTape p t (plain_of s)) wher
       | inl r ↦
           let same : h.croutine ≡ in_hand p (plain_of s) = ap (λ (o : Option Hand). option_map_or (λ (h : Hand). h.croutine) o 0) (sym (sender.held h refl)) in
           ap (to_step s) same ∙ stepped is_written (r.0 ∙ ap (λ c. hand c Running) same)
-      | inr k ↦ ap (option_map (λ (f : Found). f.tuple)) (s.stepping.stepped h.croutine (not_running_of p h.croutine Known k.0 (λ e. cc) s.sound.consistent.held))
+      | inr k ↦
+          let f = from_held p h.croutine (phase_sent (Some h)) (plain_of s) k in
+          ap (option_map (λ (f : Found). f.tuple)) (s.stepping.stepped h.croutine (not_running_of p h.croutine f.old f.in_hand f.calm s.sound.consistent.held))
     ]
 
     pub taped_sent : (v : Plain) → Sends p h.croutine (phase_sent (Some h)) t (plain_of s) v → Taped p t (plain_of s) v

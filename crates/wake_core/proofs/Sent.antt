@@ -128,7 +128,7 @@ sent_world w p c next t {st} {at} {hs} {fs} {ns} {cs} {ts} {tape} cursors s a h 
     ∙ ap (λ (x : List Token). record (after_send p c next t w) { tape = x }) e
 
 pub tapes : {t : Token} {w u v : Plain} → Tapes t w u → v ≡ after_tape 0 t w → Tapes t w v
-tapes may effect = record { owes = may.owes; next = may.next; now = may.now; effect = effect }
+tapes may effect = record { owes = may.owes; raised = may.raised; next = may.next; now = may.now; effect = effect }
 
 pub sends : {p c : ℕ} {next : Phase} {t : Token} {w u v : Plain} → Sends p c next t w u → v ≡ after_send p c next t w → Sends p c next t w v
 sends may effect = record { owes = may.owes; held = may.held; unsent = may.unsent; effect = effect }

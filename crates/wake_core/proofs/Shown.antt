@@ -9,7 +9,7 @@ use Rattle.cy_comp.specs.Calls.{cursor_after, outs, output}
 use Rattle.cy_comp.specs.Routine.{RoutineView}
 use Rattle.wake_core.specs.declared.found.Found.{Found}
 use Rattle.wake_core.specs.Run.{Route, set_at}
-use Rattle.wake_core.specs.Plain.{Plain, Hand, hand, Asked, Running, taped_of, made_of, outs_of, unsent_of}
+use Rattle.wake_core.specs.Plain.{DataWait, Plain, Hand, hand, Asked, Running, taped_of, made_of, outs_of, unsent_of}
 use Rattle.wake_core.specs.Sound.{HeldIn}
 use Rattle.wake_core.specs.Events.{Fetches, next_call, after_call, after_fetch}
 use Rattle.wake_core.specs.Fields.{read, no_routine, shown_calls, calls_at, IsWaiting, IsStepping}
@@ -63,7 +63,7 @@ fetches {p} {c} {n} {w} {v} {o} e held next effect = record {
 pub asked_unsent : (w : Plain) (p c : ℕ) → w.hands p ≡ hand c Asked → HeldIn w → unsent_of w c ≡ None
 asked_unsent w p c held h =
     let no = not_running_of p c Asked held (λ e. cc) h in
-    slice_get_past (outs_of w.routes w.calls c) (taped_of w.routes w.tape c) (by (λ l. h.resting c l no (h.asked p c held)))
+    slice_get_past (outs_of w.routes w.calls c) (taped_of w.routes w.tape c) (by (λ l. h.resting c l no (h.phased p c Asked DataWait held refl)))
   where
     by : (taped_of w.routes w.tape c < made_of w.routes w.calls c → ⊥) → made_of w.routes w.calls c ≤ taped_of w.routes w.tape c
     by n = omega (arith, n)

@@ -1,5 +1,5 @@
 -- A croutine in hand changes its phase, its flag or its state.
-use Rattle.std.proofs.Common.{ℕ, ◌+◌, ◌≡◌, ◌≢◌, ◌≤◌, ◌<◌, Bool, true, false, refl, sym, ◌∙◌, ap, inl, inr, arith, Option, Some, None, List, length, set, option_map, slice_get, subst}
+use Rattle.std.proofs.Common.{ℕ, ◌+◌, ◌≡◌, ◌≢◌, ◌≤◌, ◌<◌, Bool, true, false, refl, sym, ◌∙◌, ap, inl, inr, arith, Option, Some, None, List, length, set, option_map, slice_get, subst, if◌then◌else◌}
 use mathlib.Core.Path.{fun_ext}
 use Rattle.cy_comp.specs.declared.call.Call.{Call}
 use Rattle.cy_msg.specs.declared.token.Token.{Token}
@@ -8,10 +8,10 @@ use Rattle.cy_comp.specs.Calls.{cursor_after, outs, output}
 use Rattle.cy_comp.specs.Routine.{RoutineView}
 use Rattle.wake_core.specs.declared.found.Found.{Found}
 use Rattle.wake_core.specs.Run.{Route, set_at}
-use Rattle.wake_core.specs.Plain.{Plain, Hand, hand, State, Ready, Phase, Fresh, Woken, Known, Empty, Running, Sending, Done}
+use Rattle.wake_core.specs.Plain.{Plain, Hand, hand, State, Ready, Phase, Fresh, Woken, Known, Checked, Stopping, Empty, Running, Sending, LastSending, Done, stops}
 use Rattle.wake_core.specs.Planned.{planned_count, first_reader}
-use Rattle.wake_core.specs.Events.{Spends, Readies, Asks, Yields, Releases, after_spend, after_ready, after_ask, after_yield, after_release, phase_after_spend}
-use Rattle.wake_core.specs.WorldCalls.{in_hand, MaySpend, MayReady, MayAsk, MayYieldAs, MayRelease, IsStepped}
+use Rattle.wake_core.specs.Events.{Spends, Readies, Checks, Asks, Yields, Releases, after_spend, after_ready, after_check, after_ask, after_yield, after_release, phase_after_spend}
+use Rattle.wake_core.specs.WorldCalls.{in_hand, MaySpend, MayReady, MayCheck, MayAsk, MayYieldAs, MayRelease, IsStepped}
 use Rattle.wake_core.specs.Fields.{read, no_routine, shown_calls, calls_at, IsFlagged, IsStepping, IsWaiting, IsRoomy}
 use Rattle.wake_core.proofs.Places.{place, set_at_there, set_at_other}
 use Rattle.wake_core.proofs.Reading.{read-set}
@@ -96,7 +96,16 @@ pub readies : {p n : ℕ} {w v : Plain} → n ≡ in_hand p w → MayReady p w �
 readies {p} {n} {w} e may effect = record { held = may.held; effect = effect ∙ ap (λ k. after_ready p k w) e }
 
 pub asks : {p n : ℕ} {w v : Plain} → n ≡ in_hand p w → MayAsk p w → v ≡ after_ask p n w → Asks p (in_hand p w) w v
-asks {p} {n} {w} e may effect = record { held = may.held; ready = may.ready; none_held = may.none_held; effect = effect ∙ ap (λ k. after_ask p k w) e }
+asks {p} {n} {w} e may effect = record { held = may.held; none_held = may.none_held; effect = effect ∙ ap (λ k. after_ask p k w) e }
+
+-- The world after a look for the stop.
+pub checked_world : (w : Plain) (p n : ℕ) {is : Bool} {f : Phase} {hs : ℕ → Option Hand} → is ≡ stops w.stop w.raised n → f ≡ (if is then Stopping else Checked) → hs ≡ set_at p (hand n f) w.hands
+    → record w { hands = hs } ≡ after_check p n w
+checked_world w p n is_stopped is_phase is_hands =
+    ap (λ (h : ℕ → Option Hand). record w { hands = h }) (is_hands ∙ ap (λ g. set_at p (hand n g) w.hands) (is_phase ∙ ap (λ b. if b then Stopping else Checked) is_stopped))
+
+pub checks : {p n : ℕ} {w v : Plain} → n ≡ in_hand p w → MayCheck p w → v ≡ after_check p n w → Checks p (in_hand p w) w v
+checks {p} {n} {w} e may effect = record { held = may.held; ready = may.ready; effect = effect ∙ ap (λ k. after_check p k w) e }
 
 pub yields : {p n : ℕ} {s : State} {w v : Plain} → n ≡ in_hand p w → MayYieldAs p s w → v ≡ after_yield p n s w → Yields p (in_hand p w) s w v
 yields {p} {n} {s} {w} e may effect = record { owes = may.owes; held = may.held; effect = effect ∙ ap (λ k. after_yield p k s w) e }
@@ -116,7 +125,10 @@ yield_phase w e may X by = elim may.held [
   | inl h ↦ by Empty (held_as w Empty e h.0)
   | inr m ↦ elim m [
     | inl h ↦ by Running (held_as w Running e h.0)
-    | inr h ↦ by Sending (held_as w Sending e h.0)
+    | inr t ↦ elim t [
+      | inl h ↦ by Sending (held_as w Sending e h.0)
+      | inr h ↦ elim h.0 [ inl b ↦ by Stopping (held_as w Stopping e b) | inr b ↦ by LastSending (held_as w LastSending e b) ]
+    ]
   ]
 ]
 

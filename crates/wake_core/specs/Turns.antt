@@ -12,7 +12,8 @@ use Rattle.wake_core.specs.Planned.{planned_count, first_reader, counts_from}
 use Rattle.wake_core.specs.Settle.{Settles}
 use Rattle.wake_core.specs.Serial.{is_runnable, resume, play, next}
 use Rattle.wake_core.specs.Plain.{Plain, hand, State, Ready, DataWait, Sleep, Finished, Phase}
-use Rattle.wake_core.specs.Plain.{Known, Running, lists, lists_reader, last_of, unsent_of, found_by}
+use Rattle.wake_core.specs.Plain.{Known, Checked, Stopping, Running, stops, lists, lists_reader}
+use Rattle.wake_core.specs.Plain.{last_of, unsent_of, found_by}
 use Rattle.wake_core.specs.Events.{OwesNothing, IsDue, Asks, Fetches, Sends, Yields, Releases}
 use Rattle.wake_core.specs.Events.{next_call, after_send, after_yield, is_waiting, is_finished}
 use Rattle.wake_core.specs.WorldCalls.{in_hand, phase_sent}
@@ -257,6 +258,10 @@ parked_world c w = record w {
   states = set_at c DataWait w.states;
   spent = set_at c true w.spent;
 }
+
+-- A croutine that is READY isn't stopped.
+abbrev pub IsUnstopped : ℕ → Plain → Type 0
+IsUnstopped c w = w.states c ≡ Ready → stops w.stop w.raised c ≡ false
 
 -- A croutine has its next turn at once where that would find nothing; else all stays.
 pub record Parks (c : ℕ) (w v : Plain) : Type 0 where

@@ -33,6 +33,6 @@ stop_in f = f.stop
 -- This is kept: the components, the numbers and the stop.
 pub record IsMade (routes : List Route) (counts : List ℕ) (stop : Option Stop) (f : Fixed)
     : Type 0 where
-  pub routes : routes_in f ≡ routes
-  pub counts : counts_in f ≡ counts
-  pub stop : stop_in f ≡ stop
+  pub its_routes : routes_in f ≡ routes
+  pub its_counts : counts_in f ≡ counts
+  pub its_stop : stop_in f ≡ stop

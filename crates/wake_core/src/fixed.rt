@@ -26,7 +26,7 @@ pub struct Fixed {
 
 impl Fixed {
     ghost use Rattle.std.specs.Prelude.{◌≡◌, ◌≤◌, ◌<◌, ℕ, Some, length, slice_get, IfOk, IfErr};
-    ghost use Rattle.std.specs.Prelude.{is_some};
+    ghost use Rattle.std.specs.Prelude.{is_some, true};
     ghost use Rattle.wake_core.specs.declared.error.CoreError.TheVariants as CoreError;
     ghost use Rattle.wake_core.specs.declared.entries.TheConstants.{MOST_PLANNED};
     ghost use Rattle.wake_core.specs.Run.{Route, routes_of, readers_of, played_of, writes_from};

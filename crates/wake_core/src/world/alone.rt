@@ -11,7 +11,8 @@ use cy_fuse::{Visitor, fetches_find};
 impl World {
     ghost use Rattle.std.specs.Prelude.{◌≡◌, ◌<◌, ◌∷◌, [], true, false, length};
     ghost use Rattle.wake_core.specs.Rest.{IsAtRest};
-    ghost use Rattle.wake_core.specs.Turns.{IsTaken, Passes, Parks, MayGiveBack, GivesBack};
+    ghost use Rattle.wake_core.specs.Turns.{IsTaken, Passes, IsUnstopped, Parks, MayGiveBack};
+    ghost use Rattle.wake_core.specs.Turns.{GivesBack};
     ghost use Rattle.wake_core.specs.WorldOf.{plain_of, to_step};
     ghost use Rattle.wake_core.specs.WorldCalls.{IsStepped};
 
@@ -43,12 +44,13 @@ impl World {
     }
 
     /// A croutine whose next turn would find nothing has that turn at once, and waits with its flag
-    /// spent: `take`, `call` and `give_back`, in one. Any other stays as it is. Most are READY with
+    /// spent: `take`, `check`, `call` and `give_back`, in one. Any other stays as it is. Most are READY with
     /// nothing to fetch after a call; this spares them a second scan.
     #[inline(always)]
     pub(crate) fn park(&mut self, component: u32)
         requires rest { IsAtRest (plain_of self.old) }
         requires known { component < length (plain_of self.old).routes }
+        requires unstopped { IsUnstopped component (plain_of self.old) }
         ensures parks { Parks component (plain_of self.old) (plain_of self.new) }
         ensures steps { to_step self.new ≡ to_step self.old }
     {

@@ -1,4 +1,7 @@
 // Resuming a croutine in hand.
+ghost use Rattle.std.specs.Prelude.{◌≡◌, if◌then◌else◌};
+ghost use Rattle.wake_core.specs.Plain.{Stopping, Checked};
+
 use crate::found::Found;
 use crate::next_call::call_next;
 use crate::{Hand, Phase, World};
@@ -10,7 +13,7 @@ impl World {
     ghost use Rattle.std.specs.Prelude.{◌≡◌, Some, None, option_map};
     ghost use Rattle.cy_comp.specs.declared.call.Call.{Call};
     ghost use Rattle.wake_core.specs.Run.{set_at};
-    ghost use Rattle.wake_core.specs.Plain.{Ready, Known, last_of, unsent_of, stops};
+    ghost use Rattle.wake_core.specs.Plain.{Checked, last_of, unsent_of, stops};
     ghost use Rattle.wake_core.specs.Events.{Checks, Asks, Fetches, Yields, next_call};
     ghost use Rattle.wake_core.specs.WorldOf.{plain_of, to_step};
     ghost use Rattle.wake_core.specs.WorldCalls.{in_hand, MayCheck, MayAsk, MayFetch, MayStep};
@@ -28,16 +31,19 @@ impl World {
         ensures steps { to_step self.new ≡ to_step self.old }
     {
         let croutine = self.holding(thread);
-        let is_stopped = self.raised && self.fixed.names(croutine);
+        let is_stopped = self.is_stopped(croutine);
         self.hands[thread as usize] = Some(Hand {
             croutine,
-            phase: if is_stopped {
-                Phase::Stopping
-            } else {
-                Phase::Checked
-            },
+            phase: phase_after(is_stopped),
         });
         is_stopped
+    }
+
+    // Whether the raised stop names a component.
+    fn is_stopped(&self, component: u32) -> bool
+        ensures { result ≡ stops (plain_of self.now).stop (plain_of self.now).raised component }
+    {
+        self.raised && self.fixed.names(component)
     }
 
     /// Stores that the READY croutine in hand, which is not stopped and holds no output back, waits
@@ -116,16 +122,13 @@ impl World {
         }
     }
 
-    /// Thread 0 asks and fetches for the croutine in hand, which isn't stopped, and steps its
-    /// component at once on what is found: `check`, `ask`, `fetch` and `step` in one, without keeping
-    /// the tuple between them. None comes exactly where the fetch finds nothing.
+    /// Thread 0 asks and fetches for the croutine in hand, and steps its component at once on what
+    /// is found: `ask`, `fetch` and `step` in one, without keeping the tuple between them. None
+    /// comes exactly where the fetch finds nothing.
     #[inline(always)]
     pub(crate) fn call(&mut self, component: u32) -> Option<Outcome>
-        requires held { IsInHand component Known (plain_of self.old) }
-        requires ready { (plain_of self.old).states component ≡ Ready }
+        requires held { IsInHand component Checked (plain_of self.old) }
         requires none_held { unsent_of (plain_of self.old) component ≡ None }
-        requires unstopped { stops (plain_of self.old).stop (plain_of self.old).raised component
-            ≡ false }
         ensures event { Calls component result (plain_of self.old) (plain_of self.new) }
         ensures steps { to_step self.new ≡ to_step self.old }
     {
@@ -167,5 +170,16 @@ impl World {
             croutine,
             phase: Phase::Done,
         });
+    }
+}
+
+// How far its holder is with a croutine that is to be resumed, once it looked for the stop.
+fn phase_after(is_stopped: bool) -> Phase
+    ensures { result ≡ (if is_stopped then Stopping else Checked) }
+{
+    if is_stopped {
+        Phase::Stopping
+    } else {
+        Phase::Checked
     }
 }

@@ -1,6 +1,6 @@
 use Rattle.std.proofs.Common.{◌∙◌, sym, ap, length, subst, List, ℕ}
 use Rattle.wake_core.specs.Run.{Route, routes_of}
-use Rattle.wake_core.specs.Fields.{IsFixed, IsTable, HaveFew}
+use Rattle.wake_core.specs.Fields.{IsFixed, IsWithin, IsTable, HaveFew}
 use Rattle.wake_core.proofs.Tabled.{fixed_wiring, few_of}
 use Rattle.wake_core.proofs.fixed.Fixed.new.Goals as goal
 
@@ -16,6 +16,7 @@ invariant_of-result c =
     let is = c.in_ok-routes.ensures.routes ∙ ap routes_of c.as_slice.ensures in
     let counts = c.in_ok-from_slice.ensures.items in
     record {
+      within = subst (λ (rs : List Route). IsWithin rs c.in_ok-from_slice.field-0.items c.args.stop) (sym is) (subst (λ (ns : List ℕ). IsWithin (routes_of plans) ns c.args.stop) (sym counts) c.requires.within);
       lawful = subst (λ (rs : List Route). IsFixed rs c.in_ok-from_slice.field-0.items) (sym is)
           (subst (λ (ns : List ℕ). IsFixed (routes_of plans) ns) (sym counts) (fixed_wiring c.args.wiring.now.names plans c.args.counts.now c.args.wiring.now.lawful c.requires.counts c.requires.limited));
       table = subst (λ n. IsTable c.in_ok-routes.routes.items n c.in_ok-readers.readers.items) (c.count.ensures.count ∙ sym c.requires.counts ∙ ap length (sym counts))

@@ -4,7 +4,7 @@ use Rattle.wake_core.proofs.world.World.close.Goals as goal
 
 pub returns-clause-event : goal.returns-clause-event
 unfolding plain_of
-returns-clause-event c = record { all = c.requires.all; effect = refl }
+returns-clause-event c = c.requires.event
 
 pub returns-clause-steps : goal.returns-clause-steps
 unfolding to_step

@@ -14,8 +14,8 @@ pub invariant_of-result : goal.invariant_of-result
 invariant_of-result c =
     let names = c.args.wiring.now.names in
     let plans = c.args.wiring.now.plans in
-    let routes = c.in_ok-fixed.ensures.routes in
-    let counts = c.in_ok-fixed.ensures.counts in
+    let routes = c.in_ok-fixed.ensures.made.its_routes in
+    let counts = c.in_ok-fixed.ensures.made.its_counts in
     let visitors = c.in_ok-visitors.ensures.visitors in
     let routines = c.in_ok-routines.ensures.routines in
     let n = length c.as_slice-size.result.now in
@@ -46,7 +46,7 @@ invariant_of-result c =
       roomy = roomy_from routes counts visitors routines (omega (arith, c.planned_messages.ensures.sum, c.in_ok-tape.ensures.capacity));
       owing = owing_from size owed;
       counted = counted_from c.in_ok-fixed.fixed.routes.items tape;
-      sound = sound_from (plain_from n routes counts visitors routines found spent hands owed tape)
+      sound = sound_from (plain_from n routes counts c.in_ok-fixed.ensures.made.its_stop visitors routines found spent hands owed tape)
           (wired names plans c.args.wiring.now.lawful c.args.counts.now c.requires.counts (λ k p earlier tuple until out at e. (held_so c.outcomes_are_answers.ensures p.kind earlier tuple until out e).time));
     }
 
@@ -58,6 +58,6 @@ returns-clause-opening c =
     let found = unheld.found in
     let spent : c.in_ok-spent.spent.items ≡ replicate n true = c.in_ok-spent.ensures.items_if_clones_equal (λ y e. e) in
     record {
-      opens = plain_from n c.in_ok-fixed.ensures.routes c.in_ok-fixed.ensures.counts c.in_ok-visitors.ensures.visitors c.in_ok-routines.ensures.routines found spent unheld.hands unheld.owed c.in_ok-tape.ensures.items;
+      opens = plain_from n c.in_ok-fixed.ensures.made.its_routes c.in_ok-fixed.ensures.made.its_counts c.in_ok-fixed.ensures.made.its_stop c.in_ok-visitors.ensures.visitors c.in_ok-routines.ensures.routines found spent unheld.hands unheld.owed c.in_ok-tape.ensures.items;
       stepped = λ k. ap (λ (fs : List (Option Found)). option_map (λ (f : Found). f.tuple) (read (λ f. f) None fs k)) found ∙ ap (λ (fs : ℕ → Option Found). option_map (λ (f : Found). f.tuple) (fs k)) (read_equal None n);
     }

@@ -43,7 +43,7 @@ invariant_of-self c =
       roomy = roomy_stored DataWait same s.roomy;
       owing = s.owing;
       counted = s.counted;
-      sound = subst Sound (sym (parked_shown s n r t c.ask.new.self c.ask.ensures)) (parked_sound n (plain_of s) c.requires.rest c.requires.known s.sound nothing c.fetches_find.ensures.find);
+      sound = subst Sound (sym (parked_shown s n r t c.ask.new.self c.ask.ensures)) (parked_sound n (plain_of s) c.requires.rest c.requires.known c.requires.unstopped s.sound nothing c.fetches_find.ensures.find);
     }
 
 pub returns-then-idles-clause-parks : goal.returns-then-idles-clause-parks
