@@ -7,7 +7,7 @@ use Rattle.cy_comp.specs.declared.call.Call.{Call}
 use Rattle.cy_comp.specs.declared.call.Outcome.{Outcome}
 use Rattle.cy_comp.specs.Calls.{held_until}
 use Rattle.wake_core.specs.Run.{writes_from, readers_of}
-use Rattle.wake_core.specs.Plain.{Plain, hand, State, Ready, DataWait, Phase, Known, Empty, Running, Sending, last_of, unsent_of}
+use Rattle.wake_core.specs.Plain.{Plain, hand, State, Ready, DataWait, Phase, Known, Checked, Empty, Running, Sending, last_of, unsent_of}
 use Rattle.wake_core.specs.Events.{Ticks, Tapes, Sends, Yields, Releases, IsNext, OwesNothing, next_call, state_after, after_tape, after_send, after_ask, after_none, after_fetch, after_yield}
 use Rattle.wake_core.specs.Sound.{Sound}
 use Rattle.wake_core.specs.WorldCalls.{in_hand, phase_sent, MayTape, Taped, IsStepped}
@@ -117,12 +117,12 @@ pub here_stepped : (c : ℕ) (f : Phase) (w : Plain) (to_step : ℕ → Option T
 here_stepped c f w to_step held none running = ap to_step (in_hand_is c f w held) ∙ none
 
 -- A held output.
-module _ (c : ℕ) (t : Token) (w : Plain) (h : IsInHand c Known w) (ready : w.states c ≡ Ready) (unsent : unsent_of w c ≡ Some t) where
+module _ (c : ℕ) (t : Token) (w : Plain) (h : IsInHand c Checked w) (ready : w.states c ≡ Ready) (unsent : unsent_of w c ≡ Some t) where
   known_sends : phase_sent (w.hands 0) ≡ Sending
   known_sends = ap phase_sent h.held
 
   it : in_hand 0 w ≡ c
-  it = in_hand_is c Known w h.held
+  it = in_hand_is c Checked w h.held
 
   pub held_may : MaySendOut t w
   held_may = record {
@@ -132,7 +132,7 @@ module _ (c : ℕ) (t : Token) (w : Plain) (h : IsInHand c Known w) (ready : w.s
   }
 
   pub held_stepped : (to_step : ℕ → Option Tuple) → IsStepped 0 w to_step
-  held_stepped to_step = other_stepped c Known w to_step h.held (λ e. cc)
+  held_stepped to_step = other_stepped c Checked w to_step h.held (λ e. cc)
 
   module _ (m : Plain) (d : Delivered (in_hand 0 w) (phase_sent (w.hands 0)) t w m) where
     held_sent : Delivered c Sending t w m
@@ -154,7 +154,7 @@ module _ (c : ℕ) (t : Token) (w : Plain) (h : IsInHand c Known w) (ready : w.s
         (subst (λ n. Releases 0 n g.between v) sent_it g.releases)
 
 -- A call whose fetch found nothing.
-module _ (c : ℕ) (w v : Plain) (h : IsInHand c Known w) (k : Calls c None w v) where
+module _ (c : ℕ) (w v : Plain) (h : IsInHand c Checked w) (k : Calls c None w v) where
   none_call : next_call k.between c ≡ None
   none_call = by (next_call k.between c) k.found
     where
@@ -191,7 +191,7 @@ module _ (c : ℕ) (w v : Plain) (h : IsInHand c Known w) (k : Calls c None w v)
       (subst (λ n. Releases 0 n g.between o) nothing_it g.releases)
 
 -- A call that was made.
-module _ (c : ℕ) (outcome : Outcome) (w v : Plain) (h : IsInHand c Known w) (ready : w.states c ≡ Ready) (s : Sound w) (k : Calls c (Some outcome) w v) where
+module _ (c : ℕ) (outcome : Outcome) (w v : Plain) (h : IsInHand c Checked w) (ready : w.states c ≡ Ready) (s : Sound w) (k : Calls c (Some outcome) w v) where
   pub some_call : (x : Call) × (next_call k.between c ≡ Some x)
   some_call = by (next_call k.between c) k.found refl
     where

@@ -16,7 +16,7 @@ use Rattle.cy_comp.specs.Calls.{tuples_of, last_outcome, held_until, output, out
 use Rattle.wake_core.specs.Run.{Route, Run, set_at, put, played_of}
 use Rattle.wake_core.specs.Planned.{planned_count, first_reader}
 use Rattle.wake_core.specs.Serial.{is_runnable, resume, follow, send, call_at, call_on}
-use Rattle.wake_core.specs.Plain.{Plain, hand, State, Ready, DataWait, Known, Asked, Empty, Running, Sending, last_of, unsent_of, taped_of, made_of, found_by}
+use Rattle.wake_core.specs.Plain.{Plain, hand, State, Ready, DataWait, Checked, Asked, Empty, Running, Sending, last_of, unsent_of, taped_of, made_of, found_by}
 use Rattle.wake_core.specs.Events.{Asks, Fetches, Yields, Releases, next_call, state_after, after_ask, after_fetch, after_call, is_finished}
 use Rattle.wake_core.specs.Sound.{Sound, Consistent}
 use Rattle.wake_core.specs.Rest.{run_shown, StaysFixed}
@@ -34,7 +34,7 @@ use Rattle.wake_core.proofs.Making.{IsMade, call_made}
 use Rattle.wake_core.proofs.Consisting.{ask_consistent}
 
 -- It asked, and its fetch found a tuple.
-pub called_by : (c : ℕ) (call : Call) (w m n : Plain) → IsInHand c Known w → Asks 0 c w m → Fetches 0 c m n → next_call m c ≡ Some call → IsCalled c call w n
+pub called_by : (c : ℕ) (call : Call) (w m n : Plain) → IsInHand c Checked w → Asks 0 c w m → Fetches 0 c m n → next_call m c ≡ Some call → IsCalled c call w n
 called_by c call w m n h a f some =
     let is : n ≡ after_call 0 c call (after_ask 0 c w) = f.effect ∙ ap (λ (o : Option Call). after_fetch 0 c o m) some ∙ ap (after_call 0 c call) a.effect in
     record {
@@ -105,7 +105,7 @@ held_out (Emit out) some = absurd (some refl)
 held_out (Hold until out) some = λ e. cc
 held_out (Last out) some = absurd (some refl)
 
-module _ (c : ℕ) (call : Call) (w m : Plain) (u : IsMade w c call) (h : IsInHand c Known w) (s : Sound w) (ready : w.states c ≡ Ready) (k : IsCalled c call w m) where
+module _ (c : ℕ) (call : Call) (w m : Plain) (u : IsMade w c call) (h : IsInHand c Checked w) (s : Sound w) (ready : w.states c ≡ Ready) (k : IsCalled c call w m) where
   found : found_by w c ≡ Some call.position
   found = rw u.at u.position
 
@@ -199,7 +199,7 @@ module _ (c : ℕ) (call : Call) (w m : Plain) (u : IsMade w c call) (h : IsInHa
   called_less law = rw (ap left_of k.same) (calls_less w c u.route call u.at room)
     where
       asked : Consistent (after_ask 0 c w)
-      asked = ask_consistent 0 c w h.held ready k.none_held s.consistent
+      asked = ask_consistent 0 c w h.held k.none_held s.consistent
 
       room : length (w.calls c) < planned_count w.routes w.counts (first_reader u.route)
       room = call_in_room law (after_ask 0 c w) 0 c u.route call (set_at_same 0 (hand c Asked) w.hands) k.found u.at asked
@@ -316,7 +316,7 @@ module _ (c : ℕ) (call : Call) (w m : Plain) (u : IsMade w c call) (h : IsInHa
       less = let one = called_less law in omega (arith, no_more, one)
 
 -- A croutine was called, and yields after what the outcome says of its output.
-module _ (c : ℕ) (call : Call) (w m : Plain) (h : IsInHand c Known w) (s : Sound w) (ready : w.states c ≡ Ready) (k : IsCalled c call w m) where
+module _ (c : ℕ) (call : Call) (w m : Plain) (h : IsInHand c Checked w) (s : Sound w) (ready : w.states c ≡ Ready) (k : IsCalled c call w m) where
   pub called_quiet : FetchesFind → (held_until (last_of m.routes m.calls c) ≡ None → unsent_of m c ≡ None) → (state : State) (o v : Plain) → Yields 0 c state m o → Releases 0 c o v → Resumes c w v
   called_quiet law none state o v y r =
       let u = call_made w c call k.found in

@@ -14,7 +14,7 @@ use Rattle.wake_core.specs.declared.world.World.{World}
 use Rattle.wake_core.specs.declared.found.Found.{Found}
 use Rattle.wake_core.specs.declared.entries.TheConstants.{MOST_PLANNED}
 use Rattle.wake_core.specs.Run.{Route, set_at}
-use Rattle.wake_core.specs.Plain.{Plain, Hand, hand, State, Ready, DataWait, Known, Asked, Empty, Running, last_of, unsent_of}
+use Rattle.wake_core.specs.Plain.{Plain, Hand, hand, State, Ready, DataWait, Checked, Asked, Empty, Running, last_of, unsent_of}
 use Rattle.wake_core.specs.Events.{Asks, Fetches, next_call, after_ask, after_call, after_none, after_fetch}
 use Rattle.wake_core.specs.Sound.{Sound}
 use Rattle.wake_core.specs.WorldOf.{plain_of, to_step}
@@ -77,23 +77,22 @@ call_roomy {routines = routines} c position tail tuple new some is h =
 
 -- The croutine in hand is READY and holds nothing back, and its component has a routine.
 pub record IsToCall (s : World) (n : ℕ) (r : RoutineView) : Type 0 where
-  pub held : IsInHand n Known (plain_of s)
-  pub ready : (plain_of s).states n ≡ Ready
+  pub held : IsInHand n Checked (plain_of s)
   pub none_held : unsent_of (plain_of s) n ≡ None
   pub routine : r ≡ get_or s.routines.items n r
   pub law : FetchesFind
 
 -- A croutine in hand is one of the components.
-pub hand_in : (s : World) (n : ℕ) → IsInHand n Known (plain_of s) → n < length (plain_of s).routes
+pub hand_in : (s : World) (n : ℕ) → IsInHand n Checked (plain_of s) → n < length (plain_of s).routes
 unfolding plain_of
-hand_in s n h = s.sound.consistent.held.known 0 n Known h.held
+hand_in s n h = s.sound.consistent.held.known 0 n Checked h.held
 
 -- .. and is not to be stepped.
-known_found : (s : World) (n : ℕ) → IsInHand n Known (plain_of s) → read (λ f. f) None s.found.items n ≡ None
+known_found : (s : World) (n : ℕ) → IsInHand n Checked (plain_of s) → read (λ f. f) None s.found.items n ≡ None
 unfolding plain_of
-known_found s n h = s.stepping.stepped n (not_running_of 0 n Known h.held (λ e. cc) s.sound.consistent.held)
+known_found s n h = s.stepping.stepped n (not_running_of 0 n Checked h.held (λ e. cc) s.sound.consistent.held)
 
-pub known_stepped : (s : World) (n : ℕ) → IsInHand n Known (plain_of s) → to_step s n ≡ None
+pub known_stepped : (s : World) (n : ℕ) → IsInHand n Checked (plain_of s) → to_step s n ≡ None
 unfolding to_step
 known_stepped s n h = ap (option_map (λ (f : Found). f.tuple)) (known_found s n h)
 
@@ -126,7 +125,7 @@ module _ (s : World) (n : ℕ) (r : RoutineView) (t : IsToCall s n r) where
   asked = after_ask 0 n (plain_of s)
 
   asks : Asks 0 n (plain_of s) asked
-  asks = record { held = t.held.held; ready = t.ready; none_held = t.none_held; effect = refl }
+  asks = record { held = t.held.held; none_held = t.none_held; effect = refl }
 
   asked_sound : Sound asked
   unfolding plain_of

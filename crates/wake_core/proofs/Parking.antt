@@ -8,7 +8,7 @@ use Rattle.cy_comp.specs.declared.call.Outcome.{Outcome}
 use Rattle.cy_comp.specs.Calls.{held_until, last_outcome}
 use Rattle.wake_core.specs.Run.{Route, Run, finds}
 use Rattle.wake_core.specs.Serial.{is_past, is_runnable, can_resume}
-use Rattle.wake_core.specs.Plain.{Plain, Hand, hand, State, Ready, DataWait, Sleep, Finished, Phase, Woken, Known, Asked, Running, last_of, outs_of, taped_of, made_of, unsent_of, found_by, tail_at, lists}
+use Rattle.wake_core.specs.Plain.{Plain, Hand, hand, State, Ready, DataWait, Sleep, Finished, Phase, Woken, Checked, Asked, Running, last_of, outs_of, taped_of, made_of, unsent_of, found_by, tail_at, lists}
 use Rattle.wake_core.specs.Events.{is_finished}
 use Rattle.wake_core.specs.Sound.{Sound, Consistent, NotRunning}
 use Rattle.wake_core.specs.Rest.{IsAtRest, run_shown}
@@ -111,14 +111,14 @@ parked_still c w rest s p = by_route (slice_get w.routes c) refl
 one_of : {m n : ℕ} → Some m ≡ Some n → m ≡ n
 one_of e = cc
 
-module _ (c : ℕ) (w : Plain) (h : IsInHand c Known w) (s : Sound w) (ready : w.states c ≡ Ready) where
+module _ (c : ℕ) (w : Plain) (h : IsInHand c Checked w) (s : Sound w) (ready : w.states c ≡ Ready) where
   pub known_running : NotRunning w.hands c
   known_running q e = elim (place q 0) [
     | inl is ↦ by (sym h.held ∙ ap w.hands (sym is) ∙ e)
     | inr other ↦ none (sym (h.alone q other).hand ∙ e)
   ]
     where
-      by : hand c Known ≡ hand c Running → ⊥
+      by : hand c Checked ≡ hand c Running → ⊥
       by e = grind (arith, e)
 
       none : None ≡ hand c Running → ⊥

@@ -8,7 +8,7 @@ use Rattle.cy_comp.specs.Calls.{last_outcome}
 use Rattle.wake_core.specs.Run.{Route, Run, set_at, arrive, put, readers_of, finds, played_of}
 use Rattle.wake_core.specs.Planned.{planned_count, first_reader, counts_from}
 use Rattle.wake_core.specs.Serial.{resume, resume_by, send, last_out, call_at}
-use Rattle.wake_core.specs.Plain.{Plain, hand, State, Ready, DataWait, Phase, Known, Asked, Empty, Sending, Done, unsent_of}
+use Rattle.wake_core.specs.Plain.{Plain, hand, State, Ready, DataWait, Phase, Checked, Asked, Empty, Sending, Done, unsent_of}
 use Rattle.wake_core.specs.Events.{Asks, Fetches, Yields, Releases, OwesNothing, next_call, after_ask, after_fetch, after_none, is_finished}
 use Rattle.wake_core.specs.Sound.{Sound}
 use Rattle.wake_core.specs.Rest.{IsAtRest, run_shown, StaysFixed}
@@ -125,7 +125,7 @@ delivered_run c next t w m r f d a k p l none others = run_is m (put w.routes t 
     (ap (λ (x : Plain). x.clock) d.same ∙ sym l)
 
 -- A held output is sent.
-module _ (c : ℕ) (t : Token) (w m n v : Plain) (h : IsInHand c Known w) (s : Sound w) (ready : w.states c ≡ Ready) (unsent : unsent_of w c ≡ Some t)
+module _ (c : ℕ) (t : Token) (w m n v : Plain) (h : IsInHand c Checked w) (s : Sound w) (ready : w.states c ≡ Ready) (unsent : unsent_of w c ≡ Some t)
     (d : Delivered c Sending t w m) (y : Yields 0 c Ready m n) (r : Releases 0 c n v) where
   held_some : is_some (unsent_of w c) ≡ true
   held_some = ap is_some unsent
@@ -165,7 +165,7 @@ module _ (c : ℕ) (t : Token) (w m n v : Plain) (h : IsInHand c Known w) (s : S
       }
 
 -- It finds nothing, and waits again.
-module _ (c : ℕ) (w m n o v : Plain) (h : IsInHand c Known w) (a : Asks 0 c w m) (f : Fetches 0 c m n) (none : next_call m c ≡ None)
+module _ (c : ℕ) (w m n o v : Plain) (h : IsInHand c Checked w) (a : Asks 0 c w m) (f : Fetches 0 c m n) (none : next_call m c ≡ None)
     (y : Yields 0 c DataWait n o) (r : Releases 0 c o v) where
   none_is : n ≡ after_none 0 c (after_ask 0 c w)
   none_is = f.effect ∙ ap (λ (x : Option Call). after_fetch 0 c x m) none ∙ ap (after_none 0 c) a.effect

@@ -3,7 +3,7 @@ use Rattle.cy_comp.specs.Calls.{cursor_after}
 use Rattle.cy_comp.specs.Routine.{RoutineView, taken, answer_to}
 use Rattle.wake_core.specs.private.NextCall.{next_found}
 use Rattle.wake_core.specs.WorldOf.{plain_of, to_step}
-use Rattle.wake_core.specs.Plain.{hand, Known, Empty, Running}
+use Rattle.wake_core.specs.Plain.{hand, Checked, Empty, Running}
 use Rattle.wake_core.proofs.Reading.{hands_set}
 use Rattle.wake_core.proofs.Flags.{phase_flags, phase_stepping}
 use Rattle.wake_core.proofs.NextCalled.{has_called, has_missed}
@@ -23,7 +23,7 @@ call_next-requires c =
     let s = c.args.self.now in
     let n = c.args.component in
     let r : RoutineView = c.index_mut-routine.result.now in
-    let t : IsToCall s n r = record { held = c.requires.held; ready = c.requires.ready; none_held = c.requires.none_held; routine = c.index_mut-routine.ensures.value; law = c.fetches_find.ensures.find } in
+    let t : IsToCall s n r = record { held = c.requires.held; none_held = c.requires.none_held; routine = c.index_mut-routine.ensures.value; law = c.fetches_find.ensures.find } in
     let a : RoutineView = c.ask.new.self in
     let cursor : cursor_after a.calls ≡ cursor_after r.calls = ap (λ (x : RoutineView). cursor_after x.calls) c.ask.ensures in
     λ x is. may_call s n r t x.0 x.1 x.2 (call_next s n r t c.index.result.now (cursor_after a.calls) (Some x) c.index.ensures cursor (sym is)) a c.ask.ensures
@@ -34,7 +34,7 @@ invariant_of-self c =
     let s = c.args.self.now in
     let n = c.args.component in
     let r : RoutineView = c.index_mut-routine.result.now in
-    let t : IsToCall s n r = record { held = c.requires.held; ready = c.requires.ready; none_held = c.requires.none_held; routine = c.index_mut-routine.ensures.value; law = c.fetches_find.ensures.find } in
+    let t : IsToCall s n r = record { held = c.requires.held; none_held = c.requires.none_held; routine = c.index_mut-routine.ensures.value; law = c.fetches_find.ensures.find } in
     let a : RoutineView = c.ask.new.self in
     let cursor : cursor_after a.calls ≡ cursor_after r.calls = ap (λ (x : RoutineView). cursor_after x.calls) c.ask.ensures in
     let h = has_called a c.call_next.new.routine (next_found a c.index.result.now) c.call_next.result c.in-Some.outcome c.call_next.ensures.answer c.call_next.ensures.called c.in-Some.is in
@@ -45,8 +45,8 @@ invariant_of-self c =
     let world = made_world s n r t h.tuple h.position h.tail next c.call_next.new.routine is _ hands in
     record {
       sized = rw (length-set s.routines.items n c.call_next.new.routine, length-set s.hands.items 0 (hand n Running)) s.sized;
-      flagged = rw hands (phase_flags 0 n Known Running c.requires.held.held s.flagged);
-      stepping = rw hands (phase_stepping 0 n Known (hand n Running) c.requires.held.held (λ e. cc) s.stepping);
+      flagged = rw hands (phase_flags 0 n Checked Running c.requires.held.held s.flagged);
+      stepping = rw hands (phase_stepping 0 n Checked (hand n Running) c.requires.held.held (λ e. cc) s.stepping);
       waiting = made_waiting s n r t h.tuple h.position h.tail next c.call_next.new.routine is;
       visited = s.visited;
       roomy = made_roomy s n r t h.tuple h.position h.tail next c.call_next.new.routine is _ s.roomy;
@@ -61,7 +61,7 @@ invariant_of-self-in-None c =
     let s = c.args.self.now in
     let n = c.args.component in
     let r : RoutineView = c.index_mut-routine.result.now in
-    let t : IsToCall s n r = record { held = c.requires.held; ready = c.requires.ready; none_held = c.requires.none_held; routine = c.index_mut-routine.ensures.value; law = c.fetches_find.ensures.find } in
+    let t : IsToCall s n r = record { held = c.requires.held; none_held = c.requires.none_held; routine = c.index_mut-routine.ensures.value; law = c.fetches_find.ensures.find } in
     let a : RoutineView = c.ask.new.self in
     let cursor : cursor_after a.calls ≡ cursor_after r.calls = ap (λ (x : RoutineView). cursor_after x.calls) c.ask.ensures in
     let m = has_missed a c.call_next.new.routine (next_found a c.index.result.now) c.call_next.result c.call_next.ensures.answer c.call_next.ensures.called c.in-None.is in
@@ -72,8 +72,8 @@ invariant_of-self-in-None c =
     let world = missed_world s n r t none c.call_next.new.routine is _ hands in
     record {
       sized = rw (length-set s.routines.items n c.call_next.new.routine, length-set s.hands.items 0 (hand n Empty)) s.sized;
-      flagged = rw hands (phase_flags 0 n Known Empty c.requires.held.held s.flagged);
-      stepping = rw hands (phase_stepping 0 n Known (hand n Empty) c.requires.held.held (λ e. cc) s.stepping);
+      flagged = rw hands (phase_flags 0 n Checked Empty c.requires.held.held s.flagged);
+      stepping = rw hands (phase_stepping 0 n Checked (hand n Empty) c.requires.held.held (λ e. cc) s.stepping);
       waiting = missed_waiting s n r t none c.call_next.new.routine is;
       visited = s.visited;
       roomy = missed_roomy s n r t none c.call_next.new.routine is _ s.roomy;
@@ -88,7 +88,7 @@ returns-in-Some-clause-event c =
     let s = c.args.self.now in
     let n = c.args.component in
     let r : RoutineView = c.index_mut-routine.result.now in
-    let t : IsToCall s n r = record { held = c.requires.held; ready = c.requires.ready; none_held = c.requires.none_held; routine = c.index_mut-routine.ensures.value; law = c.fetches_find.ensures.find } in
+    let t : IsToCall s n r = record { held = c.requires.held; none_held = c.requires.none_held; routine = c.index_mut-routine.ensures.value; law = c.fetches_find.ensures.find } in
     let a : RoutineView = c.ask.new.self in
     let cursor : cursor_after a.calls ≡ cursor_after r.calls = ap (λ (x : RoutineView). cursor_after x.calls) c.ask.ensures in
     let h = has_called a c.call_next.new.routine (next_found a c.index.result.now) c.call_next.result c.in-Some.outcome c.call_next.ensures.answer c.call_next.ensures.called c.in-Some.is in
@@ -109,7 +109,7 @@ returns-in-None-clause-event c =
     let s = c.args.self.now in
     let n = c.args.component in
     let r : RoutineView = c.index_mut-routine.result.now in
-    let t : IsToCall s n r = record { held = c.requires.held; ready = c.requires.ready; none_held = c.requires.none_held; routine = c.index_mut-routine.ensures.value; law = c.fetches_find.ensures.find } in
+    let t : IsToCall s n r = record { held = c.requires.held; none_held = c.requires.none_held; routine = c.index_mut-routine.ensures.value; law = c.fetches_find.ensures.find } in
     let a : RoutineView = c.ask.new.self in
     let cursor : cursor_after a.calls ≡ cursor_after r.calls = ap (λ (x : RoutineView). cursor_after x.calls) c.ask.ensures in
     let m = has_missed a c.call_next.new.routine (next_found a c.index.result.now) c.call_next.result c.call_next.ensures.answer c.call_next.ensures.called c.in-None.is in
