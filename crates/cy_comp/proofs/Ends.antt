@@ -1,5 +1,5 @@
 -- The end of a list of calls.
-use Rattle.std.proofs.Common.{ℕ, ◌≡◌, ◌+◌, ◌-◌, List, [], ◌∷◌, length, slice_get, Some, None, refl}
+use Rattle.std.proofs.Common.{◌≡◌, ◌+◌, ◌-◌, List, [], ◌∷◌, length, slice_get, Some, None, refl}
 use native.Mathlib.Numerals.{unary_clauses}
 use Rattle.std.proofs.lemmas.Option.{none-some}
 use Rattle.cy_comp.specs.declared.call.Call.{Call}

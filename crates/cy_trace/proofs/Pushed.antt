@@ -25,12 +25,12 @@ abbrev pub no_arrival : Arrival
 no_arrival = (0, record { channel = 0; seq = 0; time = 0; whole = None; origin = None })
 
 -- one component more
-pub component_added : (w : Run) (plans : List Plan) (n : ℕ) (p : Plan) (to new whole : List ℕ) → n < length plans → p ≡ get_or plans n p → to ++ components_text w n (drop n plans) ≡ whole → new ≡ to ++ component_text p (w.arrivals n) (w.calls n)
+pub component_added : (w : Run) (plans : List Plan) (n : ℕ) (p : Plan) (to new whole : List ℕ) → n < length plans → p ≡ get_or plans n p → to ++ components_text w n (drop n plans) ≡ whole → new ≡ to ++ component_text p (w.arrivals n) (w.calls n) (w.ended n)
     → new ++ components_text w (n + 1) (drop (n + 1) plans) ≡ whole
 component_added w plans n p to new whole inside read so is =
     let rest = drop (n + 1) plans in
     ap (λ (l : List ℕ). l ++ components_text w (n + 1) rest) is
-    ∙ append_assoc to (component_text p (w.arrivals n) (w.calls n)) (components_text w (n + 1) rest)
+    ∙ append_assoc to (component_text p (w.arrivals n) (w.calls n) (w.ended n)) (components_text w (n + 1) rest)
     ∙ ap (λ (q : Plan). to ++ components_text w n (q ∷ rest)) read
     ∙ ap (λ (l : List Plan). to ++ components_text w n l) (sym (drop_more plans n p inside))
     ∙ so

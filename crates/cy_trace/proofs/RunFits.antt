@@ -14,11 +14,12 @@ use Rattle.cy_fuse.specs.Fusion.{Arrival, fused}
 use Rattle.cy_comp.specs.declared.call.Call.{Call}
 use Rattle.cy_comp.specs.declared.call.Out.{Out}
 use Rattle.cy_comp.specs.declared.plan.Plan.{Plan}
-use Rattle.cy_comp.specs.Calls.{cursor_after, last_outcome, is_last}
+use Rattle.cy_comp.specs.Calls.{cursor_after}
 use Rattle.cy_comp.specs.Laws.{OutcomesAreAnswers}
 use Rattle.wake_core.specs.declared.route.Route.{Route}
 use Rattle.wake_core.specs.Run.{route_of, routes_of, played_of, writes_from}
 use Rattle.wake_core.specs.Plain.{Plain}
+use Rattle.wake_core.specs.Events.{is_finished}
 use Rattle.wake_core.specs.Planned.{planned}
 use Rattle.wake_core.specs.Rest.{run_shown}
 use Rattle.wake_core.specs.Sound.{Sound, StandsOn}
@@ -68,11 +69,11 @@ cursor_fits [] k all = omega arith
 cursor_fits (x ∷ []) k all = omega (arith, all 0 x refl)
 cursor_fits (x ∷ y ∷ rest) k all = cursor_fits (y ∷ rest) k (λ n. all (suc n))
 
-component_fits : (p : Plan) (arrivals : List Arrival) (calls : List Call) → IsUtf8 p.name → ((n : ℕ) (a : Arrival) → slice_get arrivals n ≡ Some a → a.0 < 10)
+component_fits : (p : Plan) (arrivals : List Arrival) (calls : List Call) (ended : Bool) → IsUtf8 p.name → ((n : ℕ) (a : Arrival) → slice_get arrivals n ≡ Some a → a.0 < 10)
     → length calls ≤ 4294967295 → ((n : ℕ) (x : Call) → slice_get calls n ≡ Some x → Fits x) → cursor_after calls ≤ 18446744073709551615
-    → AreLines (lines_of_component (trace_component p arrivals calls))
-component_fits p arrivals calls name roles few all next =
-    (name, (mapped_each (λ r. r < 10) (λ (a : Arrival). a.0) arrivals roles, are_lines-append (map line.Call (trace_calls 0 calls)) (line.End (is_last (last_outcome p.kind calls)) (cursor_after calls) ∷ []) (calls_fit calls 0 (omega (arith, few)) all) (next, tt)))
+    → AreLines (lines_of_component (trace_component p arrivals calls ended))
+component_fits p arrivals calls ended name roles few all next =
+    (name, (mapped_each (λ r. r < 10) (λ (a : Arrival). a.0) arrivals roles, are_lines-append (map line.Call (trace_calls 0 calls)) (line.End ended (cursor_after calls) ∷ []) (calls_fit calls 0 (omega (arith, few)) all) (next, tt)))
 
 tape_fits : (names : List (List ℕ)) (tape : List Token) → ((n : ℕ) (t : Token) → slice_get tape n ≡ Some t → IsUtf8 (channel_name names t.channel) × IsShort t.seq)
     → AreLines (map line.Tape (map (tape_entry names) tape))
@@ -143,17 +144,17 @@ module _ (answers : OutcomesAreAnswers) (places : PlaceLaws) (bounds : BoundLaws
       by None e = absurd (s.consistent.delivered.known c n a is (ap (option_and_then (λ (x : Route). slice_get x.readers a.0)) (route_at c p at) ∙ e))
       by (Some r) e = omega (arith, slice_get_within p.readers a.0 r e, of.wiring.few_readers c p at)
 
-  component_at : (c : ℕ) (p : Plan) → slice_get plans c ≡ Some p → AreLines (lines_of_component (trace_component p (w.arrivals c) (w.calls c)))
+  component_at : (c : ℕ) (p : Plan) → slice_get plans c ≡ Some p → AreLines (lines_of_component (trace_component p (w.arrivals c) (w.calls c) (is_finished (w.states c))))
   component_at c p at =
       let next = cursor_fits (w.calls c) 16777217 (λ n x is. position_few c n p x at is) in
-      component_fits p (w.arrivals c) (w.calls c) (typed.components c p at) (λ n a is. role_at c n p a at is) (calls_few c p at) (λ n x is. call_at c n p x at is) (omega (arith, next))
+      component_fits p (w.arrivals c) (w.calls c) (is_finished (w.states c)) (typed.components c p at) (λ n a is. role_at c n p a at is) (calls_few c p at) (λ n x is. call_at c n p x at is) (omega (arith, next))
 
   components_fit : (rest : List Plan) (c : ℕ) → ((i : ℕ) (p : Plan) → slice_get rest i ≡ Some p → slice_get plans (c + i) ≡ Some p)
       → AreLines (flat_map lines_of_component (trace_components (run_shown w) c rest))
   components_fit [] c at = tt
   components_fit (p ∷ rest) c at =
       let here : c + 0 ≡ c = omega arith in
-      are_lines-append (lines_of_component (trace_component p (w.arrivals c) (w.calls c))) (flat_map lines_of_component (trace_components (run_shown w) (c + 1) rest))
+      are_lines-append (lines_of_component (trace_component p (w.arrivals c) (w.calls c) (is_finished (w.states c)))) (flat_map lines_of_component (trace_components (run_shown w) (c + 1) rest))
       (component_at c p (subst (λ k. slice_get plans k ≡ Some p) here (at 0 p refl)))
       (components_fit rest (c + 1) (λ i q on. let there : c + suc i ≡ c + 1 + i = omega arith in subst (λ k. slice_get plans k ≡ Some q) there (at (suc i) q on)))
 

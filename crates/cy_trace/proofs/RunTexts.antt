@@ -1,5 +1,5 @@
 -- What is written of a run, line by line.
-use Rattle.std.proofs.Common.{ℕ, ◌≡◌, ◌+◌, true, cond, List, [], ◌∷◌, ◌++◌, length, map, codes, is_some, Option, Some, None, refl, ap, sym, ◌∙◌, append_assoc}
+use Rattle.std.proofs.Common.{ℕ, ◌≡◌, ◌+◌, Bool, true, cond, List, [], ◌∷◌, ◌++◌, length, map, codes, is_some, Option, Some, None, refl, ap, sym, ◌∙◌, append_assoc}
 use Rattle.std.proofs.lemmas.List.{append-nil}
 use Rattle.std.proofs.lemmas.List.Concat.{flat_map-append}
 use Rattle.std.specs.List.{flat_map}
@@ -11,7 +11,7 @@ use Rattle.cy_fuse.specs.Fusion.{Arrival}
 use Rattle.cy_comp.specs.declared.call.Call.{Call}
 use Rattle.cy_comp.specs.declared.call.Out.{Out}
 use Rattle.cy_comp.specs.declared.plan.Plan.{Plan}
-use Rattle.cy_comp.specs.Calls.{cursor_after, last_outcome, is_last}
+use Rattle.cy_comp.specs.Calls.{cursor_after}
 use Rattle.wake_core.specs.Run.{Run, routes_of, played_of}
 use Rattle.cy_trace.specs.TraceText.{title, played_line, roles_text, out_text, call_line, call_lines, end_line, component_text, components_text, tape_line, trace_text}
 use Rattle.cy_trace.specs.TraceForm.{line_text, whole_line, lines_of_component, text_of_trace, numbers_text, digits_text, output_text}
@@ -50,23 +50,23 @@ joined_component : (prefix name newline middle roles calls end : List ℕ)
     → prefix ++ name ++ newline ++ middle ++ roles ++ newline ++ calls ++ end ≡ (prefix ++ name ++ newline) ++ ((middle ++ roles ++ newline) ++ (calls ++ end))
 joined_component prefix name newline middle roles calls end = simp append_assoc
 
-component_same : (p : Plan) (arrivals : List Arrival) (calls : List Call) → component_text p arrivals calls ≡ flat_map whole_line (lines_of_component (trace_component p arrivals calls))
+component_same : (p : Plan) (arrivals : List Arrival) (calls : List Call) (ended : Bool) → component_text p arrivals calls ended ≡ flat_map whole_line (lines_of_component (trace_component p arrivals calls ended))
 unfolding line_text
-component_same p arrivals calls =
-    let end = end_line (is_last (last_outcome p.kind calls)) (cursor_after calls) in
+component_same p arrivals calls ended =
+    let end = end_line ended (cursor_after calls) in
     joined_component (codes "component ") (quoted true p.name) (codes "\n") (codes "roles ") (roles_text arrivals) (call_lines 0 calls) end
     ∙ ap (λ (rs : List ℕ). (codes "component " ++ quoted true p.name ++ 10 ∷ []) ++ ((codes "roles " ++ rs ++ 10 ∷ []) ++ (call_lines 0 calls ++ end))) (roles_same arrivals)
     ∙ ap (λ (xs : List ℕ). (codes "component " ++ quoted true p.name ++ 10 ∷ []) ++ ((codes "roles " ++ digits_text (map (λ (a : Arrival). a.0) arrivals) ++ 10 ∷ []) ++ xs)) (
     ap (λ (xs : List ℕ). xs ++ end) (calls_same 0 calls)
     ∙ ap (λ (xs : List ℕ). flat_map whole_line (map line.Call (trace_calls 0 calls)) ++ xs) (sym (append-nil end))
-    ∙ sym (flat_map-append whole_line (map line.Call (trace_calls 0 calls)) (line.End (is_last (last_outcome p.kind calls)) (cursor_after calls) ∷ [])))
+    ∙ sym (flat_map-append whole_line (map line.Call (trace_calls 0 calls)) (line.End ended (cursor_after calls) ∷ [])))
 
 components_same : (w : Run) (c : ℕ) (plans : List Plan) → components_text w c plans ≡ flat_map whole_line (flat_map lines_of_component (trace_components w c plans))
 components_same w c [] = refl
 components_same w c (p ∷ rest) =
-    ap (λ (xs : List ℕ). xs ++ components_text w (c + 1) rest) (component_same p (w.arrivals c) (w.calls c))
-    ∙ ap (λ (xs : List ℕ). flat_map whole_line (lines_of_component (trace_component p (w.arrivals c) (w.calls c))) ++ xs) (components_same w (c + 1) rest)
-    ∙ sym (flat_map-append whole_line (lines_of_component (trace_component p (w.arrivals c) (w.calls c))) (flat_map lines_of_component (trace_components w (c + 1) rest)))
+    ap (λ (xs : List ℕ). xs ++ components_text w (c + 1) rest) (component_same p (w.arrivals c) (w.calls c) (w.ended c))
+    ∙ ap (λ (xs : List ℕ). flat_map whole_line (lines_of_component (trace_component p (w.arrivals c) (w.calls c) (w.ended c))) ++ xs) (components_same w (c + 1) rest)
+    ∙ sym (flat_map-append whole_line (lines_of_component (trace_component p (w.arrivals c) (w.calls c) (w.ended c))) (flat_map lines_of_component (trace_components w (c + 1) rest)))
 
 tape_same : (names : List (List ℕ)) (tape : List Token) → flat_map (tape_line names) tape ≡ flat_map whole_line (map line.Tape (map (tape_entry names) tape))
 unfolding line_text

@@ -1,13 +1,13 @@
 -- The trace of a run, as a value.
-use Rattle.std.specs.Prelude.{ℕ, ◌+◌, if◌then◌else◌, is_some, List, [], ◌∷◌, length, map, Option}
-use Rattle.std.specs.Prelude.{Some, None}
+use Rattle.std.specs.Prelude.{ℕ, ◌+◌, Bool, if◌then◌else◌, is_some, List, [], ◌∷◌, length, map}
+use Rattle.std.specs.Prelude.{Option, Some, None}
 use Rattle.cy_msg.specs.Tuple.{messages_of}
 use Rattle.cy_msg.specs.declared.token.Token.{Token}
 use Rattle.cy_fuse.specs.Fusion.{Arrival}
 use Rattle.cy_comp.specs.declared.call.Call.{Call}
 use Rattle.cy_comp.specs.declared.call.Out.{Out}
 use Rattle.cy_comp.specs.declared.plan.Plan.{Plan}
-use Rattle.cy_comp.specs.Calls.{cursor_after, last_outcome, is_last}
+use Rattle.cy_comp.specs.Calls.{cursor_after}
 use Rattle.wake_core.specs.Run.{Run, routes_of, played_of}
 use Rattle.cy_msg.specs.Names.{channel_name}
 use Rattle.cy_trace.specs.declared.trace.TraceOutput.{TraceOutput}
@@ -40,19 +40,19 @@ trace_calls before [] = []
 trace_calls before (x ∷ rest) = trace_call before x
     ∷ trace_calls (before + (if is_some x.out then 1 else 0)) rest
 
-abbrev pub trace_component : Plan → List Arrival → List Call → TraceComponent
-trace_component p arrivals calls = record {
+abbrev pub trace_component : Plan → List Arrival → List Call → (ended : Bool) → TraceComponent
+trace_component p arrivals calls ended = record {
   name = p.name;
   roles = map (λ (a : Arrival). a.0) arrivals;
   calls = trace_calls 0 calls;
-  finished = is_last (last_outcome p.kind calls);
+  finished = ended;
   next = cursor_after calls;
 }
 
 -- The components from a number on.
 abbrev pub trace_components : Run → ℕ → List Plan → List TraceComponent
 trace_components w c [] = []
-trace_components w c (p ∷ rest) = trace_component p (w.arrivals c) (w.calls c)
+trace_components w c (p ∷ rest) = trace_component p (w.arrivals c) (w.calls c) (w.ended c)
     ∷ trace_components w (c + 1) rest
 
 abbrev pub tape_entry : List (List ℕ) → Token → TapeEntry

@@ -12,7 +12,7 @@ use Rattle.cy_fuse.specs.Fusion.{Arrival}
 use Rattle.cy_comp.specs.declared.call.Call.{Call}
 use Rattle.cy_comp.specs.declared.call.Out.{Out}
 use Rattle.cy_comp.specs.declared.plan.Plan.{Plan}
-use Rattle.cy_comp.specs.Calls.{cursor_after, last_outcome, is_last}
+use Rattle.cy_comp.specs.Calls.{cursor_after}
 use Rattle.wake_core.specs.Run.{Run, routes_of, played_of}
 
 -- The first line: the form's name and version.
@@ -56,21 +56,21 @@ call_lines before (x ∷ rest) = call_line before x
     ++ call_lines (before + (if is_some x.out then 1 else 0)) rest
 
 -- Whether the component has ended, and where its next fetch would begin.
-abbrev pub end_line : Bool → ℕ → List ℕ
-end_line finished next = codes "end " ++ (if finished then codes "FINISHED" else codes "DATA_WAIT")
+abbrev pub end_line : (ended : Bool) → (next : ℕ) → List ℕ
+end_line ended next = codes "end " ++ (if ended then codes "FINISHED" else codes "DATA_WAIT")
     ++ codes " next " ++ decimal next ++ codes "\n"
 
-abbrev pub component_text : Plan → List Arrival → List Call → List ℕ
-component_text p arrivals calls =
+abbrev pub component_text : Plan → List Arrival → List Call → (ended : Bool) → List ℕ
+component_text p arrivals calls ended =
     codes "component " ++ quoted true p.name ++ codes "\n" ++ codes "roles " ++ roles_text arrivals
     ++ codes "\n"
-    ++ call_lines 0 calls ++ end_line (is_last (last_outcome p.kind calls)) (cursor_after calls)
+    ++ call_lines 0 calls ++ end_line ended (cursor_after calls)
 
 -- The components from a number on.
 abbrev pub components_text : Run → ℕ → List Plan → List ℕ
 components_text w c [] = []
-components_text w c (p ∷ rest) = component_text p (w.arrivals c) (w.calls c) ++ components_text w
-    (c + 1) rest
+components_text w c (p ∷ rest) = component_text p (w.arrivals c) (w.calls c) (w.ended c)
+    ++ components_text w (c + 1) rest
 
 abbrev pub tape_line : List (List ℕ) → Token → List ℕ
 tape_line names t = codes "tape " ++ quoted true (channel_name names t.channel) ++ codes " "

@@ -6,7 +6,7 @@ ghost use Rattle.std.specs.List.{flat_map};
 ghost use Rattle.std.specs.Fmt.{decimal};
 ghost use Rattle.cy_msg.specs.declared.token.Token.{Token};
 ghost use Rattle.cy_fuse.specs.Fusion.{Arrival};
-ghost use Rattle.cy_comp.specs.Calls.{last_outcome, is_last, cursor_after};
+ghost use Rattle.cy_comp.specs.Calls.{cursor_after};
 ghost use Rattle.cy_trace.specs.TraceText.{title, played_line, roles_text, value_text, out_text};
 ghost use Rattle.cy_trace.specs.TraceText.{seqs_text, call_line, call_lines, end_line};
 ghost use Rattle.cy_trace.specs.TraceText.{component_text, tape_line};
@@ -16,7 +16,7 @@ ghost use Rattle.cy_trace.specs.private.OutsAfter.{outs_after};
 use crate::numeral::{Numeral, put_kept};
 use crate::page::{ROOM, put_byte, put_number, put_signed, put_word};
 use crate::start::{LineStart, are_short, line_starts, put_start};
-use cy_comp::{Call, Kind, Out, Plan, is_finished, next_cursor};
+use cy_comp::{Call, Out, Plan, next_cursor};
 use cy_msg::{Names, Token, Tuple, push_quoted};
 use itoa::{Buffer, Integer};
 use std::alloc::{AllocError, Global};
@@ -224,15 +224,11 @@ fn push_digits(to: &mut Vec<u8>, arrivals: &[(u8, Token)]) -> Result<(), AllocEr
 }
 
 // Whether a component has ended, and where its next fetch would begin.
-fn push_end_line(to: &mut Vec<u8>, kind: &Kind, calls: &[Call]) -> Result<(), AllocError>
+fn push_end_line(to: &mut Vec<u8>, ended: bool, calls: &[Call]) -> Result<(), AllocError>
     ensures { OnOk result (to.new.items ≡ to.old.items
-        ++ end_line (is_last (last_outcome kind.now calls.now)) (cursor_after calls.now)) }
+        ++ end_line ended (cursor_after calls.now)) }
 {
-    let state = if is_finished(kind, calls) {
-        "FINISHED"
-    } else {
-        "DATA_WAIT"
-    };
+    let state = if ended { "FINISHED" } else { "DATA_WAIT" };
     to.extend_from_slice(b"end ")?;
     to.extend_from_slice(state.as_bytes())?;
     to.extend_from_slice(b" next ")?;
@@ -246,10 +242,11 @@ pub(crate) fn push_component(
     plan: &Plan,
     arrivals: &[(u8, Token)],
     calls: &[Call],
+    ended: bool,
 ) -> Result<(), AllocError>
     requires { (n : ℕ) (a : Arrival) → slice_get arrivals.now n ≡ Some a → a.0 < 10 }
     ensures { OnOk result (to.new.items ≡ to.old.items
-        ++ component_text plan.now arrivals.now calls.now) }
+        ++ component_text plan.now arrivals.now calls.now ended) }
 {
     to.extend_from_slice(b"component ")?;
     push_quoted(to, plan.name.as_str().as_bytes(), true)?;
@@ -257,7 +254,7 @@ pub(crate) fn push_component(
     push_roles(to, arrivals)?;
     to.extend_from_slice(b"\n")?;
     push_call_lines(to, calls)?;
-    push_end_line(to, &plan.kind, calls)
+    push_end_line(to, ended, calls)
 }
 
 // A message of the tape, but for what the lines of its channel begin with.

@@ -2,6 +2,7 @@
 ghost use Rattle.std.specs.Prelude.{◌≡◌, ◌<◌, ◌≤◌, ◌++◌, length, IfOk, IfErr, OnOk};
 ghost use Rattle.wake_core.specs.Run.{routes_of};
 ghost use Rattle.wake_core.specs.WorldOf.{plain_of};
+ghost use Rattle.wake_core.specs.Events.{is_finished};
 ghost use Rattle.wake_core.specs.LawfulRun.{Quiet};
 ghost use Rattle.wake_core.specs.Rest.{run_shown};
 ghost use Rattle.wake_core.specs.declared.entries.TheConstants.{MOST_PLANNED};
@@ -12,7 +13,7 @@ ghost use Rattle.cy_trace.specs.TraceText.{component_text, components_text, trac
 use crate::TraceError;
 use crate::lines::{push_component, push_head, push_tape_lines};
 use crate::typed::trace_is_read_back;
-use cy_comp::{Call, Plan, Wiring};
+use cy_comp::{Call, Plan, State, Wiring};
 use cy_msg::Bytes;
 use std::alloc::{AllocError, Global};
 use wake_core::World;
@@ -91,14 +92,26 @@ fn push_numbered(
     requires quiet { Quiet (plain_of world.now) }
     requires known { component < length (plain_of world.now).routes }
     ensures { OnOk result (to.new.items ≡ to.old.items ++ component_text plan.now
-        ((plain_of world.now).arrivals component) ((plain_of world.now).calls component)) }
+        ((plain_of world.now).arrivals component) ((plain_of world.now).calls component)
+        (is_finished ((plain_of world.now).states component))) }
 {
     push_component(
         to,
         plan,
         world.arrivals(component),
         calls_of(world, component),
+        has_ended(world, component),
     )
+}
+
+// Whether a component has ended, in a world whose run has come to its end.
+fn has_ended(world: &World, component: u32) -> bool
+    requires quiet { Quiet (plain_of world.now) }
+    requires known { component < length (plain_of world.now).routes }
+    ensures { result ≡ is_finished ((plain_of world.now).states component) }
+{
+    world.sound();
+    matches!(world.routine(component).state(), State::Finished)
 }
 
 /// The calls of a component of a world whose run has come to its end. Nobody holds a croutine

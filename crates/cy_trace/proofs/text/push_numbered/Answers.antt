@@ -1,4 +1,4 @@
-use Rattle.std.proofs.Common.{List, ◌++◌, ◌∙◌, ap, arith}
+use Rattle.std.proofs.Common.{Bool, List, ◌++◌, ◌∙◌, ap, arith}
 use Rattle.cy_fuse.specs.Fusion.{Arrival}
 use Rattle.cy_comp.specs.declared.call.Call.{Call}
 use Rattle.wake_core.specs.WorldOf.{plain_of}
@@ -13,4 +13,9 @@ pub returns : goal.returns
 returns c =
     let to = c.args.to.now.items in
     let plan = c.args.plan.now in
-    on_ok c.push_component.result _ _ (λ so. so ∙ ap (λ (arrived : List Arrival). to ++ component_text plan arrived c.calls_of.result.now) c.arrivals.ensures.arrivals ∙ ap (λ (calls : List Call). to ++ component_text plan ((plain_of c.args.world.now).arrivals c.args.component) calls) c.calls_of.ensures) c.push_component.ensures
+    let arrivals = (plain_of c.args.world.now).arrivals c.args.component in
+    let calls = (plain_of c.args.world.now).calls c.args.component in
+    on_ok c.push_component.result _ _ (λ so. so
+    ∙ ap (λ (arrived : List Arrival). to ++ component_text plan arrived c.calls_of.result.now c.has_ended.result) c.arrivals.ensures.arrivals
+    ∙ ap (λ (made : List Call). to ++ component_text plan arrivals made c.has_ended.result) c.calls_of.ensures
+    ∙ ap (λ (ended : Bool). to ++ component_text plan arrivals calls ended) c.has_ended.ensures) c.push_component.ensures
