@@ -50,6 +50,13 @@ is_finished DataWait = false
 is_finished (Sleep until) = false
 is_finished Finished = true
 
+-- Whether a state is READY.
+abbrev pub is_ready : State → Bool
+is_ready Ready = true
+is_ready DataWait = false
+is_ready (Sleep until) = false
+is_ready Finished = false
+
 -- Acquire: a thread with nothing in hand takes a croutine that is free.
 abbrev pub after_acquire : (p c : ℕ) → Plain → Plain
 after_acquire p c w = record w { hands = set_at p (hand c Fresh) w.hands }

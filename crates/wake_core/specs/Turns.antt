@@ -1,25 +1,28 @@
 -- What the serial run does with a world, call by call. Thread 0 does all of it.
-use Rattle.std.specs.Prelude.{ℕ, zero, suc, ◌+◌, ◌-◌, ◌*◌, ◌≡◌, ◌≢◌, ◌<◌, ◌⊎◌, ◌&&◌, Bool, true}
+use Rattle.std.specs.Prelude.{ℕ, zero, suc, ◌+◌, ◌-◌, ◌*◌, ◌≡◌, ◌≢◌, ◌≤◌, ◌<◌, ◌⊎◌, ◌&&◌, Bool, true}
 use Rattle.std.specs.Prelude.{false, not, List, [], ◌∷◌, ◌++◌, length, Option, Some, slice_get}
-use Rattle.std.specs.Prelude.{None, if◌then◌else◌, nat_lt, is_some}
+use Rattle.std.specs.Prelude.{None, if◌then◌else◌, nat_lt, is_some, take, drop}
 use Rattle.std.specs.Option.{option_map_or}
 use Rattle.cy_msg.specs.declared.token.Token.{Token}
+use Rattle.cy_msg.specs.Tokens.{IsNumbered, IsTimed}
 use Rattle.cy_comp.specs.declared.call.Call.{Call}
 use Rattle.cy_comp.specs.declared.call.Outcome.{Outcome}
 use Rattle.cy_comp.specs.Calls.{held_until}
 use Rattle.wake_core.specs.Run.{Route, set_at, arrive, readers_of, played_of}
 use Rattle.wake_core.specs.Planned.{planned_count, first_reader, counts_from}
 use Rattle.wake_core.specs.Settle.{Settles}
-use Rattle.wake_core.specs.Serial.{is_runnable, resume, play, next}
-use Rattle.wake_core.specs.Plain.{Plain, hand, State, Ready, DataWait, Sleep, Finished, Phase}
+use Rattle.wake_core.specs.Serial.{Raised, is_roused, is_runnable, resume, play, next, Plays}
+use Rattle.wake_core.specs.Plain.{Plain, Stop, hand, State, Ready, DataWait, Sleep, Finished, Phase}
 use Rattle.wake_core.specs.Plain.{Known, Checked, Stopping, Running, stops, lists, lists_reader}
 use Rattle.wake_core.specs.Plain.{last_of, unsent_of, found_by}
 use Rattle.wake_core.specs.Events.{OwesNothing, IsDue, Asks, Fetches, Sends, Yields, Releases}
 use Rattle.wake_core.specs.Events.{next_call, after_send, after_yield, is_waiting, is_finished}
+pub use Rattle.wake_core.specs.Events.{is_ready}
 use Rattle.wake_core.specs.WorldCalls.{in_hand, phase_sent}
 use Rattle.wake_core.specs.Laws.{IsIdle}
 use Rattle.wake_core.specs.Sound.{Sound}
-use Rattle.wake_core.specs.Rest.{IsAtRest, run_shown, StaysFixed}
+use Rattle.wake_core.specs.Rest.{IsAtRest, run_shown, StaysFixed, StaysMade, IsToPlay, Heeds}
+use Rattle.wake_core.specs.Rest.{is_loose}
 
 -- A component's flag after a message came to some readers: where the component waits and the first
 -- of its readers is among them the flag is clear, else it is as it was.
@@ -59,13 +62,22 @@ pub record MaySendOut (t : Token) (w : Plain) : Type 0 where
       (after_send 0 (in_hand 0 w) (phase_sent (w.hands 0)) t w)
 
 -- A message is played: the world is at rest again, and shows that.
-pub record Plays (t : Token) (w v : Plain) : Type 0 where
+pub record IsPut (t : Token) (w v : Plain) : Type 0 where
   pub rest : IsAtRest v
   pub run : run_shown v ≡ play w.routes t (run_shown w)
   pub routes : v.routes ≡ w.routes
   pub counts : v.counts ≡ w.counts
+  pub stop : v.stop ≡ w.stop
   pub closing : v.closing ≡ w.closing
+  pub raised : v.raised ≡ w.raised
   pub played : played_of v.routes v.tape ≡ played_of w.routes w.tape ++ t ∷ []
+  -- The flag of one that waits and was told is clear, and all else stays of states and flags.
+  pub states : v.states ≡ w.states
+  pub spent : (c : ℕ) → v.spent c ≡ flag_after (readers_of w.routes t.channel) w c
+
+-- Whether a flag wakes a croutine: it waits, and its flag is clear.
+abbrev pub is_woken : State → (was_spent : Bool) → Bool
+is_woken state was_spent = is_waiting state && not was_spent
 
 -- A croutine is parked: its flag is spent, and it is neither READY nor due.
 pub record IsParked (c : ℕ) (w : Plain) : Type 0 where
@@ -88,6 +100,7 @@ pub record Takes (c : ℕ) (w v : Plain) : Type 0 where
   pub woken : v.states c ≡ Ready → (IsDue (w.states c) w.clock → ⊥)
       → (w.states c ≡ Ready) ⊎ (w.spent c ≡ false)
   pub parked : v.states c ≢ Ready → IsParked c v × (v.states c ≡ w.states c)
+  pub wakes : is_woken (w.states c) (w.spent c) ≡ true → v.states c ≡ Ready
   pub ended : is_finished (v.states c) ≡ is_finished (w.states c)
 
 -- A croutine was taken, and is READY.
@@ -101,6 +114,7 @@ pub record Passes (order : List ℕ) (w v : Plain) : Type 0 where
   pub effect : v ≡ record w { spent = v.spent }
   pub spends : (c : ℕ) → w.spent c ≡ true → v.spent c ≡ true
   pub parked : (c : ℕ) → lists c order ≡ true → IsParked c v
+  pub waited : (c : ℕ) → lists c order ≡ true → is_woken (w.states c) (w.spent c) ≡ false
   pub others : (c : ℕ) → lists c order ≡ false → v.spent c ≡ w.spent c
 
 -- The first of them that is READY is in hand.
@@ -198,30 +212,19 @@ abbrev pub left_of : Plain → ℕ
 left_of w = tape_left w
     + sum_below (length w.routes) (λ c. calls_left w.routes w.counts c (w.calls c))
 
--- Whether a croutine is READY, and whether it is due.
-abbrev pub is_ready : State → Bool
-is_ready Ready = true
-is_ready DataWait = false
-is_ready (Sleep until) = false
-is_ready Finished = false
-
+-- Whether a croutine is due.
 abbrev pub is_due : State → (clock : ℕ) → Bool
 is_due Ready clock = false
 is_due DataWait clock = false
 is_due (Sleep until) clock = nat_lt until clock
 is_due Finished clock = false
 
--- Whether a flag wakes a croutine: it waits, and its flag is clear.
-abbrev pub is_woken : State → (was_spent : Bool) → Bool
-is_woken state was_spent = is_waiting state && not was_spent
-
 -- Whether there is a time until which an output is held back.
 abbrev pub is_held : Option ℕ → Bool
 is_held until = is_some until
 
--- A croutine is loose where it is READY or its flag is clear.
 abbrev pub loose : State → (was_spent : Bool) → ℕ
-loose state was_spent = if not (is_ready state) && was_spent then 0 else 1
+loose state was_spent = if is_loose state was_spent then 1 else 0
 
 abbrev pub loose_of : Plain → ℕ
 loose_of w = sum_below (length w.routes) (λ c. loose (w.states c) (w.spent c))
@@ -230,21 +233,39 @@ loose_of w = sum_below (length w.routes) (λ c. loose (w.states c) (w.spent c))
 abbrev pub turns_left : Plain → ℕ
 turns_left w = left_of w * (length w.routes + 1) + loose_of w
 
--- What a croutine that was taken came to, once it is given back: a step of the serial run; or it
--- found nothing, and waits again.
+-- This is the raised stop that names a croutine, or none does. Where nothing of it is unsent, it is to
+-- be resumed for that.
+abbrev pub IsNamed : Option Raised → (c : ℕ) → Plain → Type 0
+IsNamed None c w = stops w.stop w.raised c ≡ false
+IsNamed (Some r) c w = (stops w.stop w.raised c ≡ true)
+    × (unsent_of w c ≡ None → is_roused r (w.arrivals c) ≡ true)
+
+-- What a croutine that was taken came to is a step of the serial run.
+pub record IsStep (c : ℕ) (w v : Plain) (stop : Option Raised) : Type 0 where
+  pub can : is_runnable w.routes stop (run_shown w) c ≡ true
+  pub run : run_shown v ≡ resume w.routes stop (run_shown w) c
+
+-- It was given back in a state, and nothing of it is unsent.
+pub record Rests (c : ℕ) (state : State) (w v : Plain) : Type 0 where
+  pub same : v ≡ record w { states = set_at c state w.states; hands = v.hands }
+  pub none_held : unsent_of w c ≡ None
+
+-- It came to a step that leaves less room; or it ended, since it was stopped; or it found nothing,
+-- and waits again.
 pub record Steps (c : ℕ) (w v : Plain) : Type 0 where
-  pub can : is_runnable w.routes (run_shown w) c ≡ true
-  pub run : run_shown v ≡ resume w.routes (run_shown w) c
+  pub step : (stop : Option Raised) → IsNamed stop c w → IsStep c w v stop
   pub left : left_of v < left_of w
 
-pub record Waits (c : ℕ) (w v : Plain) : Type 0 where
-  pub same : v ≡ record w { states = set_at c DataWait w.states; hands = v.hands }
-  pub none_held : unsent_of w c ≡ None
+pub record Leaves (c : ℕ) (w v : Plain) : Type 0 where
+  pub step : (stop : Option Raised) → IsNamed stop c w → IsStep c w v stop
+  pub rests : Rests c Finished w v
 
 pub record Resumes (c : ℕ) (w v : Plain) : Type 0 where
   pub rest : IsAtRest v
   pub stays : StaysFixed w v
-  pub turn : Steps c w v ⊎ Waits c w v
+  pub turn : Steps c w v ⊎ Leaves c w v ⊎ Rests c DataWait w v
+  -- One that is stopped has ended.
+  pub ended : stops w.stop w.raised c ≡ true → v.states c ≡ Finished
 
 -- The next turn of a croutine would find nothing: it is READY, nothing of it is unsent, and there
 -- is nothing for it to fetch.
@@ -270,16 +291,47 @@ pub record Parks (c : ℕ) (w v : Plain) : Type 0 where
 
 -- One turn of a scan: the first croutine that is READY was resumed. Either it is the first that can
 -- be resumed in the serial run, and was; or the world shows what it showed before.
+abbrev pub IsNextOrSame : Option Raised → (scan : List ℕ) → (w v : Plain) → Type 0
+IsNextOrSame stop scan w v = (next w.routes stop scan (run_shown w) ≡ Some (run_shown v))
+    ⊎ (run_shown v ≡ run_shown w)
+
 pub record Turns (scan : List ℕ) (w v : Plain) : Type 0 where
   pub rest : IsAtRest v
   pub stays : StaysFixed w v
-  pub shows : (next w.routes scan (run_shown w) ≡ Some (run_shown v))
-      ⊎ (run_shown v ≡ run_shown w)
+  pub shows : (stop : Option Raised) → Heeds stop w → IsNextOrSame stop scan w v × Heeds stop v
   pub fewer : turns_left v < turns_left w
 
 -- Croutines were resumed until none was READY in a whole scan: all are parked.
 pub record IsSettled (scan : List ℕ) (w v : Plain) : Type 0 where
   pub rest : IsAtRest v
   pub stays : StaysFixed w v
-  pub settles : Settles (next w.routes scan) (run_shown w) (run_shown v)
+  pub settles : (stop : Option Raised) → Heeds stop w
+      → Settles (next w.routes stop scan) (run_shown w) (run_shown v) × Heeds stop v
   pub parked : (c : ℕ) → lists c scan ≡ true → IsParked c v
+
+-- So many messages of a list were played in a world at rest, and the next one is not earlier than
+-- its clock.
+pub record IsPlayedTo (tokens : List Token) (w : Plain) (n : ℕ) : Type 0 where
+  pub rest : IsAtRest w
+  pub made : IsToPlay w tokens
+  pub played : played_of w.routes w.tape ≡ take n tokens
+  pub later : (t : Token) → slice_get tokens n ≡ Some t → w.clock ≤ t.time
+
+-- Those from one place to another may be played: the stop, if there is one, is raised already, or
+-- not before the last of them.
+pub record MayPlayOn (tokens : List Token) (n m : ℕ) (w : Plain) : Type 0 where
+  pub timed : IsTimed tokens
+  pub numbered : IsNumbered tokens
+  pub played : IsPlayedTo tokens w n
+  pub within : m ≤ length tokens
+  pub in_time : (s : Stop) → w.stop ≡ Some s → (w.raised ≡ true) ⊎ (m ≤ s.after)
+
+-- They were played, and what each started has settled.
+pub record PlaysOn (scan : List ℕ) (tokens : List Token) (n m : ℕ) (w v : Plain) : Type 0 where
+  pub played : IsPlayedTo tokens v m
+  pub made : StaysMade w v
+  pub raised : v.raised ≡ w.raised
+  pub plays : (stop : Option Raised) → Heeds stop w
+      → Plays w.routes stop scan (take (m - n) (drop n tokens)) (run_shown w) (run_shown v)
+      × Heeds stop v
+  pub parked : n < m → (c : ℕ) → lists c scan ≡ true → IsParked c v

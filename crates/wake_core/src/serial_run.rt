@@ -22,21 +22,23 @@ use cy_msg::{ContextPlan, Placement, PlayList, Token};
 
 /// Plays the messages of a list, one after another, in a world that was made for it and in which
 /// nothing has happened. After each message the croutines are resumed in the order of the scan as
-/// long as one is READY; after the last one the clock is set to its greatest value. It takes no
-/// memory.
+/// long as one is READY; after the last one the clock is set to its greatest value. A stop is raised
+/// when as many messages as it says were played. It takes no memory.
 pub fn serial(world: &mut World, list: &PlayList, placement: &Placement)
     requires { MayPlay (plain_of world.old) list.now.tokens (scan_of placement.now.contexts) }
-    ensures run { SerialRun (plain_of world.old).routes (scan_of placement.now.contexts)
-        list.now.tokens (run_shown (plain_of world.new)) }
-    ensures lawful { LawfulRun list.now.tokens (plain_of world.old).routes (plain_of world.new) }
+    ensures run { SerialRun (plain_of world.old).routes (plain_of world.old).stop
+        (scan_of placement.now.contexts) list.now.tokens (run_shown (plain_of world.new)) }
+    ensures lawful { LawfulRun list.now.tokens (plain_of world.old).routes
+        (plain_of world.old).stop (plain_of world.new) }
     ensures stays { StaysMade (plain_of world.old) (plain_of world.new) }
 {
     outcomes_are_answers();
     let contexts = placement.contexts.as_slice();
-    for token in list.tokens.as_slice() {
-        play(world, token);
-        settle(world, contexts);
-    }
+    let tokens = list.tokens.as_slice();
+    let place = stop_place(world, tokens.len());
+    play_all(world, tokens, 0, place, contexts);
+    raise(world);
+    play_all(world, tokens, place, tokens.len(), contexts);
     end_clock(world);
     settle(world, contexts);
 }
@@ -45,13 +47,36 @@ pub fn serial(world: &mut World, list: &PlayList, placement: &Placement)
 /// one is READY. It takes no memory.
 pub fn finish(world: &mut World, placement: &Placement)
     requires { MayFinish (plain_of world.old) (scan_of placement.now.contexts) }
-    ensures settles { Settles (next (plain_of world.old).routes (scan_of placement.now.contexts))
+    ensures settles { (stop : Option Raised) → Heeds stop (plain_of world.old)
+        → Settles (next (plain_of world.old).routes stop (scan_of placement.now.contexts))
         (run_shown (plain_of world.old)) (run_shown (plain_of world.new)) }
     ensures quiet { Quiet (plain_of world.new) }
     ensures stays { StaysFixed (plain_of world.old) (plain_of world.new) }
 {
     outcomes_are_answers();
     settle(world, placement.contexts.as_slice());
+}
+
+// How many messages of so many are played before the stop is raised: all, where there is none.
+fn stop_place(world: &World, count: usize) -> usize
+    ensures { result ≡ place_of (plain_of world.now).stop count }
+{
+    match world.given() {
+        Some(stop) => stop.after as usize,
+        None => count,
+    }
+}
+
+// Raises the stop, if there is one.
+fn raise(world: &mut World)
+    requires { (s : Stop) → (plain_of world.old).stop ≡ Some s → MayStop (plain_of world.old) }
+    ensures none { (plain_of world.old).stop ≡ None → plain_of world.new ≡ plain_of world.old }
+    ensures raised { (s : Stop) → (plain_of world.old).stop ≡ Some s
+        → plain_of world.new ≡ after_stop (plain_of world.old) }
+{
+    if world.given().is_some() {
+        world.stop(0);
+    }
 }
 
 // Sets the clock to its greatest value.
@@ -62,12 +87,26 @@ fn end_clock(world: &mut World)
     world.tick(0, u64::MAX);
 }
 
+// Plays the messages from one place to another, one after another, and what each starts settles.
+fn play_all(world: &mut World, tokens: &[Token], from: usize, to: usize, contexts: &[ContextPlan])
+    requires may { MayPlayOn tokens.now from to (plain_of world.old) }
+    requires scan { IsScanOf (length (plain_of world.old).routes) (scan_of contexts.now) }
+    requires order { from ≤ to }
+    ensures { PlaysOn (scan_of contexts.now) tokens.now from to (plain_of world.old)
+        (plain_of world.new) }
+{
+    for index in from..to {
+        play(world, &tokens[index]);
+        settle(world, contexts);
+    }
+}
+
 // Plays the next message.
 fn play(world: &mut World, token: &Token)
     requires rest { IsAtRest (plain_of world.old) }
     requires later { (plain_of world.old).clock ≤ token.now.time }
-    requires next { IsNext token.now (plain_of world.old) }
-    ensures { Plays token.now (plain_of world.old) (plain_of world.new) }
+    requires next { MayPut token.now (plain_of world.old) }
+    ensures { IsPut token.now (plain_of world.old) (plain_of world.new) }
 {
     world.tick(0, token.time);
     world.tape(0, *token);
@@ -138,10 +177,37 @@ fn first_ready(world: &mut World, order: &[u32]) -> Option<u32>
     None
 }
 
-// Resumes the READY croutine in hand, and gives it back.
+// Resumes the READY croutine in hand, and gives it back: it ends where it is stopped.
 fn resume(world: &mut World, component: u32)
     requires held { IsInHand component Known (plain_of world.old) }
     requires ready { (plain_of world.old).states component ≡ Ready }
+    ensures { Resumes component (plain_of world.old) (plain_of world.new) }
+{
+    if world.check(0) {
+        end(world, component);
+    } else {
+        go_on(world, component);
+    }
+}
+
+// Sends the output that the stopped croutine in hand holds back, if there is one, and ends it.
+fn end(world: &mut World, component: u32)
+    requires held { IsInHand component Stopping (plain_of world.old) }
+    ensures { Resumes component (plain_of world.old) (plain_of world.new) }
+{
+    world.sound();
+    if let Some(token) = world.unsent(component) {
+        send(world, token);
+    }
+    world.give_back(State::Finished);
+}
+
+// Resumes the croutine in hand that isn't stopped.
+fn go_on(world: &mut World, component: u32)
+    requires held { IsInHand component Checked (plain_of world.old) }
+    requires ready { (plain_of world.old).states component ≡ Ready }
+    requires unstopped { stops (plain_of world.old).stop (plain_of world.old).raised component
+        ≡ false }
     ensures { Resumes component (plain_of world.old) (plain_of world.new) }
 {
     world.sound();
