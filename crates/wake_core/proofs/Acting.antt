@@ -1,21 +1,22 @@
 -- What the calls on a croutine in hand need and give, where thread 0 alone does anything.
-use Rattle.std.proofs.Common.{ℕ, ◌≡◌, ◌≢◌, Bool, true, false, refl, sym, ◌∙◌, ap, subst, inl, inr, List, [], Option, Some, None, is_some, option_map, arith, ◌<◌, ◌∷◌, ◌++◌, length, slice_get}
+use Rattle.std.proofs.Common.{ℕ, ◌≡◌, ◌≢◌, Bool, true, false, refl, sym, ◌∙◌, ap, subst, inl, inr, List, [], Option, Some, None, is_some, option_map, arith, ◌<◌, ◌∷◌, ◌++◌, length, slice_get, if◌then◌else◌}
 use Rattle.cy_msg.specs.declared.token.Token.{Token}
 use Rattle.cy_msg.specs.declared.token.Tuple.{Tuple}
 use Rattle.cy_fuse.specs.Laws.{FetchesFind}
 use Rattle.cy_comp.specs.declared.call.Call.{Call}
 use Rattle.cy_comp.specs.declared.call.Outcome.{Outcome}
 use Rattle.cy_comp.specs.Calls.{held_until}
-use Rattle.wake_core.specs.Run.{writes_from, readers_of}
-use Rattle.wake_core.specs.Plain.{Plain, hand, State, Ready, DataWait, Phase, Known, Checked, Empty, Running, Sending, last_of, unsent_of}
-use Rattle.wake_core.specs.Events.{Ticks, Tapes, Sends, Yields, Releases, IsNext, OwesNothing, next_call, state_after, after_tape, after_send, after_ask, after_none, after_fetch, after_yield}
+use Rattle.wake_core.specs.Run.{set_at, writes_from, readers_of}
+use Rattle.wake_core.specs.Serial.{Raised}
+use Rattle.wake_core.specs.Plain.{Plain, hand, State, Ready, DataWait, Phase, Known, Checked, Stopping, Empty, Running, Sending, stops, last_of, unsent_of, played_count}
+use Rattle.wake_core.specs.Events.{Ticks, Checks, Tapes, Sends, Yields, Releases, IsNext, OwesNothing, next_call, state_after, after_check, after_tape, after_send, after_ask, after_none, after_fetch, after_yield}
 use Rattle.wake_core.specs.Sound.{Sound}
 use Rattle.wake_core.specs.WorldCalls.{in_hand, phase_sent, MayTape, Taped, IsStepped}
 use Rattle.wake_core.specs.Rest.{IsAtRest}
-use Rattle.wake_core.specs.Turns.{Delivers, Delivered, Plays, IsInHand, Calls, IsCalledFrom, MaySendOut, MayGiveBack, GivesBack, SendsOut, Resumes, Finds, is_held}
-use Rattle.wake_core.proofs.Places.{set_at_same}
+use Rattle.wake_core.specs.Turns.{Delivers, Delivered, PlaysOne, MayPut, IsInHand, Calls, IsCalledFrom, MaySendOut, MayGiveBack, GivesBack, SendsOut, IsNamed, Resumes, Finds, is_held}
+use Rattle.wake_core.proofs.Places.{set_at_same, set_at_other}
 use Rattle.wake_core.proofs.Listing.{get_last}
-use Rattle.wake_core.proofs.Playing.{plays_by}
+use Rattle.wake_core.proofs.Playing.{plays_by, idle_by}
 use Rattle.wake_core.proofs.Taping.{send_written}
 use Rattle.wake_core.proofs.Sending.{delivered_by}
 use Rattle.wake_core.proofs.Resuming.{held_resumes, none_resumes}
@@ -28,13 +29,14 @@ tape_known : (t : Token) (tape : List Token) (n : Plain) → n.tape ≡ tape ++ 
 tape_known t tape n is s = s.consistent.room.channels (length tape) t (ap (λ l. slice_get l (length tape)) is ∙ get_last tape t)
 
 -- The next message may be played.
-module _ (t : Token) (w m : Plain) (rest : IsAtRest w) (next : IsNext t w) (tick : Ticks t.time w m) where
+module _ (t : Token) (w m : Plain) (rest : IsAtRest w) (may : MayPut t w) (tick : Ticks t.time w m) where
   next_on : IsNext t m
-  next_on = subst (IsNext t) (sym tick.effect) record { unwritten = next.unwritten; next = next.next; within = next.within }
+  next_on = subst (IsNext t) (sym tick.effect) record { unwritten = may.next.unwritten; next = may.next.next; within = may.next.within }
 
   play_tapes : Tapes t m (after_tape 0 t m)
   play_tapes = record {
     owes = subst (OwesNothing 0) (sym tick.effect) record { filled = (rest 0).owes.filled; looked = (rest 0).owes.looked; cleared = (rest 0).owes.cleared };
+    raised = λ s given all. ap (λ (x : Plain). x.raised) tick.effect ∙ may.raised s (sym (ap (λ (x : Plain). x.stop) tick.effect) ∙ given) (sym (ap played_count tick.effect) ∙ all);
     next = next_on;
     now = sym (ap (λ (x : Plain). x.clock) tick.effect);
     effect = refl;
@@ -66,7 +68,7 @@ module _ (t : Token) (w m : Plain) (rest : IsAtRest w) (next : IsNext t w) (tick
     pub play_known : Sound n → t.channel < length n.counts
     play_known = tape_known t m.tape n (ap (λ (x : Plain). x.tape) play_taped.effect)
 
-    pub play_plays : (v : Plain) → Delivers 0 n v → Plays t w v
+    pub play_plays : (v : Plain) → Delivers 0 n v → PlaysOne t w v
     play_plays v d = plays_by t w m n v rest tick play_taped d
 
 -- An output of the croutine in hand may be sent.
@@ -117,7 +119,7 @@ pub here_stepped : (c : ℕ) (f : Phase) (w : Plain) (to_step : ℕ → Option T
 here_stepped c f w to_step held none running = ap to_step (in_hand_is c f w held) ∙ none
 
 -- A held output.
-module _ (c : ℕ) (t : Token) (w : Plain) (h : IsInHand c Checked w) (ready : w.states c ≡ Ready) (unsent : unsent_of w c ≡ Some t) where
+module _ (c : ℕ) (t : Token) (w : Plain) (h : IsInHand c Checked w) (ready : w.states c ≡ Ready) (calm : stops w.stop w.raised c ≡ false) (unsent : unsent_of w c ≡ Some t) where
   known_sends : phase_sent (w.hands 0) ≡ Sending
   known_sends = ap phase_sent h.held
 
@@ -128,7 +130,7 @@ module _ (c : ℕ) (t : Token) (w : Plain) (h : IsInHand c Checked w) (ready : w
   held_may = record {
     alone = h.alone;
     sends = subst (λ n. Sends 0 n (phase_sent (w.hands 0)) t w (after_send 0 n (phase_sent (w.hands 0)) t w)) (sym it)
-        record { owes = h.owes; held = inr (h.held, ready, known_sends); unsent = unsent; effect = refl };
+        record { owes = h.owes; held = inr (inl (h.held, known_sends)); unsent = unsent; effect = refl };
   }
 
   pub held_stepped : (to_step : ℕ → Option Tuple) → IsStepped 0 w to_step
@@ -143,18 +145,18 @@ module _ (c : ℕ) (t : Token) (w : Plain) (h : IsInHand c Checked w) (ready : w
 
     pub sent_may : MayGiveBack Ready m
     sent_may = subst (λ n. Yields 0 n Ready m (after_yield 0 n Ready m)) (sym sent_it)
-        record { owes = held_sent.in_hand.owes; held = inr (inr (held_sent.in_hand.held, refl, held_sent.all)); effect = refl }
+        record { owes = held_sent.in_hand.owes; held = inr (inr (inl (held_sent.in_hand.held, refl, held_sent.all))); effect = refl }
 
     pub sent_stepped : (to_step : ℕ → Option Tuple) → IsStepped 0 m to_step
     sent_stepped to_step = other_stepped c Sending m to_step held_sent.in_hand.held (λ e. cc)
 
     pub held_back_resumes : (v : Plain) → Sound w → GivesBack Ready m v → Resumes c w v
-    held_back_resumes v s g = held_resumes c t w m g.between v h s ready unsent held_sent
+    held_back_resumes v s g = held_resumes c t w m g.between v h s ready calm unsent held_sent
         (subst (λ n. Yields 0 n Ready m g.between) sent_it g.yields)
         (subst (λ n. Releases 0 n g.between v) sent_it g.releases)
 
 -- A call whose fetch found nothing.
-module _ (c : ℕ) (w v : Plain) (h : IsInHand c Checked w) (k : Calls c None w v) where
+module _ (c : ℕ) (w v : Plain) (h : IsInHand c Checked w) (calm : stops w.stop w.raised c ≡ false) (k : Calls c None w v) where
   none_call : next_call k.between c ≡ None
   none_call = by (next_call k.between c) k.found
     where
@@ -186,12 +188,12 @@ module _ (c : ℕ) (w v : Plain) (h : IsInHand c Checked w) (k : Calls c None w 
   nothing_stepped to_step = other_stepped c Empty v to_step nothing_held (λ e. cc)
 
   pub nothing_resumes : (o : Plain) → GivesBack DataWait v o → Resumes c w o
-  nothing_resumes o g = none_resumes c w k.between v g.between o h k.asks k.fetches none_call
+  nothing_resumes o g = none_resumes c w k.between v g.between o h calm k.asks k.fetches none_call
       (subst (λ n. Yields 0 n DataWait v g.between) nothing_it g.yields)
       (subst (λ n. Releases 0 n g.between o) nothing_it g.releases)
 
 -- A call that was made.
-module _ (c : ℕ) (outcome : Outcome) (w v : Plain) (h : IsInHand c Checked w) (ready : w.states c ≡ Ready) (s : Sound w) (k : Calls c (Some outcome) w v) where
+module _ (c : ℕ) (outcome : Outcome) (w v : Plain) (h : IsInHand c Checked w) (ready : w.states c ≡ Ready) (calm : stops w.stop w.raised c ≡ false) (s : Sound w) (k : Calls c (Some outcome) w v) where
   pub some_call : (x : Call) × (next_call k.between c ≡ Some x)
   some_call = by (next_call k.between c) k.found refl
     where
@@ -204,6 +206,7 @@ module _ (c : ℕ) (outcome : Outcome) (w v : Plain) (h : IsInHand c Checked w) 
     before = h;
     sound = s;
     ready = ready;
+    unstopped = calm;
     called = called_by c some_call.0 w k.between v h k.asks k.fetches some_call.1;
   }
 
@@ -286,10 +289,49 @@ module _ (c : ℕ) (w : Plain) (h : IsInHand c Running w) (outcome : Outcome) (l
         let yields : Yields 0 c state m g.between = subst (λ n. Yields 0 n state m g.between) after_it g.yields in
         let releases : Releases 0 c g.between v = subst (λ n. Releases 0 n g.between v) after_it g.releases in
         elim sends.turn [
-          | inl j ↦ called_quiet c x first w k.before k.sound k.ready k.called law j.1 state g.between v (subst (λ (y : Plain). Yields 0 c state y g.between) j.0 yields) releases
-          | inr j ↦ called_sent c x first w k.before k.sound k.ready k.called law j.0 m j.1 j.2 j.3 state g.between v yields releases
+          | inl j ↦ called_quiet c x first w k.before k.sound k.ready k.unstopped k.called law j.1 state g.between v (subst (λ (y : Plain). Yields 0 c state y g.between) j.0 yields) releases
+          | inr j ↦ called_sent c x first w k.before k.sound k.ready k.unstopped k.called law j.0 m j.1 j.2 j.3 state g.between v yields releases
         ]
 
 -- What was found is in hand.
 pub found_hand : (order : List ℕ) (c : ℕ) (w m : Plain) → IsAtRest w → Finds order c w m → IsInHand c Known m
 found_hand order c w m rest f = takes_hand c f.between m (passes_rest f.before w f.between rest f.passes) f.takes
+
+-- After the look for the stop the croutine is in hand in the phase that it gives.
+module _ (c : ℕ) (w v : Plain) (h : IsInHand c Known w) (k : Checks 0 (in_hand 0 w) w v) where
+  pub looked_it : in_hand 0 w ≡ c
+  looked_it = in_hand_is c Known w h.held
+
+  looked : (b : Bool) → stops w.stop w.raised c ≡ b → v ≡ record w { hands = set_at 0 (hand c (if b then Stopping else Checked)) w.hands }
+  looked b is = k.effect ∙ ap (λ n. after_check 0 n w) looked_it ∙ ap (λ (a : Bool). record w { hands = set_at 0 (hand c (if a then Stopping else Checked)) w.hands }) is
+
+  pub looked_hand : (b : Bool) → stops w.stop w.raised c ≡ b → IsInHand c (if b then Stopping else Checked) v
+  looked_hand b is = subst (IsInHand c (if b then Stopping else Checked)) (sym (looked b is)) record {
+    alone = λ q other. idle_by q w (record w { hands = set_at 0 (hand c (if b then Stopping else Checked)) w.hands }) (set_at_other 0 (hand c (if b then Stopping else Checked)) w.hands q other) refl refl refl (h.alone q other);
+    held = set_at_same 0 (hand c (if b then Stopping else Checked)) w.hands;
+    owes = record { filled = h.owes.filled; looked = h.owes.looked; cleared = h.owes.cleared };
+  }
+
+  -- What follows it is what follows.
+  pub looked_resumes : (o : Plain) → Resumes c v o → Resumes c w o
+  looked_resumes o r = by (subst (λ (x : Plain). Resumes c x o) (looked (stops w.stop w.raised c) refl) r)
+    where
+      by : Resumes c (record w { hands = set_at 0 (hand c (if stops w.stop w.raised c then Stopping else Checked)) w.hands }) o → Resumes c w o
+      by x = record {
+        rest = x.rest;
+        stays = record { routes = x.stays.routes; counts = x.stays.counts; stop = x.stays.stop; closing = x.stays.closing; raised = x.stays.raised; clock = x.stays.clock; played = x.stays.played };
+        turn = elim x.turn [
+          | inl t ↦ inl record { step = λ stop named. let y = t.step stop (of_name stop named) in record { can = y.can; run = y.run }; left = t.left }
+          | inr t ↦ elim t [
+            | inl u ↦ inr (inl record { step = λ stop named. let y = u.step stop (of_name stop named) in record { can = y.can; run = y.run }; rests = record { same = u.rests.same; none_held = u.rests.none_held } })
+            | inr u ↦ inr (inr record { same = u.same; none_held = u.none_held })
+          ]
+        ];
+        ended = x.ended;
+        hears = x.hears;
+        keeps = λ n apart. let y = x.keeps n apart in record { more = y.more; heard = y.heard; hears = y.hears; silent = y.silent; went_on = y.went_on; held_none = y.held_none; looser = y.looser };
+      }
+        where
+          of_name : (stop : Option Raised) → IsNamed stop c w → IsNamed stop c (record w { hands = set_at 0 (hand c (if stops w.stop w.raised c then Stopping else Checked)) w.hands })
+          of_name None n = n
+          of_name (Some r) n = n

@@ -1,5 +1,5 @@
 -- A component that is called: what the world then shows is what the serial run says.
-use Rattle.std.proofs.Common.{ℕ, ◌+◌, ◌≡◌, ◌≢◌, ◌≤◌, ◌<◌, Bool, true, false, refl, sym, ◌∙◌, ap, inl, inr, arith, List, [], ◌∷◌, ◌++◌, length, Option, Some, None, is_some, option_map, slice_get}
+use Rattle.std.proofs.Common.{ℕ, ◌+◌, ◌≡◌, ◌≢◌, ◌≤◌, ◌<◌, Bool, true, false, true≢false, refl, sym, ◌∙◌, ap, inl, inr, arith, List, [], ◌∷◌, ◌++◌, length, Option, Some, None, is_some, option_map, slice_get}
 use Rattle.std.proofs.lemmas.Option.{slice_get_past}
 use Rattle.std.specs.Option.{option_map_or}
 use mathlib.Core.Path.{fun_ext}
@@ -15,12 +15,12 @@ use Rattle.cy_comp.specs.Step.{outcome_after, out_of}
 use Rattle.cy_comp.specs.Calls.{tuples_of, last_outcome, held_until, output, outs}
 use Rattle.wake_core.specs.Run.{Route, Run, set_at, put, played_of}
 use Rattle.wake_core.specs.Planned.{planned_count, first_reader}
-use Rattle.wake_core.specs.Serial.{is_runnable, resume, follow, send, call_at, call_on}
-use Rattle.wake_core.specs.Plain.{Plain, hand, State, Ready, DataWait, Checked, Asked, Empty, Running, Sending, last_of, unsent_of, taped_of, made_of, found_by}
+use Rattle.wake_core.specs.Serial.{heard_by, is_runnable, resume, follow, send, call_at, call_on}
+use Rattle.wake_core.specs.Plain.{Plain, hand, State, Ready, DataWait, Checked, Stopping, Asked, Empty, Running, Sending, LastSending, stops, last_of, unsent_of, taped_of, made_of, found_by}
 use Rattle.wake_core.specs.Events.{Asks, Fetches, Yields, Releases, next_call, state_after, after_ask, after_fetch, after_call, is_finished}
 use Rattle.wake_core.specs.Sound.{Sound, Consistent}
 use Rattle.wake_core.specs.Rest.{run_shown, StaysFixed}
-use Rattle.wake_core.specs.Turns.{IsInHand, Delivered, IsCalled, Resumes, left_of}
+use Rattle.wake_core.specs.Turns.{IsInHand, Delivered, IsCalled, Keeps, Resumes, left_of}
 use Rattle.wake_core.proofs.Places.{place, set_at_same, set_at_there, set_at_other}
 use Rattle.wake_core.proofs.Listing.{get_last}
 use Rattle.wake_core.proofs.Outputs.{last_push}
@@ -29,7 +29,8 @@ use Rattle.wake_core.proofs.MoreCalls.{outs-push, length_outs-push}
 use Rattle.wake_core.proofs.Playing.{run_is, idle_by}
 use Rattle.wake_core.proofs.Parking.{unsent_some, finds_shown, found_can}
 use Rattle.wake_core.proofs.Putting.{outs_none}
-use Rattle.wake_core.proofs.Resuming.{resume_at, resume_free, delivered_run, ends_same, ends_rest, stays_by, calls_less, tape_no_more}
+use Rattle.wake_core.proofs.Resuming.{resume_at, resume_free, delivered_run, ends_same, ends_rest, stays_by, free_step, delivered_keeps, delivered_hears, same_hears, ends_keep, calls_less, tape_no_more}
+use Rattle.wake_core.proofs.Heeding.{sleeper_holds, SameAt, same_keeps, same_before}
 use Rattle.wake_core.proofs.Making.{IsMade, call_made}
 use Rattle.wake_core.proofs.Consisting.{ask_consistent}
 
@@ -76,7 +77,10 @@ yields_as c state n v o held last y = elim y.held [
   | inl e ↦ absurd (other_empty (sym held ∙ e.0))
   | inr rest ↦ elim rest [
     | inl e ↦ same (sym e.1 ∙ ap (option_map state_after) last)
-    | inr e ↦ absurd (other_sending (sym held ∙ e.0))
+    | inr t ↦ elim t [
+      | inl e ↦ absurd (other_sending (sym held ∙ e.0))
+      | inr e ↦ elim e.0 [ inl b ↦ absurd (other_stopping (sym held ∙ b)) | inr b ↦ absurd (other_last (sym held ∙ b)) ]
+    ]
   ]
 ]
   where
@@ -85,6 +89,12 @@ yields_as c state n v o held last y = elim y.held [
 
     other_sending : hand c Running ≡ hand c Sending → ⊥
     other_sending e = grind (arith, e)
+
+    other_stopping : hand c Running ≡ hand c Stopping → ⊥
+    other_stopping e = grind (arith, e)
+
+    other_last : hand c Running ≡ hand c LastSending → ⊥
+    other_last e = grind (arith, e)
 
     same : {a b : State} → Some a ≡ Some b → a ≡ b
     same e = cc
@@ -105,7 +115,7 @@ held_out (Emit out) some = absurd (some refl)
 held_out (Hold until out) some = λ e. cc
 held_out (Last out) some = absurd (some refl)
 
-module _ (c : ℕ) (call : Call) (w m : Plain) (u : IsMade w c call) (h : IsInHand c Checked w) (s : Sound w) (ready : w.states c ≡ Ready) (k : IsCalled c call w m) where
+module _ (c : ℕ) (call : Call) (w m : Plain) (u : IsMade w c call) (h : IsInHand c Checked w) (s : Sound w) (ready : w.states c ≡ Ready) (calm : stops w.stop w.raised c ≡ false) (k : IsCalled c call w m) where
   found : found_by w c ≡ Some call.position
   found = rw u.at u.position
 
@@ -182,18 +192,18 @@ module _ (c : ℕ) (call : Call) (w m : Plain) (u : IsMade w c call) (h : IsInHa
   abbrev ended_run : Run
   ended_run = record called_run { ended = ended }
 
-  resumed : resume w.routes (run_shown w) c ≡ follow w.routes u.route c outcome called_run
+  resumed : resume w.routes None (run_shown w) c ≡ follow w.routes u.route c outcome called_run
   resumed =
       let r : Run = run_shown w in
       let tuple = ap (λ (o : Option Tuple). call_on w.routes u.route c call.position o r) u.tuple in
-      resume_at w.routes r c u.route u.at ∙ resume_free w.routes r c u.route (ap is_some k.none_held)
+      resume_at w.routes None r c u.route u.at ∙ resume_free w.routes None r c u.route (ap is_some k.none_held)
       ∙ ap (λ (o : Option ℕ). call_at w.routes u.route c o r) (finds_shown w c u.route u.at s.consistent ∙ found)
       ∙ tuple
       ∙ ap (λ (n : ℕ). follow w.routes u.route c outcome (record r { calls = set_at c (w.calls c ++ record { position = call.position; tail = n; tuple = call.tuple; out = out_of outcome } ∷ []) w.calls })) (sym u.tail)
       ∙ ap (λ (o : Option Out). follow w.routes u.route c outcome (record r { calls = set_at c (w.calls c ++ record { position = call.position; tail = call.tail; tuple = call.tuple; out = o } ∷ []) w.calls })) (sym called_out)
 
-  called_can : is_runnable w.routes (run_shown w) c ≡ true
-  called_can = found_can c w h s ready u.route u.at k.none_held ∙ ap is_some found
+  called_can : is_runnable w.routes None (run_shown w) c ≡ true
+  called_can = found_can c Checked (λ e. cc) w h s ready u.route u.at k.none_held ∙ ap is_some found
 
   called_less : FetchesFind → left_of m < left_of w
   called_less law = rw (ap left_of k.same) (calls_less w c u.route call u.at room)
@@ -205,7 +215,7 @@ module _ (c : ℕ) (call : Call) (w m : Plain) (u : IsMade w c call) (h : IsInHa
       room = call_in_room law (after_ask 0 c w) 0 c u.route call (set_at_same 0 (hand c Asked) w.hands) k.found u.at asked
 
   -- What the world shows after it, but for what has ended: the output waits to be sent, ..
-  held_called_run : held_until (Some outcome) ≢ None → record (run_shown m) { ended = ended } ≡ resume w.routes (run_shown w) c
+  held_called_run : held_until (Some outcome) ≢ None → record (run_shown m) { ended = ended } ≡ resume w.routes None (run_shown w) c
   held_called_run some =
       run_is m (record called_run { unsent = set_at c true called_run.unsent }) ended
       (ap (λ (y : Plain). y.arrivals) k.same) called_calls
@@ -221,7 +231,7 @@ module _ (c : ℕ) (call : Call) (w m : Plain) (u : IsMade w c call) (h : IsInHa
       waits (Some o) e = ap is_some (called_some o (called_out ∙ e))
 
   -- .. or there is none, ..
-  silent_run : held_until (Some outcome) ≡ None → unsent_of m c ≡ None → record (run_shown m) { ended = ended } ≡ resume w.routes (run_shown w) c
+  silent_run : held_until (Some outcome) ≡ None → unsent_of m c ≡ None → record (run_shown m) { ended = ended } ≡ resume w.routes None (run_shown w) c
   silent_run sent none =
       run_is m called_run ended
       (ap (λ (y : Plain). y.arrivals) k.same) called_calls
@@ -242,7 +252,7 @@ module _ (c : ℕ) (call : Call) (w m : Plain) (u : IsMade w c call) (h : IsInHa
 
   -- .. or it is sent at once.
   module _ (t : Token) (n : Plain) (sent : held_until (Some outcome) ≡ None) (unsent : unsent_of m c ≡ Some t) (d : Delivered c Running t m n) where
-    sent_run : record (run_shown n) { ended = ended } ≡ resume w.routes (run_shown w) c
+    sent_run : record (run_shown n) { ended = ended } ≡ resume w.routes None (run_shown w) c
     sent_run =
         delivered_run c Running t m n called_run ended d (ap (λ (y : Plain). y.arrivals) (sym k.same)) (sym called_calls) (ap (λ (y : Plain). y.tape) (sym k.same)) (ap (λ (y : Plain). y.clock) (sym k.same))
         (ap is_some k.none_held) (λ j apart. sym (ap is_some (called_other j apart)))
@@ -263,19 +273,27 @@ module _ (c : ℕ) (call : Call) (w m : Plain) (u : IsMade w c call) (h : IsInHa
             ∙ ap (λ (y : Option Out). send w.routes u.route c y ended_run) (sym e ∙ called_out)
 
   -- The croutine yields, which says what has ended, and is given back.
-  called_ends : (n : Plain) → IsInHand c Running n → n.states ≡ m.states → last_of n.routes n.calls c ≡ Some outcome → record (run_shown n) { ended = ended } ≡ resume w.routes (run_shown w) c
-      → left_of n < left_of w → StaysFixed w n → (state : State) (o v : Plain) → Yields 0 c state n o → Releases 0 c o v → Resumes c w v
-  called_ends n hand states last run less stays state o v y r =
+  called_ends : (n : Plain) → IsInHand c Running n → n.states ≡ m.states → last_of n.routes n.calls c ≡ Some outcome → record (run_shown n) { ended = ended } ≡ resume w.routes None (run_shown w) c
+      → left_of n < left_of w → StaysFixed w n → ((j : ℕ) → heard_by (w.arrivals j) ≤ heard_by (n.arrivals j)) → ((j : ℕ) → j ≢ c → Keeps j w n) → (state : State) (o v : Plain) → Yields 0 c state n o → Releases 0 c o v → Resumes c w v
+  called_ends n hand states last run less stays hears keeps state o v y r =
       let e = ends_same c state n o v hand.alone hand.owes y r in
       record {
         rest = ends_rest c state n o v hand.alone hand.owes y r;
         stays = stays_by w v
             (ap (λ (x : Plain). x.routes) e ∙ stays.routes)
             (ap (λ (x : Plain). x.counts) e ∙ stays.counts)
+            (ap (λ (x : Plain). x.stop) e ∙ stays.stop)
             (ap (λ (x : Plain). x.closing) e ∙ stays.closing)
+            (ap (λ (x : Plain). x.raised) e ∙ stays.raised)
             (ap (λ (x : Plain). x.clock) e ∙ stays.clock)
             (ap (λ (x : Plain). played_of x.routes x.tape) e ∙ stays.played);
-        turn = inl record { can = called_can; run = ap run_shown e ∙ ap (λ (f : ℕ → Bool). record (run_shown n) { ended = f }) (fun_ext ends) ∙ run; left = rw (ap left_of e) less };
+        turn = inl record {
+          step = free_step c w v calm called_can (ap run_shown e ∙ ap (λ (f : ℕ → Bool). record (run_shown n) { ended = f }) (fun_ext ends) ∙ run);
+          left = rw (ap left_of e) less;
+        };
+        ended = λ is. absurd (true≢false (sym is ∙ calm));
+        hears = λ j. let l = hears j in let same = ap (λ (x : Plain). heard_by (x.arrivals j)) e in omega (arith, l, same);
+        keeps = λ j apart. ends_keep c state w n v e j apart (keeps j apart);
       }
     where
       ends : (j : ℕ) → is_finished (set_at c state n.states j) ≡ ended j
@@ -285,17 +303,26 @@ module _ (c : ℕ) (call : Call) (w m : Plain) (u : IsMade w c call) (h : IsInHa
       ]
 
   called_stays : StaysFixed w m
-  called_stays = stays_by w m (ap (λ (x : Plain). x.routes) k.same) (ap (λ (x : Plain). x.counts) k.same) (ap (λ (x : Plain). x.closing) k.same) (ap (λ (x : Plain). x.clock) k.same)
+  called_stays = stays_by w m (ap (λ (x : Plain). x.routes) k.same) (ap (λ (x : Plain). x.counts) k.same) (ap (λ (x : Plain). x.stop) k.same) (ap (λ (x : Plain). x.closing) k.same) (ap (λ (x : Plain). x.raised) k.same) (ap (λ (x : Plain). x.clock) k.same)
       (ap (λ (x : Plain). played_of x.routes x.tape) k.same)
+
+  -- A call tells the others nothing.
+  called_keeps : (j : ℕ) → j ≢ c → Keeps j w m
+  called_keeps j apart = same_keeps j w m record {
+    arrivals = ap (λ (x : Plain). x.arrivals j) k.same;
+    states = ap (λ (f : ℕ → State). f j) called_states ∙ set_at_other c DataWait w.states j apart;
+    spent = ap (λ (x : Plain). x.spent j) k.same;
+    unsent = called_other j apart;
+  }
 
   -- After a call whose output is held back, or that has none.
   quiet_resumes : FetchesFind → (held_until (Some outcome) ≡ None → unsent_of m c ≡ None) → (state : State) (o v : Plain) → Yields 0 c state m o → Releases 0 c o v → Resumes c w v
-  quiet_resumes law none state o v y r = called_ends m k.in_hand refl called_last (by (held_until (Some outcome)) refl) (called_less law) called_stays state o v y r
+  quiet_resumes law none state o v y r = called_ends m k.in_hand refl called_last (by (held_until (Some outcome)) refl) (called_less law) called_stays (same_hears w m (ap (λ (x : Plain). x.arrivals) k.same)) called_keeps state o v y r
     where
       some_none : {u : ℕ} → Some u ≡ None → ⊥
       some_none e = cc
 
-      by : (x : Option ℕ) → held_until (Some outcome) ≡ x → record (run_shown m) { ended = ended } ≡ resume w.routes (run_shown w) c
+      by : (x : Option ℕ) → held_until (Some outcome) ≡ x → record (run_shown m) { ended = ended } ≡ resume w.routes None (run_shown w) c
       by None e = silent_run e (none e)
       by (Some u) e = held_called_run (λ no. some_none (sym e ∙ no))
 
@@ -305,10 +332,23 @@ module _ (c : ℕ) (call : Call) (w m : Plain) (u : IsMade w c call) (h : IsInHa
   sent_resumes law t n sent unsent d state o v y r = called_ends n d.in_hand (ap (λ (x : Plain). x.states) d.same) (ap (λ (x : Plain). last_of x.routes x.calls c) d.same ∙ called_last) (sent_run t n sent unsent d) less (stays_by w n
       (ap (λ (x : Plain). x.routes) d.same ∙ called_stays.routes)
       (ap (λ (x : Plain). x.counts) d.same ∙ called_stays.counts)
+      (ap (λ (x : Plain). x.stop) d.same ∙ called_stays.stop)
       (ap (λ (x : Plain). x.closing) d.same ∙ called_stays.closing)
+      (ap (λ (x : Plain). x.raised) d.same ∙ called_stays.raised)
       (ap (λ (x : Plain). x.clock) d.same ∙ called_stays.clock)
-      (d.played ∙ called_stays.played)) state o v y r
+      (d.played ∙ called_stays.played)) (λ j. hears j) (λ j apart. same_then_told j apart) state o v y r
     where
+      hears : (j : ℕ) → heard_by (w.arrivals j) ≤ heard_by (n.arrivals j)
+      hears j = let l = delivered_hears c Running t m n n d refl j in let same = ap (λ (x : Plain). heard_by (x.arrivals j)) k.same in omega (arith, l, same)
+
+      same_then_told : (j : ℕ) → j ≢ c → Keeps j w n
+      same_then_told j apart = same_before j w m n record {
+        arrivals = ap (λ (x : Plain). x.arrivals j) k.same;
+        states = ap (λ (f : ℕ → State). f j) called_states ∙ set_at_other c DataWait w.states j apart;
+        spent = ap (λ (x : Plain). x.spent j) k.same;
+        unsent = called_other j apart;
+      } (delivered_keeps c Running t m n d j apart (λ u is none. sleeper_holds w s j u (sym (ap (λ (f : ℕ → State). f j) called_states ∙ set_at_other c DataWait w.states j apart) ∙ is) (sym (called_other j apart) ∙ none)))
+
       no_more : left_of n ≤ left_of m
       no_more = rw (ap left_of d.same) (tape_no_more m t)
 
@@ -316,14 +356,14 @@ module _ (c : ℕ) (call : Call) (w m : Plain) (u : IsMade w c call) (h : IsInHa
       less = let one = called_less law in omega (arith, no_more, one)
 
 -- A croutine was called, and yields after what the outcome says of its output.
-module _ (c : ℕ) (call : Call) (w m : Plain) (h : IsInHand c Checked w) (s : Sound w) (ready : w.states c ≡ Ready) (k : IsCalled c call w m) where
+module _ (c : ℕ) (call : Call) (w m : Plain) (h : IsInHand c Checked w) (s : Sound w) (ready : w.states c ≡ Ready) (calm : stops w.stop w.raised c ≡ false) (k : IsCalled c call w m) where
   pub called_quiet : FetchesFind → (held_until (last_of m.routes m.calls c) ≡ None → unsent_of m c ≡ None) → (state : State) (o v : Plain) → Yields 0 c state m o → Releases 0 c o v → Resumes c w v
   called_quiet law none state o v y r =
       let u = call_made w c call k.found in
-      quiet_resumes c call w m u h s ready k law (λ e. none (ap held_until (called_last c call w m u h s ready k) ∙ e)) state o v y r
+      quiet_resumes c call w m u h s ready calm k law (λ e. none (ap held_until (called_last c call w m u h s ready calm k) ∙ e)) state o v y r
 
   pub called_sent : FetchesFind → (t : Token) (n : Plain) → held_until (last_of m.routes m.calls c) ≡ None → unsent_of m c ≡ Some t → Delivered c Running t m n
       → (state : State) (o v : Plain) → Yields 0 c state n o → Releases 0 c o v → Resumes c w v
   called_sent law t n sent unsent d state o v y r =
       let u = call_made w c call k.found in
-      sent_resumes c call w m u h s ready k law t n (sym (ap held_until (called_last c call w m u h s ready k)) ∙ sent) unsent d state o v y r
+      sent_resumes c call w m u h s ready calm k law t n (sym (ap held_until (called_last c call w m u h s ready calm k)) ∙ sent) unsent d state o v y r

@@ -12,6 +12,7 @@ use Rattle.wake_core.specs.Serial.{last_clock}
 use Rattle.wake_core.specs.Plain.{Plain, Hand, hand, State, Ready, DataWait, Sleep, Finished, Phase, Woken, Asked, Running, last_of, found_by, lists, played_count, to_play}
 use Rattle.wake_core.specs.Sound.{Sound}
 use Rattle.wake_core.specs.LawfulRun.{Quiet}
+use Rattle.wake_core.specs.Events.{IsRaised}
 use Rattle.wake_core.specs.Rest.{IsAtRest, IsScanOf}
 use Rattle.wake_core.specs.Turns.{IsParked}
 use Rattle.wake_core.proofs.HeldTimes.{held_so}
@@ -83,9 +84,10 @@ module _ (w : Plain) (rest : IsAtRest w) (s : Sound w) (c : ℕ) (p : IsParked c
       by (Sleep until) e = absurd (p.not_due (rw e (subst (λ n. until < n) (sym clock) (sleeps_short law w c until (s.consistent.held.sleeps c until e)))))
 
 pub settled_quiet : OutcomesAreAnswers → (scan : List ℕ) (w : Plain) → IsAtRest w → Sound w → IsScanOf (length w.routes) scan → ((c : ℕ) → lists c scan ≡ true → IsParked c w)
-    → w.clock ≡ last_clock → played_count w ≡ to_play w → Quiet w
-settled_quiet law scan w rest s each parked clock played = record {
+    → w.clock ≡ last_clock → played_count w ≡ to_play w → IsRaised w → Quiet w
+settled_quiet law scan w rest s each parked clock played raised = record {
   played = played;
+  raised = raised;
   free = λ q. (rest q).hand;
   owes = λ q. (rest q).owes;
   clock = clock;

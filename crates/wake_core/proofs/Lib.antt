@@ -53,6 +53,7 @@ pub mod Tabled
 pub mod Beginning
 pub mod Showing
 pub mod Playing
+pub mod Heeding
 pub mod Taking
 pub mod Parked
 pub mod ParkedWorld
@@ -64,10 +65,12 @@ pub mod Called
 pub mod Turning
 pub mod Ending
 pub mod Listed
+pub mod Played
 pub mod Handing
 pub mod Taken
 pub mod Scanning
 pub mod Acting
+pub mod Stopped
 pub mod Parting
 pub mod Outside
 pub mod CalledWorld

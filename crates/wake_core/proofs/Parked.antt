@@ -4,12 +4,13 @@ use Rattle.cy_fuse.specs.Fusion.{fused}
 use Rattle.cy_fuse.specs.Laws.{FetchesFind}
 use Rattle.cy_comp.specs.declared.call.Call.{Call}
 use Rattle.wake_core.specs.Run.{Route, set_at}
-use Rattle.wake_core.specs.Plain.{Plain, Hand, hand, State, Ready, DataWait, Sleep, Finished, Known, Checked, Stopping, Asked, Empty, Done, unsent_of, found_by}
+use Rattle.wake_core.specs.Plain.{Plain, Stop, Hand, hand, stops, State, Ready, DataWait, Sleep, Finished, Known, Checked, Stopping, Asked, Empty, Done, unsent_of, found_by}
 use Rattle.wake_core.specs.Events.{Checks, Asks, Fetches, Yields, Releases, call_on, next_call, after_ask, after_fetch, after_none, after_yield, after_release, is_finished}
 use Rattle.wake_core.specs.Sound.{Sound}
 use Rattle.wake_core.specs.Rest.{IsAtRest}
-use Rattle.wake_core.specs.Turns.{Resumes, Waits, IsUnstopped, Parks, is_ready, is_due, is_woken, finds_nothing, parked_world}
-use Rattle.wake_core.proofs.Places.{set_at_same, set_at_again, set_at_itself}
+use Rattle.wake_core.specs.Turns.{Resumes, Rests, IsUnstopped, Parks, is_ready, is_due, is_woken, finds_nothing, parked_world}
+use Rattle.wake_core.proofs.Places.{set_at_same, set_at_other, set_at_again, set_at_itself}
+use Rattle.wake_core.proofs.Heeding.{SameAt, same_then}
 use Rattle.wake_core.proofs.Playing.{idle_by, shown_stored}
 use Rattle.wake_core.proofs.Storing.{with_parts}
 use Rattle.wake_core.proofs.Taken.{taken_world, taken_by}
@@ -123,12 +124,29 @@ module _ (c : ℕ) (w : Plain) (rest : IsAtRest w) (known : c < length w.routes)
       (ask_sound 0 c checked asked asks
       (check_sound 0 c t checked checks taken_sound)))))
 
+-- One that was resumed and is READY isn't stopped, since it would have ended.
+pub resumed_unstopped : (c : ℕ) (w v : Plain) → Resumes c w v → IsUnstopped c v
+resumed_unstopped c w v r ready = by (stops w.stop w.raised c) refl
+  where
+    ready_ended : Ready ≡ Finished → ⊥
+    ready_ended e = cc
+
+    same : stops v.stop v.raised c ≡ stops w.stop w.raised c
+    same = ap (λ (s : Option Stop). stops s v.raised c) r.stays.stop ∙ ap (λ b. stops w.stop b c) r.stays.raised
+
+    by : (b : Bool) → stops w.stop w.raised c ≡ b → stops v.stop v.raised c ≡ false
+    by true is = absurd (ready_ended (sym ready ∙ r.ended is))
+    by false is = same ∙ is
+
 -- A croutine that was resumed may be parked: one that only waited isn't READY, and stays.
 pub resumes_parked : (c : ℕ) (w m v : Plain) → Resumes c w m → Parks c m v → Resumes c w v
 resumes_parked c w m v r p = by (finds_nothing c m) refl
   where
-    waiting_idle : Waits c w m → finds_nothing c m ≡ false
-    waiting_idle t = ap (λ (x : State). is_ready x && not (is_some (unsent_of m c)) && not (is_some (found_by m c))) (ap (λ (x : Plain). x.states c) t.same ∙ set_at_same c DataWait w.states)
+    ready_ended : Ready ≡ Finished → ⊥
+    ready_ended e = cc
+
+    resting_idle : (s : State) → is_ready s ≡ false → Rests c s w m → finds_nothing c m ≡ false
+    resting_idle s other t = ap (λ b. b && not (is_some (unsent_of m c)) && not (is_some (found_by m c))) (ap is_ready (ap (λ (x : Plain). x.states c) t.same ∙ set_at_same c s w.states) ∙ other)
 
     by : (b : Bool) → finds_nothing c m ≡ b → Resumes c w v
     by false e = subst (Resumes c w) (sym (p.stays e)) r
@@ -136,11 +154,19 @@ resumes_parked c w m v r p = by (finds_nothing c m) refl
         let ready = nothing_ready (m.states c) (is_some (unsent_of m c)) (is_some (found_by m c)) e in
         let parked : Resumes c w (parked_world c m) = record {
           rest = λ q. idle_by q m (parked_world c m) refl refl refl refl (r.rest q);
-          stays = record { routes = r.stays.routes; counts = r.stays.counts; closing = r.stays.closing; clock = r.stays.clock; played = r.stays.played };
+          stays = record { routes = r.stays.routes; counts = r.stays.counts; stop = r.stays.stop; closing = r.stays.closing; raised = r.stays.raised; clock = r.stays.clock; played = r.stays.played };
           turn = elim r.turn [
-            | inl t ↦ inl record { can = t.can; run = shown_stored c DataWait m (sym (ap is_finished ready)) ∙ t.run; left = t.left }
-            | inr t ↦ absurd (true_false (sym e ∙ waiting_idle t))
+            | inl t ↦ inl record { step = λ stop named. let y = t.step stop named in record { can = y.can; run = shown_stored c DataWait m (sym (ap is_finished ready)) ∙ y.run }; left = t.left }
+            | inr t ↦ absurd (true_false (sym e ∙ elim t [ inl u ↦ resting_idle Finished refl u.rests | inr u ↦ resting_idle DataWait refl u ]))
           ];
+          ended = λ is. absurd (ready_ended (sym ready ∙ r.ended is));
+          hears = r.hears;
+          keeps = λ k apart. same_then k w m (parked_world c m) (r.keeps k apart) record {
+            arrivals = refl;
+            states = set_at_other c DataWait m.states k apart;
+            spent = set_at_other c true m.spent k apart;
+            unsent = refl;
+          };
         } in
         subst (Resumes c w) (sym (p.parks e)) parked
 

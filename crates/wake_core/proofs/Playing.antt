@@ -11,7 +11,7 @@ use Rattle.wake_core.specs.Plain.{Plain, State, unsent_of, outs_of}
 use Rattle.wake_core.specs.Events.{OwesNothing, Ticks, Tapes, after_tape, is_finished}
 use Rattle.wake_core.specs.Laws.{IsIdle}
 use Rattle.wake_core.specs.Rest.{IsAtRest, run_shown}
-use Rattle.wake_core.specs.Turns.{Delivers, Plays}
+use Rattle.wake_core.specs.Turns.{Delivers, PlaysOne, flag_after}
 use Rattle.wake_core.proofs.Places.{place, set_at_same, set_at_there, set_at_other}
 use Rattle.wake_core.proofs.Taping.{played_taped}
 
@@ -82,7 +82,7 @@ played_same routes tape t c e =
     ∙ ap (λ (o : Option ℕ). played_of routes tape ++ cond (not (is_some o)) (t ∷ []) []) e
     ∙ append-nil (played_of routes tape)
 
-pub plays_by : (t : Token) (w m n v : Plain) → IsAtRest w → Ticks t.time w m → Tapes t m n → Delivers 0 n v → Plays t w v
+pub plays_by : (t : Token) (w m n v : Plain) → IsAtRest w → Ticks t.time w m → Tapes t m n → Delivers 0 n v → PlaysOne t w v
 plays_by t w m n v rest tick tape d =
     let taped : Plain = after_tape 0 t (record w { clock = t.time }) in
     let is : n ≡ taped = tape.effect ∙ ap (after_tape 0 t) tick.effect in
@@ -105,6 +105,11 @@ plays_by t w m n v rest tick tape d =
           (ap (λ (x : Plain). x.clock) d'.same);
       routes = ap (λ (x : Plain). x.routes) d'.same;
       counts = ap (λ (x : Plain). x.counts) d'.same;
+      stop = ap (λ (x : Plain). x.stop) d'.same;
       closing = ap (λ (x : Plain). x.closing) d'.same;
+      raised = ap (λ (x : Plain). x.raised) d'.same;
+      states = ap (λ (x : Plain). x.states) d'.same;
+      unsent = λ k. ap (λ (x : Plain). unsent_of x k) d'.same ∙ ap (slice_get (outs_of w.routes w.calls k)) (played_taped w t unwritten k);
+      spent = λ k. d'.spent k ∙ ap (λ (l : List (ℕ × ℕ)). flag_after l w k) (set_at_same 0 (readers_of w.routes t.channel) w.fills);
       played = ap (λ (x : Plain). played_of x.routes x.tape) d'.same ∙ played_more w.routes w.tape t unwritten;
     }

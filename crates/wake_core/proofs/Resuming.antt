@@ -1,34 +1,35 @@
 -- A croutine that is resumed: the world then shows the step of the serial run, or what it showed before.
-use Rattle.std.proofs.Common.{ℕ, zero, suc, ◌+◌, ◌-◌, ◌≡◌, ◌≢◌, ◌≤◌, ◌<◌, Bool, true, false, refl, sym, ◌∙◌, ap, subst, inl, inr, arith, List, [], ◌∷◌, ◌++◌, length, length-append, Option, Some, None, is_some, slice_get}
+use Rattle.std.proofs.Common.{ℕ, zero, suc, ◌+◌, ◌-◌, ◌≡◌, ◌≢◌, ◌≤◌, ◌<◌, Bool, true, false, true≢false, refl, sym, ◌∙◌, ap, subst, inl, inr, arith, List, [], ◌∷◌, ◌++◌, length, length-append, Option, Some, None, is_some, slice_get}
 use Rattle.std.proofs.lemmas.Option.{slice_get_within}
 use Rattle.cy_msg.specs.declared.token.Token.{Token}
+use Rattle.cy_fuse.specs.Fusion.{Arrival}
 use Rattle.cy_comp.specs.declared.call.Call.{Call}
 use Rattle.cy_comp.specs.declared.call.Out.{Out}
 use Rattle.cy_comp.specs.Calls.{last_outcome}
 use Rattle.wake_core.specs.Run.{Route, Run, set_at, arrive, put, readers_of, finds, played_of}
 use Rattle.wake_core.specs.Planned.{planned_count, first_reader, counts_from}
-use Rattle.wake_core.specs.Serial.{resume, resume_by, send, last_out, call_at}
-use Rattle.wake_core.specs.Plain.{Plain, hand, State, Ready, DataWait, Phase, Checked, Asked, Empty, Sending, Done, unsent_of}
+use Rattle.wake_core.specs.Serial.{Raised, heard_by, resume, resume_by, send_held, go_on, send, last_out, is_runnable}
+use Rattle.wake_core.specs.Plain.{Plain, hand, State, Ready, DataWait, Sleep, Phase, Checked, Asked, Empty, Sending, Done, stops, unsent_of}
 use Rattle.wake_core.specs.Events.{Asks, Fetches, Yields, Releases, OwesNothing, next_call, after_ask, after_fetch, after_none, is_finished}
 use Rattle.wake_core.specs.Sound.{Sound}
 use Rattle.wake_core.specs.Rest.{IsAtRest, run_shown, StaysFixed}
-use Rattle.wake_core.specs.Turns.{IsAlone, IsInHand, Delivered, Resumes, sum_below, calls_left, left_of}
+use Rattle.wake_core.specs.Turns.{IsAlone, IsInHand, Delivered, IsNamed, IsStep, Keeps, Resumes, sum_below, calls_left, left_of}
 use Rattle.wake_core.proofs.Places.{place, set_at_same, set_at_other, set_at_again, set_at_itself}
 use Rattle.wake_core.proofs.Taping.{unsent_is}
 use Rattle.wake_core.proofs.Totals.{output_room}
 use Rattle.wake_core.proofs.Playing.{run_is, idle_by}
 use Rattle.wake_core.proofs.Parking.{held_can}
+use Rattle.wake_core.proofs.Heeding.{hears_more, sleeper_holds, SameAt, same_keeps, same_then, told_keeps}
 use Rattle.wake_core.proofs.Putting.{unsent_put}
 
-pub resume_at : (routes : List Route) (r : Run) (c : ℕ) (x : Route) → slice_get routes c ≡ Some x → resume routes r c ≡ resume_by routes x c r
-resume_at routes r c x at = rw at refl
+pub resume_at : (routes : List Route) (stop : Option Raised) (r : Run) (c : ℕ) (x : Route) → slice_get routes c ≡ Some x → resume routes stop r c ≡ resume_by routes x stop c r
+resume_at routes stop r c x at = rw at refl
 
-resume_held : (routes : List Route) (r : Run) (c : ℕ) (x : Route) → r.unsent c ≡ true
-    → resume_by routes x c r ≡ send routes x c (last_out (last_outcome x.kind (r.calls c))) (record r { unsent = set_at c false r.unsent })
-resume_held routes r c x e = rw e refl
+pub resume_held : (routes : List Route) (stop : Option Raised) (r : Run) (c : ℕ) (x : Route) → r.unsent c ≡ true → resume_by routes x stop c r ≡ send_held routes x stop c r
+resume_held routes stop r c x e = rw e refl
 
-pub resume_free : (routes : List Route) (r : Run) (c : ℕ) (x : Route) → r.unsent c ≡ false → resume_by routes x c r ≡ call_at routes x c (finds x r c) r
-resume_free routes r c x e = rw e refl
+pub resume_free : (routes : List Route) (stop : Option Raised) (r : Run) (c : ℕ) (x : Route) → r.unsent c ≡ false → resume_by routes x stop c r ≡ go_on routes x stop c r
+resume_free routes stop r c x e = rw e refl
 
 -- A croutine that yielded is given back.
 module _ (c : ℕ) (state : State) (m n v : Plain) (alone : IsAlone m) (owes : OwesNothing 0 m) (y : Yields 0 c state m n) (r : Releases 0 c n v) where
@@ -108,8 +109,37 @@ calls_less w c x call at room =
     ]
 
 -- What is the same in both worlds for whoever the serial run is to.
-pub stays_by : (w v : Plain) → v.routes ≡ w.routes → v.counts ≡ w.counts → v.closing ≡ w.closing → v.clock ≡ w.clock → played_of v.routes v.tape ≡ played_of w.routes w.tape → StaysFixed w v
-stays_by w v r n c k p = record { routes = r; counts = n; closing = c; clock = k; played = p }
+pub stays_by : (w v : Plain) → v.routes ≡ w.routes → v.counts ≡ w.counts → v.stop ≡ w.stop → v.closing ≡ w.closing → v.raised ≡ w.raised → v.clock ≡ w.clock → played_of v.routes v.tape ≡ played_of w.routes w.tape → StaysFixed w v
+stays_by w v r n g c u k p = record { routes = r; counts = n; stop = g; closing = c; raised = u; clock = k; played = p }
+
+-- A step of one that isn't stopped.
+pub free_step : (c : ℕ) (w v : Plain) → stops w.stop w.raised c ≡ false → is_runnable w.routes None (run_shown w) c ≡ true → run_shown v ≡ resume w.routes None (run_shown w) c
+    → (stop : Option Raised) → IsNamed stop c w → IsStep c w v stop
+free_step c w v calm can run None named = record { can = can; run = run }
+free_step c w v calm can run (Some r) named = absurd (true≢false (sym named.0 ∙ calm))
+
+-- What a component keeps while another one sends an output.
+pub delivered_keeps : (c : ℕ) (next : Phase) (t : Token) (w m : Plain) → Delivered c next t w m → (k : ℕ) → k ≢ c → ((u : ℕ) → w.states k ≡ Sleep u → unsent_of w k ≢ None) → Keeps k w m
+delivered_keeps c next t w m d k apart sleeps = told_keeps k (readers_of w.routes t.channel) t w m d.arrivals (ap (λ (x : Plain). x.states k) d.same) (d.spent k) (d.others k apart) sleeps
+
+-- What is heard is no less.
+pub same_hears : (w v : Plain) → v.arrivals ≡ w.arrivals → (k : ℕ) → heard_by (w.arrivals k) ≤ heard_by (v.arrivals k)
+same_hears w v e k = let same = ap (λ (f : ℕ → List Arrival). heard_by (f k)) e in omega (arith, same)
+
+pub delivered_hears : (c : ℕ) (next : Phase) (t : Token) (w m v : Plain) → Delivered c next t w m → v.arrivals ≡ m.arrivals → (k : ℕ) → heard_by (w.arrivals k) ≤ heard_by (v.arrivals k)
+delivered_hears c next t w m v d e k =
+    let same = ap (λ (f : ℕ → List Arrival). heard_by (f k)) (e ∙ d.arrivals) in
+    let more = hears_more (readers_of w.routes t.channel) t w.arrivals k in
+    omega (arith, same, more)
+
+-- .. or yields.
+pub ends_keep : (c : ℕ) (state : State) (w m v : Plain) → v ≡ record m { states = set_at c state m.states; hands = v.hands } → (k : ℕ) → k ≢ c → Keeps k w m → Keeps k w v
+ends_keep c state w m v e k apart a = same_then k w m v a record {
+  arrivals = ap (λ (x : Plain). x.arrivals k) e;
+  states = ap (λ (x : Plain). x.states k) e ∙ set_at_other c state m.states k apart;
+  spent = ap (λ (x : Plain). x.spent k) e;
+  unsent = ap (λ (x : Plain). unsent_of x k) e;
+}
 
 -- What a world shows after an output was put, but for what has ended.
 pub delivered_run : (c : ℕ) (next : Phase) (t : Token) (w m : Plain) (r : Run) (f : ℕ → Bool) → Delivered c next t w m → r.arrivals ≡ w.arrivals → r.calls ≡ w.calls → r.tape ≡ w.tape → r.clock ≡ w.clock
@@ -125,18 +155,18 @@ delivered_run c next t w m r f d a k p l none others = run_is m (put w.routes t 
     (ap (λ (x : Plain). x.clock) d.same ∙ sym l)
 
 -- A held output is sent.
-module _ (c : ℕ) (t : Token) (w m n v : Plain) (h : IsInHand c Checked w) (s : Sound w) (ready : w.states c ≡ Ready) (unsent : unsent_of w c ≡ Some t)
+module _ (c : ℕ) (t : Token) (w m n v : Plain) (h : IsInHand c Checked w) (s : Sound w) (ready : w.states c ≡ Ready) (calm : stops w.stop w.raised c ≡ false) (unsent : unsent_of w c ≡ Some t)
     (d : Delivered c Sending t w m) (y : Yields 0 c Ready m n) (r : Releases 0 c n v) where
   held_some : is_some (unsent_of w c) ≡ true
   held_some = ap is_some unsent
 
-  held_run : run_shown v ≡ resume w.routes (run_shown w) c
+  held_run : run_shown v ≡ resume w.routes None (run_shown w) c
   held_run =
       let u = unsent_is w c t unsent in
       let is = unsent_put w c t u s.consistent in
       let free : Run = record (run_shown w) { unsent = set_at c false (run_shown w).unsent } in
-      let sent : resume w.routes (run_shown w) c ≡ put w.routes t free =
-      resume_at w.routes (run_shown w) c u.route u.at ∙ resume_held w.routes (run_shown w) c u.route held_some
+      let sent : resume w.routes None (run_shown w) c ≡ put w.routes t free =
+      resume_at w.routes None (run_shown w) c u.route u.at ∙ resume_held w.routes None (run_shown w) c u.route held_some
       ∙ ap (λ (o : Option Out). send w.routes u.route c o free) is.last
       ∙ ap (λ (x : Token). put w.routes x free) (sym is.is) in
       let states : set_at c Ready m.states ≡ w.states =
@@ -154,18 +184,22 @@ module _ (c : ℕ) (t : Token) (w m n v : Plain) (h : IsInHand c Checked w) (s :
         stays = stays_by w v
             (ap (λ (x : Plain). x.routes) e ∙ ap (λ (x : Plain). x.routes) d.same)
             (ap (λ (x : Plain). x.counts) e ∙ ap (λ (x : Plain). x.counts) d.same)
+            (ap (λ (x : Plain). x.stop) e ∙ ap (λ (x : Plain). x.stop) d.same)
             (ap (λ (x : Plain). x.closing) e ∙ ap (λ (x : Plain). x.closing) d.same)
+            (ap (λ (x : Plain). x.raised) e ∙ ap (λ (x : Plain). x.raised) d.same)
             (ap (λ (x : Plain). x.clock) e ∙ ap (λ (x : Plain). x.clock) d.same)
             (ap (λ (x : Plain). played_of x.routes x.tape) e ∙ d.played);
         turn = inl record {
-          can = held_can c w h s ready held_some;
-          run = held_run;
+          step = free_step c w v calm (held_can c Checked (λ e. cc) w h s ready None held_some) held_run;
           left = rw (ap left_of e, ap left_of d.same) (tape_less w t (output_room w c t unsent s.consistent));
         };
+        ended = λ is. absurd (true≢false (sym is ∙ calm));
+        hears = λ k. delivered_hears c Sending t w m v d (ap (λ (x : Plain). x.arrivals) e) k;
+        keeps = λ k apart. ends_keep c Ready w m v e k apart (delivered_keeps c Sending t w m d k apart (sleeper_holds w s k));
       }
 
 -- It finds nothing, and waits again.
-module _ (c : ℕ) (w m n o v : Plain) (h : IsInHand c Checked w) (a : Asks 0 c w m) (f : Fetches 0 c m n) (none : next_call m c ≡ None)
+module _ (c : ℕ) (w m n o v : Plain) (h : IsInHand c Checked w) (calm : stops w.stop w.raised c ≡ false) (a : Asks 0 c w m) (f : Fetches 0 c m n) (none : next_call m c ≡ None)
     (y : Yields 0 c DataWait n o) (r : Releases 0 c o v) where
   none_is : n ≡ after_none 0 c (after_ask 0 c w)
   none_is = f.effect ∙ ap (λ (x : Option Call). after_fetch 0 c x m) none ∙ ap (after_none 0 c) a.effect
@@ -190,7 +224,10 @@ module _ (c : ℕ) (w m n o v : Plain) (h : IsInHand c Checked w) (a : Asks 0 c 
   pub none_resumes : Resumes c w v
   none_resumes = record {
     rest = ends_rest c DataWait n o v none_alone none_owes y r;
-    stays = stays_by w v (ap (λ (x : Plain). x.routes) none_same) (ap (λ (x : Plain). x.counts) none_same) (ap (λ (x : Plain). x.closing) none_same) (ap (λ (x : Plain). x.clock) none_same)
+    stays = stays_by w v (ap (λ (x : Plain). x.routes) none_same) (ap (λ (x : Plain). x.counts) none_same) (ap (λ (x : Plain). x.stop) none_same) (ap (λ (x : Plain). x.closing) none_same) (ap (λ (x : Plain). x.raised) none_same) (ap (λ (x : Plain). x.clock) none_same)
         (ap (λ (x : Plain). played_of x.routes x.tape) none_same);
-    turn = inr record { same = none_same; none_held = a.none_held };
+    turn = inr (inr record { same = none_same; none_held = a.none_held });
+    ended = λ is. absurd (true≢false (sym is ∙ calm));
+    hears = λ k. same_hears w v (ap (λ (x : Plain). x.arrivals) none_same) k;
+    keeps = λ k apart. ends_keep c DataWait w w v none_same k apart (same_keeps k w w record { arrivals = refl; states = refl; spent = refl; unsent = refl });
   }

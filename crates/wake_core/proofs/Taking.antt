@@ -6,14 +6,14 @@ use Rattle.wake_core.specs.Plain.{Plain, Hand, hand, State, Ready, DataWait, Sle
 use Rattle.wake_core.specs.Events.{Acquires, Spends, Readies, Releases, IsDue, is_waiting, is_finished, phase_after_spend, after_ready}
 use Rattle.wake_core.specs.Sound.{Sound}
 use Rattle.wake_core.specs.Rest.{IsAtRest}
-use Rattle.wake_core.specs.Turns.{Takes, IsParked, Passes, Finds, IsInHand}
+use Rattle.wake_core.specs.Turns.{Takes, IsParked, Passes, Finds, IsInHand, is_woken}
 use Rattle.wake_core.proofs.Places.{place, set_at_same, set_at_other, set_at_again, set_at_itself}
 use Rattle.wake_core.proofs.Listing.{lists-append, lists_snoc, either}
 use Rattle.wake_core.proofs.Playing.{idle_by}
 
 takes_is : (c : ℕ) (w v : Plain) (s : State) (b : Bool) → c < length w.routes → v ≡ record w { hands = set_at 0 (hand c Known) w.hands; states = set_at c s w.states; spent = set_at c b w.spent }
-    → (w.spent c ≡ true → b ≡ true) → (s ≡ Ready → (IsDue (w.states c) w.clock → ⊥) → (w.states c ≡ Ready) ⊎ (w.spent c ≡ false)) → ((IsDue (w.states c) w.clock → ⊥) → b ≡ true) → (IsDue (w.states c) w.clock → b ≡ w.spent c) → (s ≢ Ready → (b ≡ true) × (s ≡ w.states c) × (IsDue s w.clock → ⊥)) → is_finished s ≡ is_finished (w.states c) → Takes c w v
-takes_is c w v s b known e spends woken fresh due parked ended =
+    → (w.spent c ≡ true → b ≡ true) → (s ≡ Ready → (IsDue (w.states c) w.clock → ⊥) → (w.states c ≡ Ready) ⊎ (w.spent c ≡ false)) → ((IsDue (w.states c) w.clock → ⊥) → b ≡ true) → (IsDue (w.states c) w.clock → b ≡ w.spent c) → (s ≢ Ready → (b ≡ true) × (s ≡ w.states c) × (IsDue s w.clock → ⊥)) → is_finished s ≡ is_finished (w.states c) → (is_woken (w.states c) (w.spent c) ≡ true → s ≡ Ready) → Takes c w v
+takes_is c w v s b known e spends woken fresh due parked ended wakes =
     let state : v.states c ≡ s = ap (λ (x : Plain). x.states c) e ∙ set_at_same c s w.states in
     let flag : v.spent c ≡ b = ap (λ (x : Plain). x.spent c) e ∙ set_at_same c b w.spent in
     let clock : v.clock ≡ w.clock = ap (λ (x : Plain). x.clock) e in
@@ -33,6 +33,7 @@ takes_is c w v s b known e spends woken fresh due parked ended =
             state ∙ is.1,
           );
       ended = ap is_finished state ∙ ended;
+      wakes = λ woke. state ∙ wakes woke;
     }
 
 -- Whatever is due or was woken hasn't ended.
@@ -60,6 +61,9 @@ clear s true e = absurd (true_false (sym e ∙ never (is_waiting s)))
     true_false : true ≡ false → ⊥
     true_false e = cc
 
+true_false : true ≡ false → ⊥
+true_false e = cc
+
 module _ (c : ℕ) (w m : Plain) (a : Acquires 0 c w m) where
   -- It is due.
   pub takes_due : (v : Plain) → Readies 0 c m v → IsDue (w.states c) w.clock → Takes c w v × (v.states c ≡ Ready)
@@ -68,7 +72,7 @@ module _ (c : ℕ) (w m : Plain) (a : Acquires 0 c w m) where
       r.effect ∙ ap (after_ready 0 c) a.effect
       ∙ ap (λ (h : ℕ → Option Hand). record w { hands = h; states = set_at c Ready w.states }) (set_at_again 0 (hand c Fresh) (hand c Known) w.hands)
       ∙ ap (λ (b : ℕ → Bool). record w { hands = set_at 0 (hand c Known) w.hands; states = set_at c Ready w.states; spent = b }) (sym (set_at_itself c w.spent)) in (
-        takes_is c w v Ready (w.spent c) a.known e (λ was. was) (λ is late. absurd (late due)) (λ late. absurd (late due)) (λ is. refl) (λ other. absurd (other refl)) (due_goes_on (w.states c) w.clock due),
+        takes_is c w v Ready (w.spent c) a.known e (λ was. was) (λ is late. absurd (late due)) (λ late. absurd (late due)) (λ is. refl) (λ other. absurd (other refl)) (due_goes_on (w.states c) w.clock due) (λ woke. refl),
         ap (λ (x : Plain). x.states c) e ∙ set_at_same c Ready w.states,
       )
 
@@ -94,7 +98,7 @@ module _ (c : ℕ) (w m : Plain) (a : Acquires 0 c w m) where
         ∙ ap (λ (h : ℕ → Option Hand). record n { hands = set_at 0 (hand c Known) h; states = set_at c Ready n.states }) spent_hands
         ∙ ap (λ (h : ℕ → Option Hand). record n { hands = h; states = set_at c Ready n.states }) (set_at_again 0 (hand c (phase_after_spend (m.states c) (m.spent c))) (hand c Known) w.hands)
         ∙ ap (λ (x : Plain). record x { hands = set_at 0 (hand c Known) w.hands; states = set_at c Ready x.states }) spent_is in (
-          takes_is c w v Ready true a.known e (λ was. refl) (λ is late. inr (clear (w.states c) (w.spent c) woke)) (λ late. refl) (λ due. absurd (not_due due)) (λ other. absurd (other refl)) (woken_goes_on (w.states c) (w.spent c) woke),
+          takes_is c w v Ready true a.known e (λ was. refl) (λ is late. inr (clear (w.states c) (w.spent c) woke)) (λ late. refl) (λ due. absurd (not_due due)) (λ other. absurd (other refl)) (woken_goes_on (w.states c) (w.spent c) woke) (λ woke. refl),
           ap (λ (x : Plain). x.states c) e ∙ set_at_same c Ready w.states,
         )
 
@@ -105,7 +109,7 @@ module _ (c : ℕ) (w m : Plain) (a : Acquires 0 c w m) where
         spent_is
         ∙ ap (λ (h : ℕ → Option Hand). record w { hands = h; spent = set_at c true w.spent }) (spent_hands ∙ ap (λ (b : Bool). set_at 0 (hand c (if b then Woken else Known)) w.hands) not)
         ∙ ap (λ (t : ℕ → State). record w { hands = set_at 0 (hand c Known) w.hands; states = t; spent = set_at c true w.spent }) (sym (set_at_itself c w.states)) in
-        takes_is c w n (w.states c) true a.known e (λ was. refl) (λ is late. inl is) (λ late. refl) (λ due. absurd (not_due due)) (λ other. (refl, refl, not_due)) refl
+        takes_is c w n (w.states c) true a.known e (λ was. refl) (λ is late. inl is) (λ late. refl) (λ due. absurd (not_due due)) (λ other. (refl, refl, not_due)) refl (λ woke. absurd (true_false (sym woke ∙ sym (ap (λ (x : Plain). is_woken (x.states c) (x.spent c)) a.effect) ∙ not)))
 
 -- Whoever takes one at rest has it in hand.
 pub takes_hand : (c : ℕ) (w v : Plain) → IsAtRest w → Takes c w v → IsInHand c Known v
@@ -134,6 +138,10 @@ neither : (a b : Bool) → (a || b) ≡ false → (a ≡ false) × (b ≡ false)
 neither true b e = absurd (never e)
 neither false b e = (refl, e)
 
+unwoken : (b : Bool) → (b ≡ true → ⊥) → b ≡ false
+unwoken true not = absurd (not refl)
+unwoken false not = refl
+
 -- One more that isn't READY is given back.
 pub passes_one : (c : ℕ) (w m v : Plain) → IsAtRest w → Takes c w m → m.states c ≢ Ready → Releases 0 c m v → Passes (c ∷ []) w v
 passes_one c w m v rest t other r =
@@ -161,6 +169,10 @@ passes_one c w m v rest t other r =
               (subst (λ n. IsDue (v.states k) n) (ap (λ (x : Plain). x.clock) e ∙ sym (ap (λ (x : Plain). x.clock) t.same)) due));
         }
       ];
+      waited = λ k among. elim (lists_snoc k c [] among) [
+        | inl none ↦ cc
+        | inr same ↦ unwoken (is_woken (w.states k) (w.spent k)) (λ woke. other (t.wakes (ap (λ n. is_woken (w.states n) (w.spent n)) (sym same) ∙ woke)))
+      ];
       others = λ k none. elim (place k c) [
         | inl same ↦ absurd (never (sym (listed c k (sym same)) ∙ none))
         | inr apart ↦ ap (λ (x : Plain). x.spent k) e ∙ ap (λ (f : ℕ → Bool). f k) t.spent ∙ set_at_other c (m.spent c) w.spent k apart
@@ -185,8 +197,17 @@ passes_more xs ys w m v a b = record {
     | inl e ↦ parked_on ys c m v b (a.parked c e)
     | inr e ↦ b.parked c e
   ];
+  waited = λ c among. elim (either (lists c xs) (lists c ys) (sym (lists-append c xs ys) ∙ among)) [
+    | inl e ↦ a.waited c e
+    | inr e ↦ by c (lists c xs) refl e
+  ];
   others = λ c none. let e = neither (lists c xs) (lists c ys) (sym (lists-append c xs ys) ∙ none) in b.others c e.1 ∙ a.others c e.0;
 }
+  where
+    by : (c : ℕ) (b : Bool) → lists c xs ≡ b → lists c ys ≡ true → is_woken (w.states c) (w.spent c) ≡ false
+    by c true is among = a.waited c is
+    by c false is among =
+        ap (λ (s : State). is_woken s (w.spent c)) (sym (ap (λ (x : Plain). x.states c) a.effect)) ∙ ap (is_woken (m.states c)) (sym (a.others c is)) ∙ b.waited c among
 
 pub finds_here : (before after : List ℕ) (c : ℕ) (w m v : Plain) → Passes before w m → Sound m → Takes c m v → v.states c ≡ Ready → Finds (before ++ c ∷ after) c w v
 finds_here before after c w m v p s t ready = record { before = before; after = after; there = refl; between = m; sound = s; passes = p; takes = t; ready = ready }

@@ -112,10 +112,13 @@ go_on routes x None c w = call_at routes x c (finds x w c) w
 go_on routes x (Some r) c w = end_of c w
 
 -- The output that it holds back is sent; one that is stopped ends after that.
-abbrev pub send_held : List Route → Route → Option Raised → ℕ → Run → Run
-send_held routes x None c w = send routes x c (last_out (last_outcome x.kind (w.calls c)))
+abbrev pub sent : List Route → Route → ℕ → Run → Run
+sent routes x c w = send routes x c (last_out (last_outcome x.kind (w.calls c)))
     (record w { unsent = set_at c false w.unsent })
-send_held routes x (Some r) c w = end_of c (send_held routes x None c w)
+
+abbrev pub send_held : List Route → Route → Option Raised → ℕ → Run → Run
+send_held routes x None c w = sent routes x c w
+send_held routes x (Some r) c w = end_of c (sent routes x c w)
 
 -- A component is resumed.
 abbrev pub resume_by : List Route → Route → Option Raised → ℕ → Run → Run

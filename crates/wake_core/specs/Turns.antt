@@ -1,5 +1,5 @@
 -- What the serial run does with a world, call by call. Thread 0 does all of it.
-use Rattle.std.specs.Prelude.{ℕ, zero, suc, ◌+◌, ◌-◌, ◌*◌, ◌≡◌, ◌≢◌, ◌≤◌, ◌<◌, ◌⊎◌, ◌&&◌, Bool, true}
+use Rattle.std.specs.Prelude.{ℕ, zero, suc, ◌+◌, ◌-◌, ◌*◌, ◌≡◌, ◌≢◌, ◌≤◌, ◌<◌, ◌⊎◌, ◌&&◌, ◌||◌, Bool, true}
 use Rattle.std.specs.Prelude.{false, not, List, [], ◌∷◌, ◌++◌, length, Option, Some, slice_get}
 use Rattle.std.specs.Prelude.{None, if◌then◌else◌, nat_lt, is_some, take, drop}
 use Rattle.std.specs.Option.{option_map_or}
@@ -11,12 +11,12 @@ use Rattle.cy_comp.specs.Calls.{held_until}
 use Rattle.wake_core.specs.Run.{Route, set_at, arrive, readers_of, played_of}
 use Rattle.wake_core.specs.Planned.{planned_count, first_reader, counts_from}
 use Rattle.wake_core.specs.Settle.{Settles}
-use Rattle.wake_core.specs.Serial.{Raised, is_roused, is_runnable, resume, play, next, Plays}
+use Rattle.wake_core.specs.Serial.{Raised, heard_by, is_roused, is_runnable, resume, play, next, Plays}
 use Rattle.wake_core.specs.Plain.{Plain, Stop, hand, State, Ready, DataWait, Sleep, Finished, Phase}
 use Rattle.wake_core.specs.Plain.{Known, Checked, Stopping, Running, stops, lists, lists_reader}
-use Rattle.wake_core.specs.Plain.{last_of, unsent_of, found_by}
+use Rattle.wake_core.specs.Plain.{last_of, unsent_of, found_by, played_count}
 use Rattle.wake_core.specs.Events.{OwesNothing, IsDue, Asks, Fetches, Sends, Yields, Releases}
-use Rattle.wake_core.specs.Events.{next_call, after_send, after_yield, is_waiting, is_finished}
+use Rattle.wake_core.specs.Events.{IsNext, next_call, after_send, after_yield, is_waiting, is_finished}
 pub use Rattle.wake_core.specs.Events.{is_ready}
 use Rattle.wake_core.specs.WorldCalls.{in_hand, phase_sent}
 use Rattle.wake_core.specs.Laws.{IsIdle}
@@ -62,7 +62,7 @@ pub record MaySendOut (t : Token) (w : Plain) : Type 0 where
       (after_send 0 (in_hand 0 w) (phase_sent (w.hands 0)) t w)
 
 -- A message is played: the world is at rest again, and shows that.
-pub record IsPut (t : Token) (w v : Plain) : Type 0 where
+pub record PlaysOne (t : Token) (w v : Plain) : Type 0 where
   pub rest : IsAtRest v
   pub run : run_shown v ≡ play w.routes t (run_shown w)
   pub routes : v.routes ≡ w.routes
@@ -71,8 +71,9 @@ pub record IsPut (t : Token) (w v : Plain) : Type 0 where
   pub closing : v.closing ≡ w.closing
   pub raised : v.raised ≡ w.raised
   pub played : played_of v.routes v.tape ≡ played_of w.routes w.tape ++ t ∷ []
-  -- The flag of one that waits and was told is clear, and all else stays of states and flags.
+  -- The flag of one that waits and was told is clear, and else states, flags and outputs stay.
   pub states : v.states ≡ w.states
+  pub unsent : (c : ℕ) → unsent_of v c ≡ unsent_of w c
   pub spent : (c : ℕ) → v.spent c ≡ flag_after (readers_of w.routes t.channel) w c
 
 -- Whether a flag wakes a croutine: it waits, and its flag is clear.
@@ -172,9 +173,10 @@ pub record Calls (c : ℕ) (answer : Option Outcome) (w v : Plain) : Type 0 wher
 
 -- It was called from a world in which it was READY.
 pub record IsCalledFrom (c : ℕ) (call : Call) (w v : Plain) : Type 0 where
-  pub before : IsInHand c Known w
+  pub before : IsInHand c Checked w
   pub sound : Sound w
   pub ready : w.states c ≡ Ready
+  pub unstopped : stops w.stop w.raised c ≡ false
   pub called : IsCalled c call w v
 
 -- Its output was sent and delivered where there is one that isn't held back.
@@ -260,12 +262,27 @@ pub record Leaves (c : ℕ) (w v : Plain) : Type 0 where
   pub step : (stop : Option Raised) → IsNamed stop c w → IsStep c w v stop
   pub rests : Rests c Finished w v
 
+-- What a component comes to while another one does something: messages may have come to its first
+-- reader, and told it. Where it goes on and holds no output back, it did so before; and it is loose
+-- where it was, or heard of a message.
+pub record Keeps (k : ℕ) (w v : Plain) : Type 0 where
+  pub more : Bool
+  pub heard : heard_by (w.arrivals k) ≤ heard_by (v.arrivals k)
+  pub hears : more ≡ true → heard_by (w.arrivals k) < heard_by (v.arrivals k)
+  pub silent : more ≡ false → heard_by (v.arrivals k) ≡ heard_by (w.arrivals k)
+  pub went_on : is_finished (v.states k) ≡ false → is_finished (w.states k) ≡ false
+  pub held_none : unsent_of v k ≡ None → unsent_of w k ≡ None
+  pub looser : is_finished (v.states k) ≡ false → unsent_of v k ≡ None
+      → is_loose (v.states k) (v.spent k) ≡ (is_loose (w.states k) (w.spent k) || more)
+
 pub record Resumes (c : ℕ) (w v : Plain) : Type 0 where
   pub rest : IsAtRest v
   pub stays : StaysFixed w v
   pub turn : Steps c w v ⊎ Leaves c w v ⊎ Rests c DataWait w v
   -- One that is stopped has ended.
   pub ended : stops w.stop w.raised c ≡ true → v.states c ≡ Finished
+  pub hears : (k : ℕ) → heard_by (w.arrivals k) ≤ heard_by (v.arrivals k)
+  pub keeps : (k : ℕ) → k ≢ c → Keeps k w v
 
 -- The next turn of a croutine would find nothing: it is READY, nothing of it is unsent, and there
 -- is nothing for it to fetch.
@@ -309,6 +326,16 @@ pub record IsSettled (scan : List ℕ) (w v : Plain) : Type 0 where
       → Settles (next w.routes stop scan) (run_shown w) (run_shown v) × Heeds stop v
   pub parked : (c : ℕ) → lists c scan ≡ true → IsParked c v
 
+-- How many messages of so many are played before the stop is raised: all, where there is none.
+abbrev pub place_of : Option Stop → (count : ℕ) → ℕ
+place_of None count = count
+place_of (Some s) count = s.after
+
+-- A message is the next, and the stop is raised where it was to be raised by now.
+pub record MayPut (t : Token) (w : Plain) : Type 0 where
+  pub next : IsNext t w
+  pub raised : (s : Stop) → w.stop ≡ Some s → played_count w ≡ s.after → w.raised ≡ true
+
 -- So many messages of a list were played in a world at rest, and the next one is not earlier than
 -- its clock.
 pub record IsPlayedTo (tokens : List Token) (w : Plain) (n : ℕ) : Type 0 where
@@ -328,6 +355,8 @@ pub record MayPlayOn (tokens : List Token) (n m : ℕ) (w : Plain) : Type 0 wher
 
 -- They were played, and what each started has settled.
 pub record PlaysOn (scan : List ℕ) (tokens : List Token) (n m : ℕ) (w v : Plain) : Type 0 where
+  pub ordered : n ≤ m
+  pub none : n ≡ m → v ≡ w
   pub played : IsPlayedTo tokens v m
   pub made : StaysMade w v
   pub raised : v.raised ≡ w.raised

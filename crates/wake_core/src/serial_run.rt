@@ -1,18 +1,20 @@
 // The serial run: what the events come to where one thread does them all.
-ghost use Rattle.std.specs.Prelude.{ℕ, ◌≡◌, ◌≤◌, ◌<◌, true, false, Some, None, length};
+ghost use Rattle.std.specs.Prelude.{ℕ, ◌≡◌, ◌≤◌, ◌<◌, true, false, Option, Some, None, length};
 ghost use Rattle.cy_msg.specs.Placement.{scan_of};
 ghost use Rattle.cy_comp.specs.declared.call.Call.{Call};
-ghost use Rattle.wake_core.specs.Plain.{Plain, Ready, Known, Running, lists, last_of, unsent_of};
-ghost use Rattle.wake_core.specs.Events.{Ticks, IsNext};
+ghost use Rattle.wake_core.specs.Plain.{Plain, Stop, Ready, Known, Checked, Stopping, Running, lists};
+ghost use Rattle.wake_core.specs.Plain.{last_of, unsent_of, stops};
+ghost use Rattle.wake_core.specs.Events.{Ticks, after_stop};
 ghost use Rattle.wake_core.specs.Settle.{Settles};
-ghost use Rattle.wake_core.specs.Serial.{SerialRun, last_clock, next};
+ghost use Rattle.wake_core.specs.Serial.{SerialRun, Raised, last_clock, next};
 ghost use Rattle.wake_core.specs.LawfulRun.{Quiet, LawfulRun};
 ghost use Rattle.wake_core.specs.Rest.{IsAtRest, IsScanOf, MayPlay, MayFinish, StaysMade};
-ghost use Rattle.wake_core.specs.Rest.{StaysFixed, run_shown};
-ghost use Rattle.wake_core.specs.Turns.{Plays, Passes, Finds, IsInHand, MaySendOut, Delivered};
-ghost use Rattle.wake_core.specs.Turns.{SendsOut, IsCalledFrom, Resumes, Turns, IsSettled};
+ghost use Rattle.wake_core.specs.Rest.{StaysFixed, Heeds, run_shown};
+ghost use Rattle.wake_core.specs.Turns.{PlaysOne, MayPut, Passes, Finds, IsInHand, MaySendOut};
+ghost use Rattle.wake_core.specs.Turns.{Delivered, SendsOut, IsCalledFrom, Resumes, Turns};
+ghost use Rattle.wake_core.specs.Turns.{IsSettled, MayPlayOn, PlaysOn, place_of};
 ghost use Rattle.wake_core.specs.WorldOf.{plain_of, to_step};
-ghost use Rattle.wake_core.specs.WorldCalls.{in_hand, phase_sent, IsStepped};
+ghost use Rattle.wake_core.specs.WorldCalls.{in_hand, phase_sent, IsStepped, MayStop};
 
 use crate::World;
 use crate::outcome::{holds, state_of};
@@ -106,7 +108,7 @@ fn play(world: &mut World, token: &Token)
     requires rest { IsAtRest (plain_of world.old) }
     requires later { (plain_of world.old).clock ≤ token.now.time }
     requires next { MayPut token.now (plain_of world.old) }
-    ensures { IsPut token.now (plain_of world.old) (plain_of world.new) }
+    ensures { PlaysOne token.now (plain_of world.old) (plain_of world.new) }
 {
     world.tick(0, token.time);
     world.tape(0, *token);
@@ -196,9 +198,19 @@ fn end(world: &mut World, component: u32)
     ensures { Resumes component (plain_of world.old) (plain_of world.new) }
 {
     world.sound();
-    if let Some(token) = world.unsent(component) {
-        send(world, token);
+    match world.unsent(component) {
+        Some(token) => send_last(world, component, token),
+        None => world.give_back(State::Finished),
     }
+}
+
+// Sends the output that the stopped croutine in hand holds back, and ends it.
+fn send_last(world: &mut World, component: u32, token: Token)
+    requires held { IsInHand component Stopping (plain_of world.old) }
+    requires unsent { unsent_of (plain_of world.old) component ≡ Some token }
+    ensures { Resumes component (plain_of world.old) (plain_of world.new) }
+{
+    send(world, token);
     world.give_back(State::Finished);
 }
 
@@ -219,9 +231,11 @@ fn go_on(world: &mut World, component: u32)
 
 // Sends the output that the READY croutine in hand held back, and gives it back.
 fn send_held(world: &mut World, component: u32, token: Token)
-    requires held { IsInHand component Known (plain_of world.old) }
+    requires held { IsInHand component Checked (plain_of world.old) }
     requires ready { (plain_of world.old).states component ≡ Ready }
     requires unsent { unsent_of (plain_of world.old) component ≡ Some token }
+    requires unstopped { stops (plain_of world.old).stop (plain_of world.old).raised component
+        ≡ false }
     ensures { Resumes component (plain_of world.old) (plain_of world.new) }
 {
     send(world, token);
@@ -230,9 +244,11 @@ fn send_held(world: &mut World, component: u32, token: Token)
 
 // Fetches for the READY croutine in hand, calls its component on what is found, and gives it back.
 fn call(world: &mut World, component: u32)
-    requires held { IsInHand component Known (plain_of world.old) }
+    requires held { IsInHand component Checked (plain_of world.old) }
     requires ready { (plain_of world.old).states component ≡ Ready }
     requires none_held { unsent_of (plain_of world.old) component ≡ None }
+    requires unstopped { stops (plain_of world.old).stop (plain_of world.old).raised component
+        ≡ false }
     ensures { Resumes component (plain_of world.old) (plain_of world.new) }
 {
     match world.call(component) {
