@@ -6,16 +6,17 @@ use crate::hold::Hold;
 use crate::laws;
 use crate::part::Part;
 use crate::pass::{Busy, Pass};
-use crate::rule::{Acquire, Ask, Release, Yield};
+use crate::rule::{Acquire, Ask, Check, Release, Yield};
 use crate::table::FlagTable;
 use cy_comp::State;
 
 impl FlagTable {
     ghost use Rattle.std.specs.Prelude.{◌≡◌, IfOk, IfErr};
-    ghost use Rattle.cy_table.specs.Steps.{releasing, asking, yielding};
+    ghost use Rattle.cy_table.specs.Steps.{releasing, checking, asking, yielding};
     ghost use Rattle.cy_table.specs.Plays.{in_hand};
     ghost use Rattle.cy_table.specs.Calls.{seat_of, Stays, HasNoHold, Holds, IsStepped, MayAcquire};
-    ghost use Rattle.cy_table.specs.Calls.{Acquired, FoundHeld, CanRelease, CanAsk, CanYield};
+    ghost use Rattle.cy_table.specs.Calls.{Acquired, FoundHeld, CanRelease, CanResume, CanAsk};
+    ghost use Rattle.cy_table.specs.Calls.{CanYield, ShowsTheSame};
 
     /// Takes a croutine in hand, by one swap of its hold word, where it was found free. `Busy`
     /// comes exactly where another thread was found to have it. The routine has at least the calls
@@ -45,6 +46,22 @@ impl FlagTable {
         } else {
             Err(Busy)
         }
+    }
+
+    /// Begins a resume of the croutine in hand, which is READY: whether it is to end without a call,
+    /// since the stop names it that one load found raised.
+    pub fn resume(&self, pass: &mut Pass, hold: &mut Hold) -> bool
+        requires { CanResume self.now pass.old hold.old }
+        ensures same { Stays self.now pass.old pass.new }
+        ensures seat { seat_of pass.new
+            ≡ checking (seat_of pass.old) (in_hand (seat_of pass.old)) result }
+        ensures holds { Holds self.now pass.new hold.new × ShowsTheSame hold.old hold.new
+            × IsStepped hold.new }
+    {
+        laws::stop_loads();
+        let shared = &self.table.shared;
+        let found = shared.load::<Check>(&mut pass.seat, self.stop_word());
+        found == u64::from(hold.component) + 1
     }
 
     /// Before a fetch: the croutine in hand, which is READY, waits for a message again.
