@@ -1,12 +1,11 @@
 -- The steps of the stop word.
-use Rattle.std.proofs.Common.{ℕ, ◌+◌, ◌*◌, ◌≡◌, ◌≢◌, ◌≤◌, ◌<◌, ◌==◌, Bool, true, false, cond, refl, sym, ◌∙◌, ap, subst, inl, inr, List, length, slice_index, Option, Some, None, arith}
+use Rattle.std.proofs.Common.{ℕ, ◌+◌, ◌*◌, ◌≡◌, ◌≢◌, ◌<◌, ◌==◌, Bool, true, false, refl, sym, ◌∙◌, ap, subst, inl, inr, List, length, slice_index, Option, Some, None, arith}
 use Rattle.std.proofs.lemmas.Bool.Decides.{eqb_tells}
 use Rattle.std.proofs.Math.Seq.{take-length}
-use mathlib.Core.Bool.{false≢true}
 use Rattle.atomic_table.specs.Table.{State as Table, stepped, keeps}
 use Rattle.cy_comp.specs.declared.state.State.{State}
 use Rattle.cy_comp.specs.Routine.{RoutineView}
-use Rattle.wake_core.specs.declared.phase.Phase.TheVariants.{Known, Checked, Stopping}
+use Rattle.wake_core.specs.declared.phase.Phase.TheVariants.{Known}
 use Rattle.wake_core.specs.Run.{set_at}
 use Rattle.wake_core.specs.Plain.{Plain, Stop, hand, stops}
 use Rattle.wake_core.specs.Events.{Checks, Stops, phase_after_check, after_check, after_stop}

@@ -8,7 +8,7 @@ use Rattle.cy_comp.specs.Routine.{RoutineView}
 use Rattle.wake_core.specs.declared.route.Route.{Route}
 use Rattle.wake_core.specs.declared.phase.Phase.TheVariants.{Fresh}
 use Rattle.wake_core.specs.Run.{set_at}
-use Rattle.wake_core.specs.Plain.{Plain, Stop, hand, to_play_from}
+use Rattle.wake_core.specs.Plain.{Plain, hand, to_play_from}
 use Rattle.wake_core.specs.Events.{IsDue, is_waiting, phase_after_spend, Spends, Looks, Clears, Ticks, Closes, after_spend, after_look, after_clear}
 use Rattle.wake_core.specs.Laws.{KeepsSound}
 use Rattle.cy_table.specs.declared.part.Part.{Part}

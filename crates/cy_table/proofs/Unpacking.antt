@@ -1,5 +1,5 @@
 -- What is in the slots of a table when its last pass gives it up, and the world that is made of it.
-use Rattle.std.proofs.Common.{ℕ, zero, suc, ◌+◌, ◌-◌, ◌*◌, ◌≡◌, ◌≢◌, ◌≤◌, ◌<◌, ◌⊎◌, ◌==◌, Bool, true, false, refl, sym, ◌∙◌, ap, ap₂, subst, inl, inr, List, [], ◌∷◌, ◌++◌, length, length-append, take, map, sum, filter, cond, not, slice_index, slice_get, get_or, get_or-set_same, get_or-set_other, set, option_map, Option, Some, None, vec_capacity, arith}
+use Rattle.std.proofs.Common.{ℕ, zero, suc, ◌+◌, ◌*◌, ◌≡◌, ◌≢◌, ◌≤◌, ◌<◌, ◌⊎◌, ◌==◌, Bool, true, false, refl, sym, ◌∙◌, ap, ap₂, subst, inl, inr, List, [], ◌∷◌, ◌++◌, length, length-append, take, map, sum, filter, cond, not, slice_index, slice_get, get_or, get_or-set_same, get_or-set_other, set, option_map, Option, Some, None, vec_capacity, arith}
 use Rattle.std.specs.Option.{option_map_or}
 use Rattle.std.proofs.lemmas.Bool.Decides.{eqb_tells}
 use mathlib.Core.Bool.{false≢true}

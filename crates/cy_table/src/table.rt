@@ -49,13 +49,13 @@ impl FlagTable {
     }
 }
 
-// The stop in its word, raised or not.
+// The stop in its word: 0 until it is raised.
 fn stop_number(stop: Option<Stop>, raised: bool) -> u64
     ensures { result ≡ stop_number_for stop raised }
 {
     match stop {
-        _ if !raised => 0,
-        Some(stop) => u64::from(stop.component) + 1,
-        None => 65,
+        Some(stop) if raised => u64::from(stop.component) + 1,
+        None if raised => 65,
+        _ => 0,
     }
 }

@@ -1,4 +1,4 @@
-// Taking a croutine, saying what it is to do next, and giving it back.
+// Taking a croutine, beginning its resume, saying what it is to do next, and giving it back.
 ghost use Rattle.std.specs.Prelude.{◌≡◌};
 ghost use Rattle.cy_table.specs.Layout.{state_number as number_for};
 
@@ -48,8 +48,8 @@ impl FlagTable {
         }
     }
 
-    /// Begins a resume of the croutine in hand, which is READY: whether it is to end without a call,
-    /// since the stop names it that one load found raised.
+    /// Begins a resume of the croutine in hand, which is READY, by one load of the stop. Whether the
+    /// load found it raised and of this component, which then ends without a further call.
     pub fn resume(&self, pass: &mut Pass, hold: &mut Hold) -> bool
         requires { CanResume self.now pass.old hold.old }
         ensures same { Stays self.now pass.old pass.new }
@@ -64,7 +64,8 @@ impl FlagTable {
         found == u64::from(hold.component) + 1
     }
 
-    /// Before a fetch: the croutine in hand, which is READY, waits for a message again.
+    /// Before a fetch: the croutine in hand, which is to be resumed and not stopped, waits for a
+    /// message again.
     pub fn ask(&self, pass: &mut Pass, hold: &mut Hold)
         requires { CanAsk self.now pass.old hold.old }
         ensures same { Stays self.now pass.old pass.new }
@@ -78,8 +79,8 @@ impl FlagTable {
         shared.store::<Ask>(&mut pass.seat, 4 * c + 5, 1);
     }
 
-    /// After a fetch, and where one was called after the step: stores what the croutine in hand is
-    /// to do next.
+    /// After a fetch, and where one was called after the step; or of one that is stopped, once its
+    /// held output was sent: stores what the croutine in hand is to do next.
     pub fn yield_as(&self, pass: &mut Pass, hold: &mut Hold, state: State)
         requires { CanYield self.now pass.old hold.old state }
         ensures same { Stays self.now pass.old pass.new }

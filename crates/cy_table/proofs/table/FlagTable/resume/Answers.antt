@@ -1,5 +1,5 @@
 -- The load of the stop word.
-use Rattle.std.proofs.Common.{ap, ◌∙◌, arith}
+use Rattle.std.proofs.Common.{arith}
 use Rattle.wake_core.specs.WorldOf.{plain_of}
 use Rattle.cy_table.proofs.Words.{checks}
 use Rattle.cy_table.proofs.table.FlagTable.resume.Goals as goal
