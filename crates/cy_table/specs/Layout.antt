@@ -63,13 +63,13 @@ abbrev pub yes_or_no : Bool → ℕ
 yes_or_no false = 0
 yes_or_no true = 1
 
--- The number of the component that a stop names, plus 1. There are at most 64 components, so no stop
--- names none of them.
+-- The number of the component that a stop names, plus 1. What stands for no stop is the number of
+-- no component, of which there are at most 64.
 abbrev pub named_by : Option Stop → ℕ
 named_by None = 65
 named_by (Some s) = s.component + 1
 
--- The stop in its word: 0, until it is raised. No event raises where no stop is given; but a world
--- that were so would be told from others too.
+-- The stop in its word: 0 until it is raised. (No event raises where no stop is given, and nothing
+-- here rests on that.)
 abbrev pub stop_number : Option Stop → (raised : Bool) → ℕ
 stop_number stop raised = if raised then named_by stop else 0

@@ -48,8 +48,8 @@ impl FlagTable {
         }
     }
 
-    /// Begins a resume of the croutine in hand, which is READY, by one load of the stop. Whether the
-    /// load found it raised and of this component, which then ends without a further call.
+    /// Begins a resume of the croutine in hand, which is READY, by one load of the stop. Whether
+    /// that load found it raised and of this component, which then ends without a call.
     pub fn resume(&self, pass: &mut Pass, hold: &mut Hold) -> bool
         requires { CanResume self.now pass.old hold.old }
         ensures same { Stays self.now pass.old pass.new }
