@@ -56,6 +56,7 @@ module _ {made : Plain} {s s' : Table Part Seat} (k : Ruled made s) (id : ℕ) (
     rooms = k.rooms;
     components = b.routes ∙ k.components;
     planned = b.counts ∙ k.planned;
+    stop = b.stop ∙ k.stop;
     reached = and_then k.reached (make k.world b.world b.happens);
     noted = λ j u e. all_were made b.world s.views id v' (λ i y at. were_then made (make k.world b.world b.happens) y.note (k.noted i y at)) so j u (ap (λ (l : List Seat). get_elem? l j) (sym views) ∙ e);
     rules = b.rules;
@@ -67,6 +68,7 @@ module _ {made : Plain} {s s' : Table Part Seat} (k : Ruled made s) (id : ℕ) (
     rooms = k.rooms;
     components = k.components;
     planned = k.planned;
+    stop = k.stop;
     reached = k.reached;
     noted = λ j u e. all_were made k.world s.views id v' k.noted so j u (ap (λ (l : List Seat). get_elem? l j) (sym views) ∙ e);
     rules = rules;

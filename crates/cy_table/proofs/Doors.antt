@@ -20,20 +20,22 @@ use Rattle.cy_table.proofs.Parts.{visitor_here, visitor_else, OthersStay, same_w
 use Rattle.cy_table.proofs.Knowing.{nothing_grows, rules_after}
 use Rattle.cy_table.proofs.Holding.{wide_is, deep_is, seat_is, seat_in, mine, unmoved}
 
-pub tape_others : (x : ℕ) (word : ℕ → ℕ) → OthersStay 3 x word
-tape_others x word = record {
+pub tape_others : (n x : ℕ) (word : ℕ → ℕ) → OthersStay n 3 x word
+tape_others n x word = record {
   state_same = λ d. other 3 x word (4 * d + 5) (λ a. omega arith);
   flag_same = λ d. other 3 x word (4 * d + 6) (λ a. omega arith);
   clock_same = other 3 x word 1 (λ a. omega arith);
   closing_same = other 3 x word 2 (λ a. omega arith);
+  stop_same = other 3 x word (4 * n + 4) (λ a. omega arith);
 }
 
-pub visitor_others : (c x : ℕ) (word : ℕ → ℕ) → OthersStay (4 * c + 7) x word
-visitor_others c x word = let i : ℕ = 4 * c + 7 in record {
+pub visitor_others : (n c x : ℕ) (word : ℕ → ℕ) → OthersStay n (4 * c + 7) x word
+visitor_others n c x word = let i : ℕ = 4 * c + 7 in record {
   state_same = λ d. other i x word (4 * d + 5) (λ a. omega arith);
   flag_same = λ d. other i x word (4 * d + 6) (λ a. omega arith);
   clock_same = other i x word 1 (λ a. omega arith);
   closing_same = other i x word 2 (λ a. omega arith);
+  stop_same = other i x word (4 * n + 4) (λ a. omega arith);
 }
 
 module _ {n : ℕ} {tape : TapeView} {routines : ℕ → RoutineView} {visitors : ℕ → VisitorView} {t : Spread} (sh : ShowsParts n tape routines visitors t) (id : ℕ) (v : Seat) where
@@ -138,13 +140,13 @@ module _ (r : Rooms) (w : Plain) (s : Table Part Seat) (id : ℕ) (v : Seat) (si
       let k = mine r w s id v sits in
       let shows : Shows r w (after t 3 1 id v' (set_at 0 (some none) t.home)) = record {
         parts = tape_taken sits.rules.shows.parts id v' (ap (λ (u : Seat). u.visit) (sym at)) (λ c. ap (λ (u : Seat). routine_of c u.hand) (sym at)) refl free;
-        words = same_words 3 1 (tape_others 1 t.word) sits.rules.shows.words;
+        words = same_words 3 1 (tape_others (length w.routes) 1 t.word) sits.rules.shows.words;
         threads = threads_still sits.rules.shows.threads id v v' at refl refl refl refl refl;
       } in (
         x,
         home_is s 0 (some (some (part.Tape x))) (tape_back (t.home 0) x home.shown),
         refl,
-        rules_after r w s id v sits w refl refl (nothing_grows w.routes w.tape w.clock w.calls w.closing id) v' 3 1 out (takes 0 (part.Tape x)) sits.rules.sound
+        rules_after r w s id v sits w refl refl refl (nothing_grows w.routes w.tape w.clock w.calls w.closing w.raised id) v' 3 1 out (takes 0 (part.Tape x)) sits.rules.sound
             (subst (Shows r w) (sym (spread_takes s 3 1 id v' out (omega (arith, wide_is r w s id v sits)) (seat_in r w s id v sits) 0 (part.Tape x) (omega (arith, deep_is r w s id v sits)))) shows)
             (length-set s.homes 0 none) refl refl
             record { made = k.made; joined = λ z. absurd (sits.live z); calls = k.calls; past = k.past; closes = k.closes; player = k.player },
@@ -164,13 +166,13 @@ module _ (r : Rooms) (w : Plain) (s : Table Part Seat) (id : ℕ) (v : Seat) (si
       let k = mine r w s id v sits in
       let shows : Shows r w (after t i 1 id v' (set_at (2 * c + 2) (some none) t.home)) = record {
         parts = visitor_taken sits.rules.shows.parts id v' c (ap (λ (u : Seat). u.tape) (sym at)) (λ d. ap (λ (u : Seat). routine_of d u.hand) (sym at)) (ap (λ (u : Seat). u.visit) at ∙ bare) a refl refl refl free;
-        words = same_words i 1 (visitor_others c 1 t.word) sits.rules.shows.words;
+        words = same_words i 1 (visitor_others (length w.routes) c 1 t.word) sits.rules.shows.words;
         threads = threads_still sits.rules.shows.threads id v v' at refl refl refl refl refl;
       } in (
         x,
         home_is s (2 * c + 2) (some (some (part.Visitor x))) (visitor_back (t.home (2 * c + 2)) x home.shown),
         refl,
-        rules_after r w s id v sits w refl refl (nothing_grows w.routes w.tape w.clock w.calls w.closing id) v' i 1 out (takes (2 * c + 2) (part.Visitor x)) sits.rules.sound
+        rules_after r w s id v sits w refl refl refl (nothing_grows w.routes w.tape w.clock w.calls w.closing w.raised id) v' i 1 out (takes (2 * c + 2) (part.Visitor x)) sits.rules.sound
             (subst (Shows r w) (sym (spread_takes s i 1 id v' out (omega (arith, wide_is r w s id v sits, less)) (seat_in r w s id v sits) (2 * c + 2) (part.Visitor x) (omega (arith, deep_is r w s id v sits, less)))) shows)
             (length-set s.homes (2 * c + 2) none) refl refl
             record { made = k.made; joined = λ z. absurd (sits.live z); calls = k.calls; past = k.past; closes = k.closes; player = k.player },

@@ -119,14 +119,15 @@ module _ (r : Rooms) (w : Plain) (s : Table Part Seat) (id : ℕ) (v : Seat) (si
               (visitor_known r w s id v sits a has inside) (λ d ne. refl)
               (λ d less. routine_beside sits.rules.shows.parts i 0 id v' h d less (other i 0 t.word (4 * d + 4) (λ z. omega arith)) (other (2 * a.component + 2) back t.home (2 * d + 1) (λ z. omega arith))
               (sym (ap (routine_of d) (hand_is r w s id v sits g e))));
-          words = same_words i 0 (visitor_others a.component 0 t.word) sits.rules.shows.words;
+          words = same_words i 0 (visitor_others (length w.routes) a.component 0 t.word) sits.rules.shows.words;
           threads = threads_hand sits.rules.shows.threads id v v' at refl refl refl refl (hand c Empty) refl;
         } in record {
           world = w';
           routes = refl;
           counts = refl;
+          stop = refl;
           happens = happens;
-          rules = rules_after r w s id v sits w' refl refl (nothing_grows w.routes w.tape w.clock w.calls w.closing id) v' i 0 ((2 * a.component + 2, part.Visitor a.visitor) ∷ out) gives (sound w w' happens sits.rules.sound)
+          rules = rules_after r w s id v sits w' refl refl refl (nothing_grows w.routes w.tape w.clock w.calls w.closing w.raised id) v' i 0 ((2 * a.component + 2, part.Visitor a.visitor) ∷ out) gives (sound w w' happens sits.rules.sound)
               (subst (Shows r w')
               (sym (spread_gives s i 0 id v' out (omega (arith, wide_is r w s id v sits, inside)) (seat_in r w s id v sits) (2 * a.component + 2) (part.Visitor a.visitor) (omega (arith, deep_is r w s id v sits, inside)))) shows)
               (length-set s.homes (2 * a.component + 2) (some (part.Visitor a.visitor))) refl refl
@@ -175,21 +176,22 @@ module _ (r : Rooms) (w : Plain) (s : Table Part Seat) (id : ℕ) (v : Seat) (si
           spare = r.calls d - length l;
         } in
         let begins = calls w w' happens in
-        let grows : Grows w.routes w.tape w.tape w.clock w.clock w.calls w'.calls w.closing w.closing id = record { rises = omega arith; begins = begins; closes = λ z. z; player = λ ne. (refl, refl, refl) } in
+        let grows : Grows w.routes w.tape w.tape w.clock w.clock w.calls w'.calls w.closing w.closing w.raised w.raised id = record { rises = omega arith; begins = begins; closes = λ z. z; player = λ ne. (refl, refl, refl, refl) } in
         let shows : Shows r w' (after t i 0 id v' h) = record {
           parts = visitor_given sits.rules.shows.parts id v' a a.visitor (visitor_at r w') (routine_at r w') (ap (λ (z : Seat). z.tape) (sym at)) (ap (λ (z : Seat). z.visit) at ∙ has) refl
               (visitor_known r w s id v sits a has inside) (λ d ne. refl)
               (λ d less. routine_turned sits.rules.shows.parts i 0 id v' h (routine_at r w') g (called g (Some f)) (hand_is r w s id v sits g e) refl refl routine_is
               (λ b ne. ap (with_calls b) (sym (other c more w.calls b ne)))
               d less (other i 0 t.word (4 * d + 4) (λ z. omega arith)) (other (2 * a.component + 2) back t.home (2 * d + 1) (λ z. omega arith)));
-          words = same_words i 0 (visitor_others a.component 0 t.word) sits.rules.shows.words;
+          words = same_words i 0 (visitor_others (length w.routes) a.component 0 t.word) sits.rules.shows.words;
           threads = threads_hand sits.rules.shows.threads id v v' at refl refl refl refl (hand c Running) refl;
         } in record {
           world = w';
           routes = refl;
           counts = refl;
+          stop = refl;
           happens = happens;
-          rules = rules_after r w s id v sits w' refl refl grows v' i 0 ((2 * a.component + 2, part.Visitor a.visitor) ∷ out) gives (sound w w' happens sits.rules.sound)
+          rules = rules_after r w s id v sits w' refl refl refl grows v' i 0 ((2 * a.component + 2, part.Visitor a.visitor) ∷ out) gives (sound w w' happens sits.rules.sound)
               (subst (Shows r w')
               (sym (spread_gives s i 0 id v' out (omega (arith, wide_is r w s id v sits, inside)) (seat_in r w s id v sits) (2 * a.component + 2) (part.Visitor a.visitor) (omega (arith, deep_is r w s id v sits, inside)))) shows)
               (length-set s.homes (2 * a.component + 2) (some (part.Visitor a.visitor))) refl refl

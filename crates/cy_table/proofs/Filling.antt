@@ -61,7 +61,7 @@ fill_becomes r w s id v sits a j later has first less out keep =
           (λ d ne. ap (arrives d) (sym (other c more w.arrivals d ne)))
           (λ d inside. routine_beside sits.rules.shows.parts i 0 id v' h d inside (other i 0 t.word (4 * d + 4) (λ e. omega arith)) (other (2 * c + 2) back t.home (2 * d + 1) (λ e. omega arith))
           (ap (λ (u : Seat). routine_of d u.hand) (sym at)));
-      words = same_words i 0 (visitor_others c 0 t.word) sits.rules.shows.words;
+      words = same_words i 0 (visitor_others (length w.routes) c 0 t.word) sits.rules.shows.words;
       threads = record {
         hand_is = shown_still (λ (u : Seat). hand_of u.hand) t.seat w.hands th.hand_is id v' (ap (λ (u : Seat). hand_of u.hand) (sym at));
         fills_are = shown_anew (λ (u : Seat). u.fills) t.seat w.fills th.fills_are id v' later refl;
@@ -73,8 +73,9 @@ fill_becomes r w s id v sits a j later has first less out keep =
       world = w';
       routes = refl;
       counts = refl;
+      stop = refl;
       happens = happens;
-      rules = rules_after r w s id v sits w' refl refl (nothing_grows w.routes w.tape w.clock w.calls w.closing id) v' i 0 ((2 * c + 2, part.Visitor x') ∷ out) gives (keep w w' happens sits.rules.sound)
+      rules = rules_after r w s id v sits w' refl refl refl (nothing_grows w.routes w.tape w.clock w.calls w.closing w.raised id) v' i 0 ((2 * c + 2, part.Visitor x') ∷ out) gives (keep w w' happens sits.rules.sound)
           (subst (Shows r w') (sym (spread_gives s i 0 id v' out (omega (arith, wide_is r w s id v sits, less)) (seat_in r w s id v sits) (2 * c + 2) (part.Visitor x') (omega (arith, deep_is r w s id v sits, less)))) shows)
           (length-set s.homes (2 * c + 2) (some (part.Visitor x'))) refl refl
           record { made = k.made; joined = λ z. absurd (sits.live z); calls = k.calls; past = k.past; closes = k.closes; player = k.player };

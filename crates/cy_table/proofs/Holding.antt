@@ -15,7 +15,7 @@ use Rattle.cy_comp.specs.Calls.{last_outcome, held_until}
 use Rattle.cy_comp.specs.Routine.{RoutineView}
 use Rattle.wake_core.specs.declared.route.Route.{Route}
 use Rattle.wake_core.specs.declared.phase.Phase.{Phase}
-use Rattle.wake_core.specs.declared.phase.Phase.TheVariants.{Fresh, Woken, Known, Asked, Empty, Running, Sending, Done}
+use Rattle.wake_core.specs.declared.phase.Phase.TheVariants.{Fresh, Woken, Known, Checked, Stopping, Asked, Empty, Running, Sending, LastSending, Done}
 use Rattle.wake_core.specs.Run.{set_at}
 use Rattle.wake_core.specs.Plain.{Plain, hand, last_of, unsent_of}
 use Rattle.wake_core.specs.Events.{IsFree, IsDue, OwesNothing, state_after, Acquires, Readies, Asks, Yields, MayYield as MayYieldIn, Releases, after_acquire, after_release}
@@ -83,7 +83,7 @@ held_in c (Some g) x e = elim (place g.croutine c) [
 
 -- What the seats say of what is in hand.
 module _ (r : Rooms) (w : Plain) (s : Table Part Seat) (id : ℕ) (v : Seat) (sits : Sits r w s id v) where
-  pub wide_is : length s.words ≡ 4 * length w.routes + 4
+  pub wide_is : length s.words ≡ 4 * length w.routes + 5
   wide_is = sits.rules.wide
 
   pub deep_is : length s.homes ≡ 2 * length w.routes + 1
@@ -132,14 +132,14 @@ module _ (r : Rooms) (w : Plain) (s : Table Part Seat) (id : ℕ) (v : Seat) (si
       let t = spread s in
       let v' : Seat = record v { note = note; clock = clock; closing = closing } in
       let same : (m : ℕ) → set_at i x t.word m ≡ t.word m = λ m. unseen (λ (y : ℕ). y) i x t.word m (sym is) in
-      let doors : DoorsStay i x t.word = record { tape_same = same 3; hold_same = λ c. same (4 * c + 4); visitor_same = λ c. same (4 * c + 7) } in
-      let others : OthersStay i x t.word = record { state_same = λ c. same (4 * c + 5); flag_same = λ c. same (4 * c + 6); clock_same = same 1; closing_same = same 2 } in
+      let doors : DoorsStay (length w.routes) i x t.word = record { tape_same = same 3; hold_same = λ c less. same (4 * c + 4); visitor_same = λ c. same (4 * c + 7) } in
+      let others : OthersStay (length w.routes) i x t.word = record { state_same = λ c. same (4 * c + 5); flag_same = λ c. same (4 * c + 6); clock_same = same 1; closing_same = same 2; stop_same = same (4 * length w.routes + 4) } in
       let shows : Shows r w (after t i x id v' t.home) = record {
         parts = parts_same sits.rules.shows.parts i x id v' doors (ap (λ (u : Seat). u.tape) (sym seat_is)) (ap (λ (u : Seat). u.visit) (sym seat_is)) (λ c. ap (λ (u : Seat). routine_of c u.hand) (sym seat_is));
         words = same_words i x others sits.rules.shows.words;
         threads = threads_still sits.rules.shows.threads id v v' seat_is refl refl refl refl refl;
       } in
-      rules_after r w s id v sits w refl refl (nothing_grows w.routes w.tape w.clock w.calls w.closing id) v' i x out keeps sits.rules.sound
+      rules_after r w s id v sits w refl refl refl (nothing_grows w.routes w.tape w.clock w.calls w.closing w.raised id) v' i x out keeps sits.rules.sound
       (subst (Shows r w) (sym (spread_keeps s i x id v' out inside seat_in)) shows) refl refl refl knows
 
   -- A state is stored.
@@ -159,7 +159,7 @@ module _ (r : Rooms) (w : Plain) (s : Table Part Seat) (id : ℕ) (v : Seat) (si
       let in_state : (d : ℕ) → State → RoutineView = λ d y. record (routine_at r w d) { state = y } in
       let k = mine in
       let shows : Shows r w' (after t i x id v' t.home) = record {
-        parts = parts_turned sits.rules.shows.parts i x id v' (state_doors c x t.word) (ap (λ (u : Seat). u.tape) (sym seat_is)) (ap (λ (u : Seat). u.visit) (sym seat_is)) (routine_at r w') g g' (hand_is g e) refl refl
+        parts = parts_turned sits.rules.shows.parts i x id v' (state_doors (length w.routes) c x t.word) (ap (λ (u : Seat). u.tape) (sym seat_is)) (ap (λ (u : Seat). u.visit) (sym seat_is)) (routine_at r w') g g' (hand_is g e) refl refl
             (ap (λ (y : RoutineView). let z : RoutineView = record y { state = st } in z) known ∙ ap (in_state c) (sym (there c st w.states c refl)))
             (λ d ne. ap (in_state d) (sym (other c st w.states d ne)));
         words = state_stored c st sits.rules.shows.words;
@@ -168,8 +168,9 @@ module _ (r : Rooms) (w : Plain) (s : Table Part Seat) (id : ℕ) (v : Seat) (si
         world = w';
         routes = refl;
         counts = refl;
+        stop = refl;
         happens = happens;
-        rules = rules_after r w s id v sits w' refl refl (nothing_grows w.routes w.tape w.clock w.calls w.closing id) v' i x out keeps (keep w w' happens sits.rules.sound)
+        rules = rules_after r w s id v sits w' refl refl refl (nothing_grows w.routes w.tape w.clock w.calls w.closing w.raised id) v' i x out keeps (keep w w' happens sits.rules.sound)
             (subst (Shows r w') (sym (spread_keeps s i x id v' out (omega (arith, wide_is, less)) seat_in)) shows) refl refl refl
             record { made = k.made; joined = λ z. absurd (sits.live z); calls = k.calls; past = k.past; closes = k.closes; player = k.player };
       }
@@ -188,8 +189,7 @@ module _ (r : Rooms) (w : Plain) (s : Table Part Seat) (id : ℕ) (v : Seat) (si
   pub ask_becomes : (g : Grip) → v.hand ≡ Some g → MayAsk g → (out : List (ℕ × Part)) → KeepsSound (Asks id g.croutine)
       → Becomes r (Asks id g.croutine) w (stepped s (4 * g.croutine + 5) 1 id out (asking v g) keeps)
   ask_becomes g e may out keep = state_becomes g e Asked DataWait v.note out (Asks id g.croutine) keep record {
-    held = in_phase g Known e may.known;
-    ready = sym (ap (λ (x : RoutineView). x.state) (routine_known g e)) ∙ may.ready;
+    held = in_phase g Checked e may.checked;
     none_held = none_unsent g e may.none_held;
     effect = refl;
   }
@@ -201,7 +201,7 @@ module _ (r : Rooms) (w : Plain) (s : Table Part Seat) (id : ℕ) (v : Seat) (si
   may_yield : (g : Grip) → v.hand ≡ Some g → MayYield v g → MayYieldIn id g.croutine (next_state g) w
   may_yield g e may = ⊎_elim
       (λ (p : g.phase ≡ Empty). inl (in_phase g Empty e p, ap (λ f. next_in f g.routine) p))
-      (λ (q : ((g.phase ≡ Running) × (held_until (last_outcome g.routine.kind g.routine.calls) ≡ None → g.routine.pending ≡ None)) ⊎ ((g.phase ≡ Sending) × (g.routine.pending ≡ None))). inr (⊎_elim
+      (λ (q : ((g.phase ≡ Running) × (held_until (last_outcome g.routine.kind g.routine.calls) ≡ None → g.routine.pending ≡ None)) ⊎ ((g.phase ≡ Sending) × (g.routine.pending ≡ None)) ⊎ (((g.phase ≡ Stopping) ⊎ (g.phase ≡ LastSending)) × (g.routine.pending ≡ None))). inr (⊎_elim
       (λ (p : (g.phase ≡ Running) × (held_until (last_outcome g.routine.kind g.routine.calls) ≡ None → g.routine.pending ≡ None)).
       let last = last_known g e in let some_call = sits.rules.sound.consistent.held.called id g.croutine (in_phase g Running e p.0) in
       inl (
@@ -209,7 +209,14 @@ module _ (r : Rooms) (w : Plain) (s : Table Part Seat) (id : ℕ) (v : Seat) (si
         ap (option_map state_after) last ∙ (mapped_or (last_outcome g.routine.kind g.routine.calls) g.routine.state (λ n. some_call (last ∙ n)) ∙ ap Some (sym (ap (λ f. next_in f g.routine) p.0))),
         λ h. none_unsent g e (p.1 (ap held_until (sym last) ∙ h)),
       ))
-      (λ (p : (g.phase ≡ Sending) × (g.routine.pending ≡ None)). inr (in_phase g Sending e p.0, ap (λ f. next_in f g.routine) p.0, none_unsent g e p.1))
+      (λ (o : ((g.phase ≡ Sending) × (g.routine.pending ≡ None)) ⊎ (((g.phase ≡ Stopping) ⊎ (g.phase ≡ LastSending)) × (g.routine.pending ≡ None))). inr (⊎_elim
+      (λ (p : (g.phase ≡ Sending) × (g.routine.pending ≡ None)). inl (in_phase g Sending e p.0, ap (λ f. next_in f g.routine) p.0, none_unsent g e p.1))
+      (λ (p : ((g.phase ≡ Stopping) ⊎ (g.phase ≡ LastSending)) × (g.routine.pending ≡ None)). inr (
+        ⊎_elim (λ (z : g.phase ≡ Stopping). inl (in_phase g Stopping e z)) (λ (z : g.phase ≡ LastSending). inr (in_phase g LastSending e z)) p.0,
+        ⊎_elim (λ (z : g.phase ≡ Stopping). ap (λ f. next_in f g.routine) z) (λ (z : g.phase ≡ LastSending). ap (λ f. next_in f g.routine) z) p.0,
+        none_unsent g e p.1,
+      ))
+      o))
       q))
       may.sent
 
@@ -243,7 +250,7 @@ module _ (r : Rooms) (w : Plain) (s : Table Part Seat) (id : ℕ) (v : Seat) (si
       } in
       let shows : Shows r w' (after t i 1 id v' (set_at (2 * c + 1) (some none) t.home)) = record {
         parts = parts_taken sits.rules.shows.parts id c v' (ap (λ (u : Seat). u.tape) (sym seat_is)) (ap (λ (u : Seat). u.visit) (sym seat_is)) (ap (λ (u : Seat). u.hand) seat_is ∙ idle) g refl refl refl free;
-        words = same_words i 1 (hold_others c 1 t.word) sits.rules.shows.words;
+        words = same_words i 1 (hold_others (length w.routes) c 1 t.word less) sits.rules.shows.words;
         threads = threads_hand sits.rules.shows.threads id v v' seat_is refl refl refl refl (hand c Fresh) refl;
       } in (
         x,
@@ -253,8 +260,9 @@ module _ (r : Rooms) (w : Plain) (s : Table Part Seat) (id : ℕ) (v : Seat) (si
           world = w';
           routes = refl;
           counts = refl;
+          stop = refl;
           happens = happens;
-          rules = rules_after r w s id v sits w' refl refl (nothing_grows w.routes w.tape w.clock w.calls w.closing id) v' i 1 out (takes (2 * c + 1) (part.Routine x)) (keep w w' happens sits.rules.sound)
+          rules = rules_after r w s id v sits w' refl refl refl (nothing_grows w.routes w.tape w.clock w.calls w.closing w.raised id) v' i 1 out (takes (2 * c + 1) (part.Routine x)) (keep w w' happens sits.rules.sound)
               (subst (Shows r w') (sym (spread_takes s i 1 id v' out (omega (arith, wide_is, less)) seat_in (2 * c + 1) (part.Routine x) (omega (arith, deep_is, less)))) shows)
               (length-set s.homes (2 * c + 1) none) refl refl
               record { made = k.made; joined = λ z. absurd (sits.live z); calls = (take-length (w.calls c), k.calls); past = k.past; closes = k.closes; player = k.player };
@@ -292,14 +300,15 @@ module _ (r : Rooms) (w : Plain) (s : Table Part Seat) (id : ℕ) (v : Seat) (si
       } in
       let shows : Shows r w' (after t i 0 id v' (set_at (2 * c + 1) (some (some y)) t.home)) = record {
         parts = parts_given sits.rules.shows.parts id c v' (ap (λ (u : Seat). u.tape) (sym seat_is)) (ap (λ (u : Seat). u.visit) (sym seat_is)) g (hand_is g e) refl refl;
-        words = same_words i 0 (hold_others c 0 t.word) sits.rules.shows.words;
+        words = same_words i 0 (hold_others (length w.routes) c 0 t.word less) sits.rules.shows.words;
         threads = threads_hand sits.rules.shows.threads id v v' seat_is refl refl refl refl None refl;
       } in record {
         world = w';
         routes = refl;
         counts = refl;
+        stop = refl;
         happens = happens;
-        rules = rules_after r w s id v sits w' refl refl (nothing_grows w.routes w.tape w.clock w.calls w.closing id) v' i 0 ((2 * c + 1, y) ∷ out) gives (keep w w' happens sits.rules.sound)
+        rules = rules_after r w s id v sits w' refl refl refl (nothing_grows w.routes w.tape w.clock w.calls w.closing w.raised id) v' i 0 ((2 * c + 1, y) ∷ out) gives (keep w w' happens sits.rules.sound)
             (subst (Shows r w') (sym (spread_gives s i 0 id v' out (omega (arith, wide_is, less)) seat_in (2 * c + 1) y (omega (arith, deep_is, less)))) shows)
             (length-set s.homes (2 * c + 1) (some y)) refl refl
             record { made = k.made; joined = λ z. absurd (sits.live z); calls = k.calls; past = k.past; closes = k.closes; player = k.player };

@@ -21,18 +21,18 @@ use Rattle.cy_table.specs.Rule.{Knows, Rules, Shows}
 use Rattle.cy_table.specs.Steps.{Sits}
 
 -- What an event of a thread lets the others know.
-pub record Grows (routes : List Route) (tape tape' : List Token) (clock clock' : ℕ) (calls calls' : ℕ → List Call) (closing closing' : Bool) (id : ℕ) : Type 0 where
+pub record Grows (routes : List Route) (tape tape' : List Token) (clock clock' : ℕ) (calls calls' : ℕ → List Call) (closing closing' raised raised' : Bool) (id : ℕ) : Type 0 where
   pub rises : clock ≤ clock'
   pub begins : (c : ℕ) → take (length (calls c)) (calls' c) ≡ calls c
   pub closes : closing ≡ true → closing' ≡ true
-  pub player : id ≢ 0 → (played_of routes tape' ≡ played_of routes tape) × (clock' ≡ clock) × (closing' ≡ closing)
+  pub player : id ≢ 0 → (played_of routes tape' ≡ played_of routes tape) × (clock' ≡ clock) × (closing' ≡ closing) × (raised' ≡ raised)
 
-pub nothing_grows : (routes : List Route) (tape : List Token) (clock : ℕ) (calls : ℕ → List Call) (closing : Bool) (id : ℕ) → Grows routes tape tape clock clock calls calls closing closing id
-nothing_grows routes tape clock calls closing id = record {
+pub nothing_grows : (routes : List Route) (tape : List Token) (clock : ℕ) (calls : ℕ → List Call) (closing raised : Bool) (id : ℕ) → Grows routes tape tape clock clock calls calls closing closing raised raised id
+nothing_grows routes tape clock calls closing raised id = record {
   rises = omega arith;
   begins = λ c. take-length (calls c);
   closes = λ e. e;
-  player = λ ne. (refl, refl, refl);
+  player = λ ne. (refl, refl, refl, refl);
 }
 
 begins_then : {X : Type 0} (xs ys zs : List X) → take (length xs) ys ≡ xs → take (length ys) zs ≡ ys → take (length xs) zs ≡ xs
@@ -56,18 +56,18 @@ live_set (x ∷ xs) zero v u e = omega (arith, ap (λ (z : Seat). z.live) (some-
 live_set (x ∷ xs) (suc j) v u e = omega (arith, live_set xs j v u e)
 
 -- The rule after a step of a seat.
-module _ (r : Rooms) (w : Plain) (s : Table Part Seat) (id : ℕ) (v : Seat) (sits : Sits r w s id v) (w' : Plain) (routes : w'.routes ≡ w.routes) (counts : w'.counts ≡ w.counts)
-    (grows : Grows w.routes w.tape w'.tape w.clock w'.clock w.calls w'.calls w.closing w'.closing id) (v' : Seat) where
+module _ (r : Rooms) (w : Plain) (s : Table Part Seat) (id : ℕ) (v : Seat) (sits : Sits r w s id v) (w' : Plain) (routes : w'.routes ≡ w.routes) (counts : w'.counts ≡ w.counts) (stop : w'.stop ≡ w.stop)
+    (grows : Grows w.routes w.tape w'.tape w.clock w'.clock w.calls w'.calls w.closing w'.closing w.raised w'.raised id) (v' : Seat) where
   -- Another seat knows what it knew.
   other_knows : (j : ℕ) (u : Seat) → j ≢ id → Knows w j u → Knows w' j u
   other_knows j u apart k = record {
-    made = λ on. ((k.made on).0 ∙ sym routes, (k.made on).1 ∙ sym counts);
+    made = λ on. ((k.made on).0 ∙ sym routes, (k.made on).1 ∙ sym counts, (k.made on).2 ∙ sym stop);
     joined = k.joined;
     calls = seen_grows w.calls w'.calls u.seen grows.begins k.calls;
     past = omega (arith, k.past, grows.rises);
     closes = λ e. grows.closes (k.closes e);
     player = λ first. let a = k.player first in let b = grows.player (λ h. apart (first ∙ sym h)) in
-        (a.0 ∙ (sym b.0 ∙ ap (λ (l : List Route). played_of l w'.tape) (sym routes)), a.1 ∙ sym b.1, a.2 ∙ sym b.2);
+        (a.0 ∙ (sym b.0 ∙ ap (λ (l : List Route). played_of l w'.tape) (sym routes)), a.1 ∙ sym b.1, a.2 ∙ sym b.2, a.3 ∙ sym b.3);
   }
 
   all_know : Knows w' id v' → (j : ℕ) (u : Seat) → get_elem? (set s.views id v') j ≡ some u → Knows w' j u

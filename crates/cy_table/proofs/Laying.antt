@@ -20,11 +20,11 @@ use Rattle.wake_core.specs.declared.world.World.{World}
 use Rattle.cy_comp.specs.declared.state.State.{State}
 use Rattle.wake_core.specs.Plain.{Plain, Ready}
 use Rattle.wake_core.specs.Fields.{read, no_routine, no_visitor, IsFixed, queue_of}
-use Rattle.wake_core.specs.WorldOf.{plain_of, routes_in, counts_in}
+use Rattle.wake_core.specs.WorldOf.{plain_of, routes_in, counts_in, stop_in}
 use Rattle.wake_core.specs.Parts.{routine_in, shown_by, AreFit}
 use Rattle.cy_table.specs.declared.part.Part.{Part}
 use Rattle.cy_table.specs.declared.part.Part.TheVariants as part
-use Rattle.cy_table.specs.Layout.{state_number, yes_or_no}
+use Rattle.cy_table.specs.Layout.{state_number, yes_or_no, stop_number}
 use Rattle.cy_table.specs.Seats.{Seat, TapeView}
 use Rattle.cy_table.specs.Seats.{AreSeen}
 use Rattle.cy_table.specs.Shown.{Rooms, AreRoomy, LiesOpen, kind_at, roles_at, queue_at, out_in, pending_at, routine_at, visitor_at, tape_at}
@@ -63,9 +63,10 @@ read_or d e xs ys i same l = sym (read_item d (get_or xs i e) xs ys i same l (go
 
 -- The words, where those of the first k components are laid.
 pub record WordsTo (k n : ℕ) (p : Parts) (words : List ℕ) : Type 0 where
-  pub wide : length words ≡ 4 * n + 4
+  pub wide : length words ≡ 4 * n + 5
   pub clock_is : slice_index words 1 ≡ p.clock
   pub closing_is : slice_index words 2 ≡ yes_or_no p.closing
+  pub stop_is : slice_index words (4 * n + 4) ≡ stop_number (stop_in p.fixed) p.raised
   pub tape_free : slice_index words 3 ≡ 0
   pub state : (c : ℕ) → c < k → slice_index words (4 * c + 5) ≡ state_number (routine_in p c).state
   pub flag : (c : ℕ) → c < k → slice_index words (4 * c + 6) ≡ yes_or_no (read (λ b. b) true p.spent c)
@@ -102,6 +103,7 @@ words_more {k} {n} {x} {y} {p} {ws} h l state_is flag_is =
       wide = both_length ws i j x y ∙ h.wide;
       clock_is = both_other ws i j x y 1 (λ e. omega arith) (λ e. omega arith) ∙ h.clock_is;
       closing_is = both_other ws i j x y 2 (λ e. omega arith) (λ e. omega arith) ∙ h.closing_is;
+      stop_is = both_other ws i j x y (4 * n + 4) (λ e. omega arith) (λ e. omega arith) ∙ h.stop_is;
       tape_free = both_other ws i j x y 3 (λ e. omega arith) (λ e. omega arith) ∙ h.tape_free;
       state = λ c less. elim (last_or c k less) [
         | inl e ↦ subst (λ d. get_or (set (set ws i x) j y) (4 * d + 5) 0 ≡ state_number (routine_in p d).state) (sym e) (both_first ws i j x y in_i (λ z. omega arith) ∙ state_is)
@@ -124,9 +126,10 @@ equal_at (suc n) (suc k) d = equal_at n k d
 pub words_done : {k n : ℕ} {p : Parts} {ws : List ℕ} → WordsTo k n p ws → n ≤ k → n ≡ length (routes_in p.fixed) → AreWords (shown_by p) ws
 unfolding shown_by
 words_done {k} {n} {p} {ws} h all size = record {
-  wide = h.wide ∙ ap (λ m. 4 * m + 4) size;
+  wide = h.wide ∙ ap (λ m. 4 * m + 5) size;
   clock_is = h.clock_is;
   closing_is = h.closing_is;
+  stop_is = ap (λ m. slice_index ws (4 * m + 4)) (sym size) ∙ h.stop_is;
   tape_free = h.tape_free;
   state = λ c less. h.state c (omega (arith, less, size, all)) ∙ ap state_number (sym (read_of (λ (r : RoutineView). r.state) no_routine p.routines c));
   flag = λ c less. h.flag c (omega (arith, less, size, all));
@@ -182,6 +185,7 @@ lies {r} {w} {words} {slots} a b = record {
   deep = map_length slots ∙ b.deep;
   clock_is = a.clock_is;
   closing_is = a.closing_is;
+  stop_is = a.stop_is;
   state = a.state;
   flag = a.flag;
   tape_free = a.tape_free;
@@ -272,6 +276,7 @@ rested w l = record {
   deep = l.deep;
   clock_is = l.clock_is;
   closing_is = l.closing_is;
+  stop_is = l.stop_is;
   state = l.state;
   flag = l.flag;
   tape_free = l.tape_free;
@@ -311,6 +316,7 @@ begins law threads key p words t fit fixed idle shown open_words is =
       rooms = rooms_of p;
       components = refl;
       planned = refl;
+      stop = refl;
       reached = none;
       noted = λ j v e. none_noted w (seat_for key) refl j v e;
       rules = law.start (rooms_of p) w words (map some slots) (calls_from w (length w.routes)) sound idle fixed_so roomy lies_so (all_seen w (length w.routes));

@@ -4,6 +4,7 @@ pub mod Parts
 pub mod Knowing
 pub mod Holding
 pub mod Telling
+pub mod Raising
 pub mod Doors
 pub mod Filling
 pub mod Sending

@@ -11,7 +11,7 @@ use Rattle.wake_core.specs.Fields.{IsFixed}
 use Rattle.wake_core.specs.Laws.{IsIdle}
 use Rattle.cy_table.specs.declared.part.Part.{Part}
 use Rattle.cy_table.specs.declared.part.Part.TheVariants as part
-use Rattle.cy_table.specs.Layout.{state_number, yes_or_no}
+use Rattle.cy_table.specs.Layout.{state_number, yes_or_no, stop_number}
 use Rattle.cy_table.specs.Seats.{Seat, Seen, no_seat}
 use Rattle.cy_table.specs.Seats.{IsEmpty, AreSeen, total_live}
 use Rattle.cy_table.specs.Shown.{Rooms, AreRoomy, Kept, AtHome, OutWith, LiesOpen, spread, routine_in, visitor_in, tape_in, routine_of, visitor_of, hand_of, routine_at, visitor_at, tape_at}
@@ -32,12 +32,12 @@ unfolding spread
 starts r w words homes seen sound idle fixed roomy lies all =
     let a : Seat = first_seat w seen in
     let knows : Knows w 0 a = record {
-      made = λ z. (refl, refl);
+      made = λ z. (refl, refl, refl);
       joined = λ z. absurd (omega (arith, z));
       calls = all;
       past = omega arith;
       closes = λ z. z;
-      player = λ z. (refl, refl, refl);
+      player = λ z. (refl, refl, refl, refl);
     } in
     record {
       wide = lies.wide;
@@ -51,7 +51,7 @@ starts r w words homes seen sound idle fixed roomy lies all =
           routine_kept = λ c less. inl record { free = lies.free c less; shown = ap routine_in (lies.routine c less); nobody = snoc_seen (λ (u : Seat). routine_of c u.hand) [] a refl };
           visitor_kept = λ c less. inl record { free = lies.visitor_free c less; shown = ap visitor_in (lies.visitor c less); nobody = snoc_seen (λ (u : Seat). visitor_of c u.visit) [] a refl };
         };
-        words = record { state = lies.state; flag = lies.flag; clock_is = lies.clock_is; closing_is = lies.closing_is };
+        words = record { state = lies.state; flag = lies.flag; clock_is = lies.clock_is; closing_is = lies.closing_is; stop_is = lies.stop_is };
         threads = record {
           hand_is = λ j. (idle j).hand ∙ sym (snoc_seen (λ (u : Seat). hand_of u.hand) [] a refl j);
           fills_are = λ j. (idle j).owes.filled ∙ sym (snoc_seen (λ (u : Seat). u.fills) [] a refl j);
@@ -106,6 +106,7 @@ module _ (r : Rooms) (w : Plain) (s : Table Part Seat) (v : Seat) (sits : Sits r
         deep = sits.rules.deep;
         clock_is = is_word s 1 w.clock words.clock_is;
         closing_is = is_word s 2 (yes_or_no w.closing) words.closing_is;
+        stop_is = is_word s (4 * length w.routes + 4) (stop_number w.stop w.raised) words.stop_is;
         state = λ c less. is_word s (4 * c + 5) (state_number (w.states c)) (words.state c less);
         flag = λ c less. is_word s (4 * c + 6) (yes_or_no (w.spent c)) (words.flag c less);
         tape_free = is_word s 3 0 tape.free;

@@ -40,26 +40,28 @@ pub not_held : (c : ℕ) (o : Option Grip) (phase : Phase) → routine_of c o �
 not_held c None phase e is = none-some record { croutine = c; phase = phase } is
 not_held c (Some g) phase e is = none-some g.routine (sym e ∙ routine_here c g (ap (croutine_or c) is))
 
--- A step leaves the doors and the hold words alone.
-pub record DoorsStay (i x : ℕ) (word : ℕ → ℕ) : Type 0 where
+-- A step leaves the doors and the hold words of n components alone.
+pub record DoorsStay (n i x : ℕ) (word : ℕ → ℕ) : Type 0 where
   pub tape_same : set_at i x word 3 ≡ word 3
-  pub hold_same : (c : ℕ) → set_at i x word (4 * c + 4) ≡ word (4 * c + 4)
+  pub hold_same : (c : ℕ) → c < n → set_at i x word (4 * c + 4) ≡ word (4 * c + 4)
   pub visitor_same : (c : ℕ) → set_at i x word (4 * c + 7) ≡ word (4 * c + 7)
 
 -- .. or the others.
-pub record OthersStay (i x : ℕ) (word : ℕ → ℕ) : Type 0 where
+pub record OthersStay (n i x : ℕ) (word : ℕ → ℕ) : Type 0 where
   pub state_same : (c : ℕ) → set_at i x word (4 * c + 5) ≡ word (4 * c + 5)
   pub flag_same : (c : ℕ) → set_at i x word (4 * c + 6) ≡ word (4 * c + 6)
   pub clock_same : set_at i x word 1 ≡ word 1
   pub closing_same : set_at i x word 2 ≡ word 2
+  pub stop_same : set_at i x word (4 * n + 4) ≡ word (4 * n + 4)
 
-pub same_words : {n : ℕ} {states : ℕ → State} {spent : ℕ → Bool} {clock : ℕ} {closing : Bool} {word : ℕ → ℕ} (i x : ℕ) → OthersStay i x word → ShowsWords n states spent clock closing word
-    → ShowsWords n states spent clock closing (set_at i x word)
+pub same_words : {n : ℕ} {states : ℕ → State} {spent : ℕ → Bool} {clock : ℕ} {closing : Bool} {stop : ℕ} {word : ℕ → ℕ} (i x : ℕ) → OthersStay n i x word → ShowsWords n states spent clock closing stop word
+    → ShowsWords n states spent clock closing stop (set_at i x word)
 same_words i x o sh = record {
   state = λ c less. o.state_same c ∙ sh.state c less;
   flag = λ c less. o.flag_same c ∙ sh.flag c less;
   clock_is = o.clock_same ∙ sh.clock_is;
   closing_is = o.closing_same ∙ sh.closing_is;
+  stop_is = o.stop_same ∙ sh.stop_is;
 }
 
 module _ {n : ℕ} {tape : TapeView} {routines : ℕ → RoutineView} {visitors : ℕ → VisitorView} {t : Spread} (sh : ShowsParts n tape routines visitors t) (i x id : ℕ) (v : Seat) (h : ℕ → Home) where
@@ -92,12 +94,12 @@ module _ {n : ℕ} {tape : TapeView} {routines : ℕ → RoutineView} {visitors 
   ]
 
 -- All slots and doors stay, and only the routine in hand may become another.
-module _ {n : ℕ} {tape : TapeView} {routines : ℕ → RoutineView} {visitors : ℕ → VisitorView} {t : Spread} (sh : ShowsParts n tape routines visitors t) (i x id : ℕ) (v : Seat) (d : DoorsStay i x t.word)
+module _ {n : ℕ} {tape : TapeView} {routines : ℕ → RoutineView} {visitors : ℕ → VisitorView} {t : Spread} (sh : ShowsParts n tape routines visitors t) (i x id : ℕ) (v : Seat) (d : DoorsStay n i x t.word)
     (tape_is : v.tape ≡ (t.seat id).tape) (visit_is : v.visit ≡ (t.seat id).visit) where
   pub parts_same : ((c : ℕ) → routine_of c v.hand ≡ routine_of c (t.seat id).hand) → ShowsParts n tape routines visitors (after t i x id v t.home)
   parts_same same = record {
     tape_kept = tape_beside sh i x id v t.home d.tape_same refl tape_is;
-    routine_kept = λ c less. routine_beside sh i x id v t.home c less (d.hold_same c) refl (same c);
+    routine_kept = λ c less. routine_beside sh i x id v t.home c less (d.hold_same c less) refl (same c);
     visitor_kept = λ c less. visitor_beside sh i x id v t.home c less (d.visitor_same c) refl (ap (visitor_of c) visit_is);
   }
 
@@ -106,7 +108,7 @@ module _ {n : ℕ} {tape : TapeView} {routines : ℕ → RoutineView} {visitors 
       → ShowsParts n tape routines' visitors (after t i x id v t.home)
   parts_turned routines' g g' had has same mine others = record {
     tape_kept = tape_beside sh i x id v t.home d.tape_same refl tape_is;
-    routine_kept = λ c less. routine_turned sh i x id v t.home routines' g g' had has same mine others c less (d.hold_same c) refl;
+    routine_kept = λ c less. routine_turned sh i x id v t.home routines' g g' had has same mine others c less (d.hold_same c less) refl;
     visitor_kept = λ c less. visitor_beside sh i x id v t.home c less (d.visitor_same c) refl (ap (visitor_of c) visit_is);
   }
 
@@ -149,9 +151,9 @@ module _ {n : ℕ} {tape : TapeView} {routines : ℕ → RoutineView} {visitors 
       }
 
 -- The words, where a state is stored.
-pub state_stored : {n : ℕ} {states : ℕ → State} {spent : ℕ → Bool} {clock : ℕ} {closing : Bool} {word : ℕ → ℕ} (c : ℕ) (st : State) → ShowsWords n states spent clock closing word
-    → ShowsWords n (set_at c st states) spent clock closing (set_at (4 * c + 5) (state_number st) word)
-state_stored {states} {word} c st sh = let i : ℕ = 4 * c + 5 in let x : ℕ = state_number st in record {
+pub state_stored : {n : ℕ} {states : ℕ → State} {spent : ℕ → Bool} {clock : ℕ} {closing : Bool} {stop : ℕ} {word : ℕ → ℕ} (c : ℕ) (st : State) → ShowsWords n states spent clock closing stop word
+    → ShowsWords n (set_at c st states) spent clock closing stop (set_at (4 * c + 5) (state_number st) word)
+state_stored {n} {states} {word} c st sh = let i : ℕ = 4 * c + 5 in let x : ℕ = state_number st in record {
   state = λ d less. elim (place d c) [
     | inl e ↦ there i x word (4 * d + 5) (omega (arith, e)) ∙ ap state_number (sym (there c st states d e))
     | inr e ↦ other i x word (4 * d + 5) (λ a. e (omega arith)) ∙ (sh.state d less ∙ ap state_number (sym (other c st states d e)))
@@ -159,21 +161,23 @@ state_stored {states} {word} c st sh = let i : ℕ = 4 * c + 5 in let x : ℕ = 
   flag = λ d less. other i x word (4 * d + 6) (λ a. omega arith) ∙ sh.flag d less;
   clock_is = other i x word 1 (λ a. omega arith) ∙ sh.clock_is;
   closing_is = other i x word 2 (λ a. omega arith) ∙ sh.closing_is;
+  stop_is = other i x word (4 * n + 4) (λ a. omega arith) ∙ sh.stop_is;
 }
 
-pub state_doors : (c x : ℕ) (word : ℕ → ℕ) → DoorsStay (4 * c + 5) x word
-state_doors c x word = let i : ℕ = 4 * c + 5 in record {
+pub state_doors : (n c x : ℕ) (word : ℕ → ℕ) → DoorsStay n (4 * c + 5) x word
+state_doors n c x word = let i : ℕ = 4 * c + 5 in record {
   tape_same = other i x word 3 (λ a. omega arith);
-  hold_same = λ d. other i x word (4 * d + 4) (λ a. omega arith);
+  hold_same = λ d less. other i x word (4 * d + 4) (λ a. omega arith);
   visitor_same = λ d. other i x word (4 * d + 7) (λ a. omega arith);
 }
 
-pub hold_others : (c x : ℕ) (word : ℕ → ℕ) → OthersStay (4 * c + 4) x word
-hold_others c x word = let i : ℕ = 4 * c + 4 in record {
+pub hold_others : (n c x : ℕ) (word : ℕ → ℕ) → c < n → OthersStay n (4 * c + 4) x word
+hold_others n c x word less = let i : ℕ = 4 * c + 4 in record {
   state_same = λ d. other i x word (4 * d + 5) (λ a. omega arith);
   flag_same = λ d. other i x word (4 * d + 6) (λ a. omega arith);
   clock_same = other i x word 1 (λ a. omega arith);
   closing_same = other i x word 2 (λ a. omega arith);
+  stop_same = other i x word (4 * n + 4) (λ a. omega (arith, less));
 }
 
 -- The seats: what is in hand changed, or nothing that they show.

@@ -1,5 +1,5 @@
 -- The tape's door is left after a message was put there.
-use Rattle.std.proofs.Common.{ℕ, ◌+◌, ◌*◌, ◌≡◌, ◌≤◌, ◌<◌, ◌==◌, Bool, true, false, refl, sym, ◌∙◌, ap, ap₂, subst, inl, inr, ⊎_elim, List, [], ◌∷◌, ◌++◌, length, length-set, cond, not, is_some, slice_get, slice_index, option_map, Option, Some, None, arith}
+use Rattle.std.proofs.Common.{ℕ, ◌+◌, ◌*◌, ◌≡◌, ◌≤◌, ◌<◌, ◌⊎◌, ◌==◌, Bool, true, false, refl, sym, ◌∙◌, ap, ap₂, subst, inl, inr, ⊎_elim, List, [], ◌∷◌, ◌++◌, length, length-set, cond, not, is_some, slice_get, slice_index, option_map, Option, Some, None, arith}
 use Rattle.std.proofs.lemmas.Bool.Decides.{eqb_tells}
 use Rattle.std.proofs.lemmas.Option.{none-some, slice_get_within}
 use Rattle.std.proofs.Math.Seq.{take-length}
@@ -9,12 +9,11 @@ use Rattle.atomic_table.specs.Table.{State as Table, stepped, gives}
 use Rattle.cy_msg.specs.declared.token.Token.{Token}
 use Rattle.cy_msg.specs.Tokens.{on_channel}
 use Rattle.cy_comp.specs.declared.call.Out.{Out}
-use Rattle.cy_comp.specs.declared.state.State.TheVariants.{Ready}
 use Rattle.cy_comp.specs.Calls.{last_outcome, held_until, output, outs}
 use Rattle.cy_comp.specs.Routine.{RoutineView}
 use Rattle.wake_core.specs.declared.route.Route.{Route}
 use Rattle.wake_core.specs.declared.phase.Phase.{Phase}
-use Rattle.wake_core.specs.declared.phase.Phase.TheVariants.{Known, Running}
+use Rattle.wake_core.specs.declared.phase.Phase.TheVariants.{Checked, Stopping, Running}
 use Rattle.wake_core.specs.Run.{set_at, readers_of, writes_from, played_of}
 use Rattle.wake_core.specs.Plain.{Plain, hand, outs_of, unsent_of}
 use Rattle.wake_core.specs.Events.{IsNext, Tapes, Sends, MaySend as MaySendIn, after_tape, after_send}
@@ -107,8 +106,14 @@ module _ (r : Rooms) (w : Plain) (s : Table Part Seat) (v : Seat) (sits : Sits r
       let un : writes_from 0 w.routes m.channel ≡ None = unwritten_known m may in
       let known : x ≡ tape_at r w = tape_known r w s 0 v sits x has in
       let next : IsNext m w = next_known m may in
-      let happens : Tapes m w w' = record { owes = owes_known r w s 0 v sits may.owes; next = next; now = may.now ∙ player.1; effect = refl } in
-      let grows : Grows w.routes w.tape w'.tape w.clock w.clock w.calls w.calls w.closing w.closing 0 = record {
+      let happens : Tapes m w w' = record {
+        owes = owes_known r w s 0 v sits may.owes;
+        raised = λ given there count. sym player.3 ∙ may.raised given (made.2 ∙ there) (ap length player.0 ∙ count);
+        next = next;
+        now = may.now ∙ player.1;
+        effect = refl;
+      } in
+      let grows : Grows w.routes w.tape w'.tape w.clock w.clock w.calls w.calls w.closing w.closing w.raised w.raised 0 = record {
         rises = omega arith;
         begins = λ c. take-length (w.calls c);
         closes = λ e. e;
@@ -120,7 +125,7 @@ module _ (r : Rooms) (w : Plain) (s : Table Part Seat) (v : Seat) (sits : Sits r
       let shows : Shows r w' (after t 3 0 0 v' h) = record {
         parts = subst (λ (y : TapeView). ShowsParts (length w.routes) y (routine_at r w') (visitor_at r w') (after t 3 0 0 v' h)) (ap (λ (y : TapeView). with_message y m) known)
             (tape_given sits.rules.shows.parts 0 v' x x' (routine_at r w') (ap (λ (u : Seat). u.tape) at ∙ has) refl (ap (λ (u : Seat). u.visit) (sym at)) kept);
-        words = same_words 3 0 (tape_others 0 t.word) sits.rules.shows.words;
+        words = same_words 3 0 (tape_others (length w.routes) 0 t.word) sits.rules.shows.words;
         threads = record {
           hand_is = shown_still (λ (u : Seat). hand_of u.hand) t.seat w.hands th.hand_is 0 v' (ap (λ (u : Seat). hand_of u.hand) (sym at));
           fills_are = shown_anew (λ (u : Seat). u.fills) t.seat w.fills th.fills_are 0 v' (readers_of w.routes m.channel) (ap (λ (l : List Route). readers_of l m.channel) (sym made.0));
@@ -132,8 +137,9 @@ module _ (r : Rooms) (w : Plain) (s : Table Part Seat) (v : Seat) (sits : Sits r
         world = w';
         routes = refl;
         counts = refl;
+        stop = refl;
         happens = happens;
-        rules = rules_after r w s 0 v sits w' refl refl grows v' 3 0 ((0, part.Tape x') ∷ out) gives (keep w w' happens sits.rules.sound)
+        rules = rules_after r w s 0 v sits w' refl refl refl grows v' 3 0 ((0, part.Tape x') ∷ out) gives (keep w w' happens sits.rules.sound)
             (subst (Shows r w') (sym (spread_gives s 3 0 0 v' out (omega (arith, wide_is r w s 0 v sits)) (seat_in r w s 0 v sits) 0 (part.Tape x') (omega (arith, deep_is r w s 0 v sits)))) shows)
             (length-set s.homes 0 (some (part.Tape x'))) refl refl
             record {
@@ -142,7 +148,7 @@ module _ (r : Rooms) (w : Plain) (s : Table Part Seat) (v : Seat) (sits : Sits r
               calls = k.calls;
               past = k.past;
               closes = k.closes;
-              player = λ z. (ap (λ (l : List Token). l ++ m ∷ []) (k.player z).0 ∙ sym (put.played w.routes w.tape m un), (k.player z).1, (k.player z).2);
+              player = λ z. (ap (λ (l : List Token). l ++ m ∷ []) (k.player z).0 ∙ sym (put.played w.routes w.tape m un), (k.player z).1, (k.player z).2, (k.player z).3);
             };
       }
 
@@ -151,8 +157,10 @@ module _ (r : Rooms) (w : Plain) (s : Table Part Seat) (id : ℕ) (v : Seat) (si
   may_send g e may = ⊎_elim
       (λ (p : (g.phase ≡ Running) × (held_until (last_outcome g.routine.kind g.routine.calls) ≡ None)).
       inl (in_phase r w s id v sits g Running e p.0, ap held_until (last_known r w s id v sits g e) ∙ p.1, ap phase_sent p.0))
-      (λ (p : (g.phase ≡ Known) × (g.routine.state ≡ Ready)).
-      inr (in_phase r w s id v sits g Known e p.0, sym (ap (λ (x : RoutineView). x.state) (routine_known r w s id v sits g e)) ∙ p.1, ap phase_sent p.0))
+      (λ (q : (g.phase ≡ Checked) ⊎ (g.phase ≡ Stopping)). inr (⊎_elim
+      (λ (p : g.phase ≡ Checked). inl (in_phase r w s id v sits g Checked e p, ap phase_sent p))
+      (λ (p : g.phase ≡ Stopping). inr (in_phase r w s id v sits g Stopping e p, ap phase_sent p))
+      q))
       may.sends
 
   -- The output that waits is the last of the component's outputs.
@@ -200,11 +208,11 @@ module _ (r : Rooms) (w : Plain) (s : Table Part Seat) (id : ℕ) (v : Seat) (si
       let sends = may_send g e may in
       let all : unsent_of w' c ≡ None = law.all id c next m w sends unsent consistent in
       let happens : Sends id c next m w w' = record { owes = owes_known r w s id v sits may.owes; held = sends; unsent = unsent; effect = refl } in
-      let grows : Grows w.routes w.tape w'.tape w.clock w.clock w.calls w.calls w.closing w.closing id = record {
+      let grows : Grows w.routes w.tape w'.tape w.clock w.clock w.calls w.calls w.closing w.closing w.raised w.raised id = record {
         rises = omega arith;
         begins = λ d. take-length (w.calls d);
         closes = λ z. z;
-        player = λ ne. (put.not_played w.routes w.tape m c written, refl, refl);
+        player = λ ne. (put.not_played w.routes w.tape m c written, refl, refl, refl);
       } in
       let shows : Shows r w' (after t 3 0 id v' h) = record {
         parts = subst (λ (y : TapeView). ShowsParts (length w.routes) y (routine_at r w') (visitor_at r w') (after t 3 0 id v' h)) (ap (λ (y : TapeView). with_message y m) known)
@@ -214,7 +222,7 @@ module _ (r : Rooms) (w : Plain) (s : Table Part Seat) (id : ℕ) (v : Seat) (si
             ∙ ap (λ (p : Option Out). let z : RoutineView = record (routine_at r w c) { pending = p } in z) (sym (ap (option_map out_in) all)))
             (λ b ne. ap (as_taped r w b) (sym (put.others w c m unsent consistent.wired b ne)))
             d less (other 3 0 t.word (4 * d + 4) (λ z. omega arith)) (other 0 back t.home (2 * d + 1) (λ z. omega arith))));
-        words = same_words 3 0 (tape_others 0 t.word) sits.rules.shows.words;
+        words = same_words 3 0 (tape_others (length w.routes) 0 t.word) sits.rules.shows.words;
         threads = record {
           hand_is = shown_anew (λ (z : Seat). hand_of z.hand) t.seat w.hands th.hand_is id v' (hand c next) refl;
           fills_are = shown_anew (λ (z : Seat). z.fills) t.seat w.fills th.fills_are id v' (readers_of w.routes m.channel) (ap (λ (l : List Route). readers_of l m.channel) (sym made.0));
@@ -226,8 +234,9 @@ module _ (r : Rooms) (w : Plain) (s : Table Part Seat) (id : ℕ) (v : Seat) (si
         world = w';
         routes = refl;
         counts = refl;
+        stop = refl;
         happens = happens;
-        rules = rules_after r w s id v sits w' refl refl grows v' 3 0 ((0, part.Tape x') ∷ out) gives (law.sound id c next m w w' happens sits.rules.sound)
+        rules = rules_after r w s id v sits w' refl refl refl grows v' 3 0 ((0, part.Tape x') ∷ out) gives (law.sound id c next m w w' happens sits.rules.sound)
             (subst (Shows r w') (sym (spread_gives s 3 0 id v' out (omega (arith, wide_is r w s id v sits)) (seat_in r w s id v sits) 0 (part.Tape x') (omega (arith, deep_is r w s id v sits)))) shows)
             (length-set s.homes 0 (some (part.Tape x'))) refl refl
             record {
@@ -236,6 +245,6 @@ module _ (r : Rooms) (w : Plain) (s : Table Part Seat) (id : ℕ) (v : Seat) (si
               calls = k.calls;
               past = k.past;
               closes = k.closes;
-              player = λ z. ((k.player z).0 ∙ sym (put.not_played w.routes w.tape m c written), (k.player z).1, (k.player z).2);
+              player = λ z. ((k.player z).0 ∙ sym (put.not_played w.routes w.tape m c written), (k.player z).1, (k.player z).2, (k.player z).3);
             };
       }

@@ -56,7 +56,7 @@ tapes law made slots id t x v more m live player may is = subst (λ (y : ℕ × 
     (λ s k deep at bound.
     let u = entering v x in
     let sits : Sits k.rooms k.world s 0 u = record { rules = k.rules; at = at; live = live } in
-    let may_now : MayTape u t = record { owes = record { filled = may.owes.filled; looked = may.owes.looked; cleared = may.owes.cleared }; unwritten = may.unwritten; next = may.next; within = may.within; now = may.now } in
+    let may_now : MayTape u t = record { owes = record { filled = may.owes.filled; looked = may.owes.looked; cleared = may.owes.cleared }; raised = may.raised; unwritten = may.unwritten; next = may.next; within = may.within; now = may.now } in
     (taping u t, gives, tt, ruled_then k 0 (taping u t) refl u at (λ w u e. tape e) (law.play k.rooms k.world s u x t more sits refl may_now) refl, ap (λ (d : Token). let n : Thread = (taping u d, more) in n) (sym (last_is x.messages t))))
 
 -- What is the last on the tape after a message was put there.

@@ -17,11 +17,11 @@ use Rattle.cy_table.specs.Seats.{Seat, Grip}
 use Rattle.cy_table.specs.Seats.Entry.{Clock, Closing}
 use Rattle.cy_table.specs.Shown.{Rooms, spread, routine_of, hand_of}
 use Rattle.cy_table.specs.Rule.{Rules, Shows, ShowsWords}
-use Rattle.cy_table.specs.Steps.{Sits, Becomes, MaySpend, spending, looking, clearing_but, seeing, ticking, heeding, closing_all}
+use Rattle.cy_table.specs.Steps.{Sits, Becomes, MaySpend, spending, looking, clearing_but, seeing, ticking, heeding, closing_all, MayClose}
 use Rattle.cy_table.proofs.Places.{place, there, other, unseen, shown_still, shown_anew, token_still, word_is, is_word, after, spread_keeps}
 use Rattle.cy_table.proofs.Parts.{DoorsStay, OthersStay, same_words, parts_same, state_doors, threads_hand, threads_still}
 use Rattle.cy_table.proofs.Knowing.{Grows, nothing_grows, rules_after}
-use Rattle.cy_table.proofs.Holding.{wide_is, seat_is, seat_in, hand_is, croutine_known, routine_known, in_phase, mine, unmoved}
+use Rattle.cy_table.proofs.Holding.{wide_is, seat_is, seat_in, hand_is, croutine_known, routine_known, in_phase, owes_known, mine, unmoved}
 
 yes_is : (b : Bool) → (yes_or_no b == 1) ≡ b
 yes_is false = refl
@@ -33,30 +33,30 @@ waits_is DataWait = refl
 waits_is (Sleep until) = refl
 waits_is Finished = refl
 
-flag_doors : (c x : ℕ) (word : ℕ → ℕ) → DoorsStay (4 * c + 6) x word
-flag_doors c x word = let i : ℕ = 4 * c + 6 in record {
+flag_doors : (n c x : ℕ) (word : ℕ → ℕ) → DoorsStay n (4 * c + 6) x word
+flag_doors n c x word = let i : ℕ = 4 * c + 6 in record {
   tape_same = other i x word 3 (λ a. omega arith);
-  hold_same = λ d. other i x word (4 * d + 4) (λ a. omega arith);
+  hold_same = λ d less. other i x word (4 * d + 4) (λ a. omega arith);
   visitor_same = λ d. other i x word (4 * d + 7) (λ a. omega arith);
 }
 
-clock_doors : (x : ℕ) (word : ℕ → ℕ) → DoorsStay 1 x word
-clock_doors x word = record {
+clock_doors : (n x : ℕ) (word : ℕ → ℕ) → DoorsStay n 1 x word
+clock_doors n x word = record {
   tape_same = other 1 x word 3 (λ a. omega arith);
-  hold_same = λ d. other 1 x word (4 * d + 4) (λ a. omega arith);
+  hold_same = λ d less. other 1 x word (4 * d + 4) (λ a. omega arith);
   visitor_same = λ d. other 1 x word (4 * d + 7) (λ a. omega arith);
 }
 
-closing_doors : (x : ℕ) (word : ℕ → ℕ) → DoorsStay 2 x word
-closing_doors x word = record {
+closing_doors : (n x : ℕ) (word : ℕ → ℕ) → DoorsStay n 2 x word
+closing_doors n x word = record {
   tape_same = other 2 x word 3 (λ a. omega arith);
-  hold_same = λ d. other 2 x word (4 * d + 4) (λ a. omega arith);
+  hold_same = λ d less. other 2 x word (4 * d + 4) (λ a. omega arith);
   visitor_same = λ d. other 2 x word (4 * d + 7) (λ a. omega arith);
 }
 
 -- The words, where a flag, the clock or closing is stored.
-module _ {n : ℕ} {states : ℕ → State} {spent : ℕ → Bool} {clock : ℕ} {closing : Bool} {word : ℕ → ℕ} (sh : ShowsWords n states spent clock closing word) where
-  flag_stored : (c : ℕ) (b : Bool) → ShowsWords n states (set_at c b spent) clock closing (set_at (4 * c + 6) (yes_or_no b) word)
+module _ {n : ℕ} {states : ℕ → State} {spent : ℕ → Bool} {clock : ℕ} {closing : Bool} {stop : ℕ} {word : ℕ → ℕ} (sh : ShowsWords n states spent clock closing stop word) where
+  flag_stored : (c : ℕ) (b : Bool) → ShowsWords n states (set_at c b spent) clock closing stop (set_at (4 * c + 6) (yes_or_no b) word)
   flag_stored c b = let i : ℕ = 4 * c + 6 in let x : ℕ = yes_or_no b in record {
     state = λ d less. other i x word (4 * d + 5) (λ a. omega arith) ∙ sh.state d less;
     flag = λ d less. elim (place d c) [
@@ -65,32 +65,35 @@ module _ {n : ℕ} {states : ℕ → State} {spent : ℕ → Bool} {clock : ℕ}
     ];
     clock_is = other i x word 1 (λ a. omega arith) ∙ sh.clock_is;
     closing_is = other i x word 2 (λ a. omega arith) ∙ sh.closing_is;
+    stop_is = other i x word (4 * n + 4) (λ a. omega arith) ∙ sh.stop_is;
   }
 
-  clock_stored : (time : ℕ) → ShowsWords n states spent time closing (set_at 1 time word)
+  clock_stored : (time : ℕ) → ShowsWords n states spent time closing stop (set_at 1 time word)
   clock_stored time = record {
     state = λ d less. other 1 time word (4 * d + 5) (λ a. omega arith) ∙ sh.state d less;
     flag = λ d less. other 1 time word (4 * d + 6) (λ a. omega arith) ∙ sh.flag d less;
     clock_is = there 1 time word 1 refl;
     closing_is = other 1 time word 2 (λ a. omega arith) ∙ sh.closing_is;
+    stop_is = other 1 time word (4 * n + 4) (λ a. omega arith) ∙ sh.stop_is;
   }
 
-  closing_stored : ShowsWords n states spent clock true (set_at 2 1 word)
+  closing_stored : ShowsWords n states spent clock true stop (set_at 2 1 word)
   closing_stored = record {
     state = λ d less. other 2 1 word (4 * d + 5) (λ a. omega arith) ∙ sh.state d less;
     flag = λ d less. other 2 1 word (4 * d + 6) (λ a. omega arith) ∙ sh.flag d less;
     clock_is = other 2 1 word 1 (λ a. omega arith) ∙ sh.clock_is;
     closing_is = there 2 1 word 2 refl;
+    stop_is = other 2 1 word (4 * n + 4) (λ a. omega arith) ∙ sh.stop_is;
   }
 
 module _ (r : Rooms) (w : Plain) (s : Table Part Seat) (id : ℕ) (v : Seat) (sits : Sits r w s id v) where
-  tape_same : v.tape ≡ ((spread s).seat id).tape
+  pub tape_same : v.tape ≡ ((spread s).seat id).tape
   tape_same = ap (λ (u : Seat). u.tape) (sym (seat_is r w s id v sits))
 
-  visit_same : v.visit ≡ ((spread s).seat id).visit
+  pub visit_same : v.visit ≡ ((spread s).seat id).visit
   visit_same = ap (λ (u : Seat). u.visit) (sym (seat_is r w s id v sits))
 
-  hand_same : (c : ℕ) → routine_of c v.hand ≡ routine_of c ((spread s).seat id).hand
+  pub hand_same : (c : ℕ) → routine_of c v.hand ≡ routine_of c ((spread s).seat id).hand
   hand_same c = ap (λ (u : Seat). routine_of c u.hand) (sym (seat_is r w s id v sits))
 
   state_word_is : (c : ℕ) → c < length w.routes → state_number (w.states c) ≡ slice_index s.words (4 * c + 5)
@@ -127,7 +130,7 @@ module _ (r : Rooms) (w : Plain) (s : Table Part Seat) (id : ℕ) (v : Seat) (si
         effect = refl;
       } in
       let shows : Shows r w' (after t i 1 id v' t.home) = record {
-        parts = parts_same sits.rules.shows.parts i 1 id v' (flag_doors c 1 t.word) tape_same visit_same (λ d. ap (routine_of d) (sym (hand_is r w s id v sits g e)));
+        parts = parts_same sits.rules.shows.parts i 1 id v' (flag_doors (length w.routes) c 1 t.word) tape_same visit_same (λ d. ap (routine_of d) (sym (hand_is r w s id v sits g e)));
         words = flag_stored sits.rules.shows.words c true;
         threads = threads_hand sits.rules.shows.threads id v v' at refl refl refl refl (hand c (phase_after_spend (w.states c) (w.spent c)))
             (ap₂ (λ (st : State) (b : Bool). hand c (phase_after_spend st b)) (sym state_is) (sym was_is));
@@ -135,8 +138,9 @@ module _ (r : Rooms) (w : Plain) (s : Table Part Seat) (id : ℕ) (v : Seat) (si
         world = w';
         routes = refl;
         counts = refl;
+        stop = refl;
         happens = happens;
-        rules = rules_after r w s id v sits w' refl refl (nothing_grows w.routes w.tape w.clock w.calls w.closing id) v' i 1 out keeps (keep w w' happens sits.rules.sound)
+        rules = rules_after r w s id v sits w' refl refl refl (nothing_grows w.routes w.tape w.clock w.calls w.closing w.raised id) v' i 1 out keeps (keep w w' happens sits.rules.sound)
             (subst (Shows r w') (sym (spread_keeps s i 1 id v' out (omega (arith, wide_is r w s id v sits, less)) (seat_in r w s id v sits))) shows) refl refl refl
             record { made = k.made; joined = λ z. absurd (sits.live z); calls = k.calls; past = k.past; closes = k.closes; player = k.player };
       }
@@ -157,7 +161,7 @@ module _ (r : Rooms) (w : Plain) (s : Table Part Seat) (id : ℕ) (v : Seat) (si
       let clearing_are : w.clearing id ≡ v.clearing = th.clearing_is id ∙ ap (λ (u : Seat). u.clearing) at in
       let k = mine r w s id v sits in
       let same : (m : ℕ) → set_at i x t.word m ≡ t.word m = λ m. unseen (λ (y : ℕ). y) i x t.word m (sym (word_is s i x refl)) in
-      let others : OthersStay i x t.word = record { state_same = λ d. same (4 * d + 5); flag_same = λ d. same (4 * d + 6); clock_same = same 1; closing_same = same 2 } in
+      let others : OthersStay (length w.routes) i x t.word = record { state_same = λ d. same (4 * d + 5); flag_same = λ d. same (4 * d + 6); clock_same = same 1; closing_same = same 2; stop_same = same (4 * length w.routes + 4) } in
       let happens : Looks id c w w' = record {
         later = later;
         filled = th.fills_are id ∙ (ap (λ (u : Seat). u.fills) at ∙ filled);
@@ -165,7 +169,7 @@ module _ (r : Rooms) (w : Plain) (s : Table Part Seat) (id : ℕ) (v : Seat) (si
         effect = refl;
       } in
       let shows : Shows r w' (after t i x id v' t.home) = record {
-        parts = parts_same sits.rules.shows.parts i x id v' (state_doors c x t.word) tape_same visit_same hand_same;
+        parts = parts_same sits.rules.shows.parts i x id v' (state_doors (length w.routes) c x t.word) tape_same visit_same hand_same;
         words = same_words i x others sits.rules.shows.words;
         threads = record {
           hand_is = shown_still (λ (u : Seat). hand_of u.hand) t.seat w.hands th.hand_is id v' (ap (λ (u : Seat). hand_of u.hand) (sym at));
@@ -179,8 +183,9 @@ module _ (r : Rooms) (w : Plain) (s : Table Part Seat) (id : ℕ) (v : Seat) (si
         world = w';
         routes = refl;
         counts = refl;
+        stop = refl;
         happens = happens;
-        rules = rules_after r w s id v sits w' refl refl (nothing_grows w.routes w.tape w.clock w.calls w.closing id) v' i x out keeps (keep w w' happens sits.rules.sound)
+        rules = rules_after r w s id v sits w' refl refl refl (nothing_grows w.routes w.tape w.clock w.calls w.closing w.raised id) v' i x out keeps (keep w w' happens sits.rules.sound)
             (subst (Shows r w') (sym (spread_keeps s i x id v' out (omega (arith, wide_is r w s id v sits, less)) (seat_in r w s id v sits))) shows) refl refl refl
             record { made = k.made; joined = λ z. absurd (sits.live z); calls = k.calls; past = k.past; closes = k.closes; player = k.player };
       }
@@ -198,7 +203,7 @@ module _ (r : Rooms) (w : Plain) (s : Table Part Seat) (id : ℕ) (v : Seat) (si
       let k = mine r w s id v sits in
       let happens : Clears id c w w' = record { before = before; after = behind; there = th.clearing_is id ∙ (ap (λ (u : Seat). u.clearing) at ∙ is); effect = refl } in
       let shows : Shows r w' (after t i 0 id v' t.home) = record {
-        parts = parts_same sits.rules.shows.parts i 0 id v' (flag_doors c 0 t.word) tape_same visit_same hand_same;
+        parts = parts_same sits.rules.shows.parts i 0 id v' (flag_doors (length w.routes) c 0 t.word) tape_same visit_same hand_same;
         words = flag_stored sits.rules.shows.words c false;
         threads = record {
           hand_is = shown_still (λ (u : Seat). hand_of u.hand) t.seat w.hands th.hand_is id v' (ap (λ (u : Seat). hand_of u.hand) (sym at));
@@ -211,8 +216,9 @@ module _ (r : Rooms) (w : Plain) (s : Table Part Seat) (id : ℕ) (v : Seat) (si
         world = w';
         routes = refl;
         counts = refl;
+        stop = refl;
         happens = happens;
-        rules = rules_after r w s id v sits w' refl refl (nothing_grows w.routes w.tape w.clock w.calls w.closing id) v' i 0 out keeps (keep w w' happens sits.rules.sound)
+        rules = rules_after r w s id v sits w' refl refl refl (nothing_grows w.routes w.tape w.clock w.calls w.closing w.raised id) v' i 0 out keeps (keep w w' happens sits.rules.sound)
             (subst (Shows r w') (sym (spread_keeps s i 0 id v' out (omega (arith, wide_is r w s id v sits, less)) (seat_in r w s id v sits))) shows) refl refl refl
             record { made = k.made; joined = λ z. absurd (sits.live z); calls = k.calls; past = k.past; closes = k.closes; player = k.player };
       }
@@ -233,7 +239,7 @@ module _ (r : Rooms) (w : Plain) (s : Table Part Seat) (id : ℕ) (v : Seat) (si
         calls = k.calls;
         past = omega (arith, is);
         closes = k.closes;
-        player = λ z. ((k.player z).0, sym is, (k.player z).2);
+        player = λ z. ((k.player z).0, sym is, (k.player z).2, (k.player z).3);
       }
 
   -- Closing is seen.
@@ -253,7 +259,7 @@ module _ (r : Rooms) (w : Plain) (s : Table Part Seat) (id : ℕ) (v : Seat) (si
         calls = k.calls;
         past = k.past;
         closes = λ e. sym is ∙ e;
-        player = λ z. ((k.player z).0, (k.player z).1, is);
+        player = λ z. ((k.player z).0, (k.player z).1, is, (k.player z).3);
       }
 
 -- The player sets the clock, and closes.
@@ -268,22 +274,23 @@ module _ (r : Rooms) (w : Plain) (s : Table Part Seat) (v : Seat) (sits : Sits r
       let clock_is = (k.player refl).1 in
       let rises : w.clock ≤ time = omega (arith, clock_is, later) in
       let happens : Ticks time w w' = record { later = rises; effect = refl } in
-      let grows : Grows w.routes w.tape w.tape w.clock time w.calls w.calls w.closing w.closing 0 = record {
+      let grows : Grows w.routes w.tape w.tape w.clock time w.calls w.calls w.closing w.closing w.raised w.raised 0 = record {
         rises = rises;
         begins = λ c. take-length (w.calls c);
         closes = λ e. e;
         player = λ ne. absurd (ne refl);
       } in
       let shows : Shows r w' (after t 1 time 0 v' t.home) = record {
-        parts = parts_same sits.rules.shows.parts 1 time 0 v' (clock_doors time t.word) (tape_same r w s 0 v sits) (visit_same r w s 0 v sits) (hand_same r w s 0 v sits);
+        parts = parts_same sits.rules.shows.parts 1 time 0 v' (clock_doors (length w.routes) time t.word) (tape_same r w s 0 v sits) (visit_same r w s 0 v sits) (hand_same r w s 0 v sits);
         words = clock_stored sits.rules.shows.words time;
         threads = threads_still sits.rules.shows.threads 0 v v' at refl refl refl refl refl;
       } in record {
         world = w';
         routes = refl;
         counts = refl;
+        stop = refl;
         happens = happens;
-        rules = rules_after r w s 0 v sits w' refl refl grows v' 1 time out keeps (keep w w' happens sits.rules.sound)
+        rules = rules_after r w s 0 v sits w' refl refl refl grows v' 1 time out keeps (keep w w' happens sits.rules.sound)
             (subst (Shows r w') (sym (spread_keeps s 1 time 0 v' out (omega (arith, wide_is r w s 0 v sits)) (seat_in r w s 0 v sits))) shows) refl refl refl
             record {
               made = k.made;
@@ -291,12 +298,12 @@ module _ (r : Rooms) (w : Plain) (s : Table Part Seat) (v : Seat) (sits : Sits r
               calls = k.calls;
               past = omega arith;
               closes = k.closes;
-              player = λ z. ((k.player z).0, refl, (k.player z).2);
+              player = λ z. ((k.player z).0, refl, (k.player z).2, (k.player z).3);
             };
       }
 
-  pub close_becomes : length v.played ≡ to_play_from v.routes 0 v.counts → (out : List (ℕ × Part)) → KeepsSound Closes → Becomes r Closes w (stepped s 2 1 0 out (closing_all v) keeps)
-  close_becomes all out keep =
+  pub close_becomes : MayClose v → (out : List (ℕ × Part)) → KeepsSound Closes → Becomes r Closes w (stepped s 2 1 0 out (closing_all v) keeps)
+  close_becomes may out keep =
       let t = spread s in
       let v' : Seat = closing_all v in
       let w' : Plain = record w { closing = true } in
@@ -304,25 +311,28 @@ module _ (r : Rooms) (w : Plain) (s : Table Part Seat) (v : Seat) (sits : Sits r
       let k = mine r w s 0 v sits in
       let made = k.made sits.live in
       let happens : Closes w w' = record {
-        all = sym (ap length (k.player refl).0) ∙ (all ∙ ap₂ (λ (l : List Route) (counts : List ℕ). to_play_from l 0 counts) made.0 made.1);
+        owes = owes_known r w s 0 v sits may.owes;
+        raised = λ given there. sym (k.player refl).3 ∙ may.raised given (made.2 ∙ there);
+        all = sym (ap length (k.player refl).0) ∙ (may.all ∙ ap₂ (λ (l : List Route) (counts : List ℕ). to_play_from l 0 counts) made.0 made.1);
         effect = refl;
       } in
-      let grows : Grows w.routes w.tape w.tape w.clock w.clock w.calls w.calls w.closing true 0 = record {
+      let grows : Grows w.routes w.tape w.tape w.clock w.clock w.calls w.calls w.closing true w.raised w.raised 0 = record {
         rises = omega arith;
         begins = λ c. take-length (w.calls c);
         closes = λ e. refl;
         player = λ ne. absurd (ne refl);
       } in
       let shows : Shows r w' (after t 2 1 0 v' t.home) = record {
-        parts = parts_same sits.rules.shows.parts 2 1 0 v' (closing_doors 1 t.word) (tape_same r w s 0 v sits) (visit_same r w s 0 v sits) (hand_same r w s 0 v sits);
+        parts = parts_same sits.rules.shows.parts 2 1 0 v' (closing_doors (length w.routes) 1 t.word) (tape_same r w s 0 v sits) (visit_same r w s 0 v sits) (hand_same r w s 0 v sits);
         words = closing_stored sits.rules.shows.words;
         threads = threads_still sits.rules.shows.threads 0 v v' at refl refl refl refl refl;
       } in record {
         world = w';
         routes = refl;
         counts = refl;
+        stop = refl;
         happens = happens;
-        rules = rules_after r w s 0 v sits w' refl refl grows v' 2 1 out keeps (keep w w' happens sits.rules.sound)
+        rules = rules_after r w s 0 v sits w' refl refl refl grows v' 2 1 out keeps (keep w w' happens sits.rules.sound)
             (subst (Shows r w') (sym (spread_keeps s 2 1 0 v' out (omega (arith, wide_is r w s 0 v sits)) (seat_in r w s 0 v sits))) shows) refl refl refl
             record {
               made = k.made;
@@ -330,6 +340,6 @@ module _ (r : Rooms) (w : Plain) (s : Table Part Seat) (v : Seat) (sits : Sits r
               calls = k.calls;
               past = k.past;
               closes = λ e. refl;
-              player = λ z. ((k.player z).0, (k.player z).1, refl);
+              player = λ z. ((k.player z).0, (k.player z).1, refl, (k.player z).3);
             };
       }

@@ -1,6 +1,7 @@
 -- What is in the slots of a table when its last pass gives it up, and the world that is made of it.
-use Rattle.std.proofs.Common.{ℕ, zero, suc, ◌+◌, ◌-◌, ◌*◌, ◌≡◌, ◌≢◌, ◌≤◌, ◌<◌, ◌⊎◌, ◌==◌, Bool, true, false, refl, sym, ◌∙◌, ap, ap₂, subst, inl, inr, List, [], ◌∷◌, ◌++◌, length, length-append, take, map, sum, filter, cond, slice_index, slice_get, get_or, get_or-set_same, get_or-set_other, set, option_map, Option, Some, None, vec_capacity, arith}
+use Rattle.std.proofs.Common.{ℕ, zero, suc, ◌+◌, ◌*◌, ◌≡◌, ◌≢◌, ◌≤◌, ◌<◌, ◌⊎◌, ◌==◌, Bool, true, false, refl, sym, ◌∙◌, ap, ap₂, subst, inl, inr, List, [], ◌∷◌, ◌++◌, length, length-append, take, map, sum, filter, cond, not, slice_index, slice_get, get_or, get_or-set_same, get_or-set_other, set, option_map, Option, Some, None, vec_capacity, arith}
 use Rattle.std.specs.Option.{option_map_or}
+use Rattle.std.proofs.lemmas.Bool.Decides.{eqb_tells}
 use mathlib.Core.Bool.{false≢true}
 use mathlib.Core.Option.{some, some-injective, some-ne-none}
 use lib.ListN.{get_elem?}
@@ -16,10 +17,10 @@ use Rattle.wake_core.specs.declared.route.Route.{Route}
 use Rattle.wake_core.specs.declared.parts.Parts.{Parts}
 use Rattle.wake_core.specs.Run.{played_of}
 use Rattle.wake_core.specs.Planned.{planned_count, first_reader}
-use Rattle.wake_core.specs.Plain.{Plain, Ready, taped_of, unsent_of}
+use Rattle.wake_core.specs.Plain.{Plain, Stop, Ready, taped_of, unsent_of}
 use Rattle.wake_core.specs.Sound.{Sound}
 use Rattle.wake_core.specs.Fields.{read, no_routine, no_visitor, IsFixed, IsVisited, IsRoomy, queue_of}
-use Rattle.wake_core.specs.WorldOf.{routes_in, counts_in}
+use Rattle.wake_core.specs.WorldOf.{routes_in, counts_in, stop_in}
 use Rattle.wake_core.specs.WorldCalls.{IsRoutineOf}
 use Rattle.wake_core.specs.Laws.{IsIdle, Events, ThreadLaws, OutsideLaws, AgreesWithin, SaysNothing}
 use Rattle.wake_core.specs.TapeLaws.{UnsentLaws}
@@ -27,7 +28,7 @@ use Rattle.wake_core.specs.Rest.{at_rest}
 use Rattle.wake_core.specs.Parts.{routine_in, shown_by, AreFit}
 use Rattle.cy_table.specs.declared.part.Part.{Part}
 use Rattle.cy_table.specs.declared.part.Part.TheVariants as part
-use Rattle.cy_table.specs.Layout.{yes_or_no}
+use Rattle.cy_table.specs.Layout.{yes_or_no, named_by, stop_number}
 use Rattle.cy_table.specs.Seats.{Seat, Seen as Sight, TapeView}
 use Rattle.cy_table.specs.Seats.{AreSeen, IsEmpty}
 use Rattle.cy_table.specs.Shown.{Rooms, AreRoomy, out_in, pending_at, routine_at, visitor_at, tape_at}
@@ -46,6 +47,7 @@ pub record Ends (made : Plain) (v : Seat) (words : List ℕ) (slots : List Part)
   pub rooms : Rooms
   pub components : world.routes ≡ made.routes
   pub planned : world.counts ≡ made.counts
+  pub given : world.stop ≡ made.stop
   pub reached : Events made world
   pub noted : WereSo made world v.note
   pub sound : Sound world
@@ -69,6 +71,7 @@ shuts law made id v words slots player live empty alone f =
       rooms = k.rooms;
       components = k.components;
       planned = k.planned;
+      given = k.stop;
       reached = k.reached;
       noted = k.noted 0 v first;
       sound = k.rules.sound;
@@ -80,6 +83,7 @@ shuts law made id v words slots player live empty alone f =
         wide = lies.wide;
         clock_is = lies.clock_is;
         closing_is = lies.closing_is;
+        stop_is = lies.stop_is;
         tape_free = lies.tape_free;
         state = lies.state;
         flag = lies.flag;
@@ -178,11 +182,12 @@ from_more k k' n fs next less f = record {
   left = λ i more lt. get_or-set_other fs k i false false (λ e. omega (arith, next, more, e)) ∙ f.left i (omega (arith, next, more)) lt;
 }
 
--- The tape, the clock and the closing.
-pub record AreRest (words : List ℕ) (slots : List Part) (p : Parts) : Type 0 where
+-- The tape, the clock, the closing and the stop.
+pub record AreRest (n : ℕ) (words : List ℕ) (slots : List Part) (p : Parts) : Type 0 where
   pub tape : get_elem? slots 0 ≡ some (part.Tape record { messages = p.tape.items; room = vec_capacity p.tape })
   pub clock : p.clock ≡ slice_index words 1
   pub closing : p.closing ≡ (slice_index words 2 == 1)
+  pub raised : p.raised ≡ not (slice_index words (4 * n + 4) == 0)
   pub played : p.played ≡ length (played_of (routes_in p.fixed) p.tape.items)
 
 pub same_part : (slots : List Part) (k : ℕ) (a b : Part) → get_elem? slots k ≡ some a → get_elem? slots k ≡ some b → a ≡ b
@@ -201,6 +206,15 @@ yes_is : (b : Bool) → (yes_or_no b == 1) ≡ b
 yes_is false = refl
 yes_is true = refl
 
+-- What stands in the stop word tells whether the stop is raised.
+named_some : (stop : Option Stop) → (named_by stop == 0) ≡ false
+named_some None = refl
+named_some (Some s) = elim (eqb_tells (s.component + 1) 0) [ inl h ↦ absurd (omega (arith, h.1)) | inr h ↦ h.0 ]
+
+raised_is : (stop : Option Stop) (b : Bool) → not (stop_number stop b == 0) ≡ b
+raised_is stop false = refl
+raised_is stop true = ap not (named_some stop)
+
 read_past : {X Y : Type 0} (g : X → Y) (d : Y) (xs : List X) (i : ℕ) → length xs ≤ i → read g d xs i ≡ d
 unfolding read
 read_past g d [] i le = refl
@@ -212,7 +226,7 @@ seen_in calls c [] all = tt
 seen_in calls c (x ∷ xs) all = ((λ e. subst (λ k. take (length x.calls) (calls k) ≡ x.calls) e all.0), seen_in calls c xs all.1)
 
 pub few_played : (routes : List Route) (tape : List Token) → length (played_of routes tape) ≤ length tape
-few_played routes tape = fewer (λ (t : Token). Rattle.std.proofs.Common.not (Rattle.std.proofs.Common.is_some (Rattle.wake_core.specs.Run.writes_from 0 routes t.channel))) tape
+few_played routes tape = fewer (λ (t : Token). not (Rattle.std.proofs.Common.is_some (Rattle.wake_core.specs.Run.writes_from 0 routes t.channel))) tape
   where
     fewer : {X : Type 0} (test : X → Bool) (xs : List X) → length (filter test xs) ≤ length xs
     fewer test [] = omega arith
@@ -223,7 +237,7 @@ few_played routes tape = fewer (λ (t : Token). Rattle.std.proofs.Common.not (Ra
         go false l = omega (arith, l)
 
 module _ {made : Plain} {v : Seat} {words : List ℕ} {slots : List Part} (e : Ends made v words slots) (p : Parts)
-    (taken : TakenOut words slots (length made.routes) p.routines p.visitors p.spent) (rest : AreRest words slots p) (fr : routes_in p.fixed ≡ made.routes) (fc : counts_in p.fixed ≡ made.counts) where
+    (taken : TakenOut words slots (length made.routes) p.routines p.visitors p.spent) (rest : AreRest (length made.routes) words slots p) (fr : routes_in p.fixed ≡ made.routes) (fc : counts_in p.fixed ≡ made.counts) (fs : stop_in p.fixed ≡ made.stop) where
   inside : (c : ℕ) → c < length e.world.routes → c < length made.routes
   inside c less = omega (arith, less, ap length e.components)
 
@@ -245,11 +259,18 @@ module _ {made : Plain} {v : Seat} {words : List ℕ} {slots : List Part} (e : E
   closing_same : p.closing ≡ e.world.closing
   closing_same = rest.closing ∙ ap (λ n. n == 1) e.words_are.closing_is ∙ yes_is e.world.closing
 
+  raised_same : p.raised ≡ e.world.raised
+  raised_same = rest.raised ∙ ap (λ (l : List Route). not (slice_index words (4 * length l + 4) == 0)) (sym e.components)
+      ∙ ap (λ n. not (n == 0)) e.words_are.stop_is ∙ raised_is e.world.stop e.world.raised
+
   routes_same : routes_in p.fixed ≡ e.world.routes
   routes_same = fr ∙ sym e.components
 
   counts_same : counts_in p.fixed ≡ e.world.counts
   counts_same = fc ∙ sym e.planned
+
+  stop_same : stop_in p.fixed ≡ e.world.stop
+  stop_same = fs ∙ sym e.given
 
   -- The world at rest, with what the parts say of each component.
   abbrev mended : Plain
@@ -263,6 +284,8 @@ module _ {made : Plain} {v : Seat} {words : List ℕ} {slots : List Part} (e : E
       ∙ ap (λ (l : List Token). record (shown_by p) { routes = e.world.routes; counts = e.world.counts; tape = l }) tape_same
       ∙ ap (λ (n : ℕ). record (shown_by p) { routes = e.world.routes; counts = e.world.counts; tape = e.world.tape; clock = n }) clock_same
       ∙ ap (λ (b : Bool). record (shown_by p) { routes = e.world.routes; counts = e.world.counts; tape = e.world.tape; clock = e.world.clock; closing = b }) closing_same
+      ∙ ap (λ (b : Bool). record (shown_by p) { routes = e.world.routes; counts = e.world.counts; tape = e.world.tape; clock = e.world.clock; closing = e.world.closing; raised = b }) raised_same
+      ∙ ap (λ (o : Option Stop). record (shown_by p) { routes = e.world.routes; counts = e.world.counts; tape = e.world.tape; clock = e.world.clock; closing = e.world.closing; raised = e.world.raised; stop = o }) stop_same
 
   pub agrees : AgreesWithin (at_rest e.world) (shown_by p)
   unfolding shown_by
@@ -369,3 +392,7 @@ module _ {made : Plain} {v : Seat} {words : List ℕ} {slots : List Part} (e : E
   pub closing_left : (shown_by p).closing ≡ v.closing
   unfolding shown_by
   closing_left = closing_same ∙ sym (e.knows.player refl).2
+
+  pub raised_left : (shown_by p).raised ≡ v.raised
+  unfolding shown_by
+  raised_left = raised_same ∙ sym (e.knows.player refl).3

@@ -1,21 +1,22 @@
 -- What the steps of the clock, of the closing word, of news and of the bench may do, by their laws.
-use Rattle.std.proofs.Common.{ℕ, ◌+◌, ◌*◌, ◌==◌, ◌≡◌, ◌≢◌, ◌≤◌, ◌<◌, refl, sym, ◌∙◌, ap, subst, ⊎_elim, inr, true, List, [], ◌∷◌, ◌++◌, length, set, slice_index}
+use Rattle.std.proofs.Common.{ℕ, ◌+◌, ◌*◌, ◌==◌, ◌≡◌, ◌≢◌, ◌≤◌, ◌<◌, refl, sym, ◌∙◌, ap, subst, ⊎_elim, inr, true, List, [], ◌∷◌, ◌++◌, length, set, slice_index, Some}
 use mathlib.Core.Option.{none, some}
 use lib.ListN.{get_elem?}
-use Rattle.atomic_table.specs.Table.{State as Table, Allows, Splits, Joins, step, keeps}
+use Rattle.atomic_table.specs.Table.{State as Table, Allows, Splits, Joins, step, stepped, keeps}
 use Rattle.atomic_table.proofs.Lists.{at_snoc, set_else}
 use Rattle.wake_core.specs.declared.route.Route.{Route}
 use Rattle.wake_core.specs.Plain.{Plain}
-use Rattle.wake_core.specs.Plain.{to_play_from}
-use Rattle.wake_core.specs.Laws.Event.{look, clear, tick, close}
+use Rattle.wake_core.specs.Events.{Checks, Stops}
+use Rattle.wake_core.specs.Laws.Event.{look, clear, tick, close, check, stop}
 use Rattle.cy_table.specs.declared.part.Part.{Part}
 use Rattle.cy_table.specs.Seats.{Seat, no_seat}
 use Rattle.cy_table.specs.Seats.{IsEmpty}
 use Rattle.cy_table.specs.Seats.Entry.{Clock, Closing}
 use Rattle.cy_table.specs.Rule.{Ruled, WereSo}
-use Rattle.cy_table.specs.Steps.{Sits, seeing, ticking, heeding, closing_all, looking, clearing_but, splitting, split_off, joining}
-use Rattle.cy_table.specs.Laws.{ClockSteps, ClosingSteps, StateLoads, FlagStores, BenchSteps}
-use Rattle.cy_table.specs.Plays.{Thread, but_first, but_last, saw, ticked, heeded, closed, looked, cleared}
+use Rattle.cy_table.specs.Layout.{stop_number}
+use Rattle.cy_table.specs.Steps.{Sits, Becomes, seeing, ticking, heeding, closing_all, MayClose, MayCheck, checking, MayRaise, raising, looking, clearing_but, splitting, split_off, joining}
+use Rattle.cy_table.specs.Laws.{ClockSteps, ClosingSteps, StopLoads, StopStores, StateLoads, FlagStores, BenchSteps}
+use Rattle.cy_table.specs.Plays.{Thread, in_hand, but_first, but_last, saw, ticked, heeded, closed, checked, stopped, looked, cleared}
 use Rattle.cy_table.proofs.Telling.{clock_word_is}
 use Rattle.cy_table.proofs.Allowing.{all_were, ruled_then, ruled_noting, ruled_seeing}
 
@@ -42,11 +43,32 @@ heeds law made slots id m live s k deep at bound =
       record { thread = refl; stays = λ e. law.is_true k.rooms k.world s id m.0 sits ∙ (k.rules.knows id m.0 at).closes e },
     )
 
-pub closes : ClosingSteps → (made : Plain) (slots id : ℕ) (m : Thread) → m.0.live ≢ 0 → id ≡ 0 → length m.0.played ≡ to_play_from m.0.routes 0 m.0.counts
+pub closes : ClosingSteps → (made : Plain) (slots id : ℕ) (m : Thread) → m.0.live ≢ 0 → id ≡ 0 → MayClose m.0
     → Allows (Ruled made) slots id m 2 (λ _. 1) (λ _. closed (step slots 2 1 0 none) m 1)
-closes law made slots id m live player all = subst (λ j. Allows (Ruled made) slots j m 2 (λ _. 1) (λ _. closed (step slots 2 1 0 none) m 1)) (sym player)
-    (λ s k deep at bound. let b = law.close k.rooms k.world s m.0 m.1 (sits_at k 0 m.0 at live) all in
+closes law made slots id m live player may = subst (λ j. Allows (Ruled made) slots j m 2 (λ _. 1) (λ _. closed (step slots 2 1 0 none) m 1)) (sym player)
+    (λ s k deep at bound. let b = law.close k.rooms k.world s m.0 m.1 (sits_at k 0 m.0 at live) may in
     (closing_all m.0, keeps, tt, ruled_noting k 0 (closing_all m.0) refl m.0 at (λ w u e. close e) b (Closing true) refl (inr (ap (λ (w : Plain). w.closing) b.happens.effect)), refl))
+
+-- The load and the store of the stop word, at its place.
+pub checks : StopLoads → (made : Plain) (slots id i : ℕ) (m : Thread) → m.0.live ≢ 0 → m.0.hand ≡ Some (in_hand m.0) → MayCheck (in_hand m.0) → i ≡ 4 * length made.routes + 4
+    → Allows (Ruled made) slots id m i (λ n. n) (checked (step slots i 0 0 none) m)
+checks law made slots id i m live has may place s k deep at bound =
+    let g = in_hand m.0 in
+    let becomes = λ (j : ℕ). Becomes k.rooms (Checks id g.croutine) k.world (stepped s j (slice_index s.words j) id m.1 (checking m.0 g (slice_index s.words j == g.croutine + 1)) keeps) in
+    let there : 4 * length k.world.routes + 4 ≡ i = ap (λ (l : List Route). 4 * length l + 4) k.components ∙ sym place in
+    let b = subst becomes there (law.check k.rooms k.world s id m.0 g m.1 (sits_at k id m.0 at live) has may) in
+    let v' = checking m.0 g (slice_index s.words i == g.croutine + 1) in
+    (v', keeps, tt, ruled_then k id v' refl m.0 at (λ w u e. check e) b refl, refl)
+
+pub raises : StopStores → (made : Plain) (slots id i x : ℕ) (m : Thread) → m.0.live ≢ 0 → id ≡ 0 → MayRaise m.0 → i ≡ 4 * length made.routes + 4 → x ≡ stop_number made.stop true
+    → Allows (Ruled made) slots id m i (λ _. x) (λ _. stopped (step slots i x 0 none) m x)
+raises law made slots id i x m live player may place number = subst (λ j. Allows (Ruled made) slots j m i (λ _. x) (λ _. stopped (step slots i x 0 none) m x)) (sym player)
+    (λ s k deep at bound.
+    let becomes = λ (j y : ℕ). Becomes k.rooms Stops k.world (stepped s j y 0 m.1 (raising m.0) keeps) in
+    let there : 4 * length k.world.routes + 4 ≡ i = ap (λ (l : List Route). 4 * length l + 4) k.components ∙ sym place in
+    let says : stop_number k.world.stop true ≡ x = ap (λ o. stop_number o true) k.stop ∙ sym number in
+    let b = subst (λ y. becomes i y) says (subst (λ j. becomes j (stop_number k.world.stop true)) there (law.stop k.rooms k.world s m.0 m.1 (sits_at k 0 m.0 at live) may)) in
+    (raising m.0, keeps, tt, ruled_then k 0 (raising m.0) refl m.0 at (λ w u e. stop e) b refl, refl))
 
 first_of : ℕ → List ℕ → ℕ
 first_of d [] = d
@@ -81,7 +103,7 @@ clears law made slots id c m live last less s k deep at bound =
       clearing_but m.0 kept,
       keeps,
       tt,
-      subst (λ l. Ruled made (Rattle.atomic_table.specs.Table.stepped s (4 * c + 6) 0 id m.1 (clearing_but m.0 l) keeps)) (nothing_after kept) (ruled_then k id (clearing_but m.0 (kept ++ [])) refl m.0 at (λ w u e. clear e) (law.clear k.rooms k.world s id m.0 c kept [] m.1 (sits_at k id m.0 at live) last inside) refl),
+      subst (λ l. Ruled made (stepped s (4 * c + 6) 0 id m.1 (clearing_but m.0 l) keeps)) (nothing_after kept) (ruled_then k id (clearing_but m.0 (kept ++ [])) refl m.0 at (λ w u e. clear e) (law.clear k.rooms k.world s id m.0 c kept [] m.1 (sits_at k id m.0 at live) last inside) refl),
       refl,
     )
   where
@@ -96,6 +118,7 @@ splits law made id v live player = subst (λ j. Splits (Ruled made) j v (splitti
       rooms = k.rooms;
       components = k.components;
       planned = k.planned;
+      stop = k.stop;
       reached = k.reached;
       noted = λ j u e. ⊎_elim
           (λ (l : get_elem? (set s.views 0 (splitting v)) j ≡ some u). all_were made k.world s.views 0 (splitting v) k.noted (k.noted 0 v at) j u l)
@@ -112,6 +135,7 @@ joins law made id v other o live player here empty = subst (λ j. Joins (Ruled m
       rooms = k.rooms;
       components = k.components;
       planned = k.planned;
+      stop = k.stop;
       reached = k.reached;
       noted = all_were made k.world (set s.views 0 (joining v o)) other no_seat (all_were made k.world s.views 0 (joining v o) k.noted (k.noted 0 v at)) tt;
       rules = law.join k.rooms k.world s v other o (sits_at k 0 v at live) ne (sym (set_else s.views 0 other (joining v o) ne) ∙ there) here empty;

@@ -8,7 +8,7 @@ use Rattle.cy_comp.specs.Calls.{cursor_after, outs, output}
 use Rattle.cy_comp.specs.Routine.{RoutineView}
 use Rattle.cy_fuse.specs.Fetch.{fetch}
 use Rattle.cy_fuse.specs.Visitor.{VisitorView, tuples_at, visited}
-use Rattle.wake_core.specs.Plain.{Plain, to_play_from}
+use Rattle.wake_core.specs.Plain.{Plain}
 use Rattle.wake_core.specs.WorldOf.{plain_of}
 use Rattle.wake_core.specs.declared.phase.Phase.TheVariants.{Fresh, Asked}
 use Rattle.wake_core.specs.Events.{is_waiting}
@@ -26,6 +26,7 @@ use Rattle.cy_comp.specs.declared.state.State.{State}
 use Rattle.cy_table.specs.Steps.{visiting, entering, fetching, MayTape, MaySend, sending, out_at}
 use Rattle.cy_table.specs.Steps.{MayReady, readying, MaySpend, spending, seeing}
 use Rattle.cy_table.specs.Steps.{acquiring, failing, MayAsk, MayYield, next_state, MayRelease}
+use Rattle.cy_table.specs.Steps.{MayClose, MayCheck, MayRaise}
 use Rattle.cy_table.specs.Plays.{Thread, in_hand, HasSeen, but_first, later_fills, MayPut}
 use Rattle.cy_table.specs.Hold.{with_found}
 
@@ -116,7 +117,13 @@ pub record FoundHeld (p : Pass) (c : ℕ) (q : Pass) : Type 0 where
   pub seat : seat_of q ≡ failing (seat_of p) c
   pub free : HasNoHold q
 
--- The events Ask, Yield and Release, of the croutine in hand.
+-- The events Check, Ask, Yield and Release, of the croutine in hand.
+pub record CanResume (t : FlagTable) (p : Pass) (h : Hold) : Type 0 where
+  pub at : IsAt t p
+  pub holds : Holds t p h
+  pub stepped : IsStepped h
+  pub may : MayCheck (in_hand (seat_of p))
+
 pub record CanAsk (t : FlagTable) (p : Pass) (h : Hold) : Type 0 where
   pub at : IsAt t p
   pub holds : Holds t p h
@@ -136,17 +143,22 @@ pub record CanRelease (t : FlagTable) (p : Pass) (h : Hold) : Type 0 where
   pub stepped : IsStepped h
   pub may : MayRelease (in_hand (seat_of p))
 
--- The events Tick and Close, by the player; and a look at the first of the news, when all readers
--- are filled.
+-- The events Tick, Stop and Close, by the player; and a look at the first of the news, when all
+-- readers are filled.
 pub record CanTick (t : FlagTable) (p : Pass) (time : ℕ) : Type 0 where
   pub at : IsAt t p
   pub player : pass_number p ≡ 0
   pub later : (seat_of p).clock ≤ time
 
+pub record CanRaise (t : FlagTable) (p : Pass) : Type 0 where
+  pub at : IsAt t p
+  pub player : pass_number p ≡ 0
+  pub may : MayRaise (seat_of p)
+
 pub record CanClose (t : FlagTable) (p : Pass) : Type 0 where
   pub at : IsAt t p
   pub player : pass_number p ≡ 0
-  pub all : length (seat_of p).played ≡ to_play_from (seat_of p).routes 0 (seat_of p).counts
+  pub may : MayClose (seat_of p)
 
 pub record CanLook (t : FlagTable) (p : Pass) (c : ℕ) : Type 0 where
   pub at : IsAt t p

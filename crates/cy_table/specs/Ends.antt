@@ -20,7 +20,8 @@ use Rattle.cy_table.specs.declared.table.FlagTable.{FlagTable}
 use Rattle.cy_table.specs.declared.table.ends.Taken.{Taken}
 use Rattle.cy_table.specs.Layout.{clock_word, closing_word, tape_door, hold_word, state_word}
 use Rattle.cy_table.specs.Layout.{flag_word, visitor_door, tape_slot, routine_slot, visitor_slot}
-use Rattle.cy_table.specs.Layout.{words_for, slots_for, state_number, yes_or_no}
+use Rattle.cy_table.specs.Layout.{words_for, slots_for, state_number, yes_or_no, stop_word}
+use Rattle.cy_table.specs.Layout.{stop_number}
 use Rattle.cy_table.specs.Seats.{IsEmpty}
 use Rattle.cy_table.specs.Shown.{Rooms, routine_at, visitor_at, tape_at}
 use Rattle.cy_table.specs.Plays.{HasSeen, seat_for}
@@ -49,18 +50,21 @@ pub record IsReached (from w : Plain) : Type 0 where
   pub same : AgreesWithin (at_rest world) w
 
 -- A world that a table leaves to the player: one at rest, which events reached from the world that
--- the table was made of, with its components and counts; what the player noted was so on the way.
--- It has the played messages, the clock and the closing that the player knows; and each component
--- with all calls that the player has seen, those of the passes that were joined among them.
+-- the table was made of, with its components, counts and stop; what the player noted was so on the
+-- way. It has the played messages, the clock and the closing that the player knows, and its stop is
+-- raised just where the player knows so; and each component with all calls that the player has
+-- seen, those of the passes that were joined among them.
 pub record IsLeft (t : FlagTable) (p : Pass) (w : Plain) : Type 0 where
   pub reached : IsReached (made_of t) w
   pub noted : WereSo (made_of t) reached.world (seat_of p).note
   pub routes : w.routes ≡ (made_of t).routes
   pub counts : w.counts ≡ (made_of t).counts
+  pub stop : w.stop ≡ (made_of t).stop
   pub rest : IsAtRest w
   pub played : played_of w.routes w.tape ≡ (seat_of p).played
   pub clock : w.clock ≡ (seat_of p).clock
   pub closing : w.closing ≡ (seat_of p).closing
+  pub raised : w.raised ≡ (seat_of p).raised
   pub seen : (c : ℕ) → c < length w.routes → HasSeen c (w.calls c) (seat_of p).seen
 
 -- The words of a world in which no croutine is held and each door is open.
@@ -68,6 +72,7 @@ pub record AreWords (w : Plain) (words : List ℕ) : Type 0 where
   pub wide : length words ≡ words_for (length w.routes)
   pub clock_is : slice_index words clock_word ≡ w.clock
   pub closing_is : slice_index words closing_word ≡ yes_or_no w.closing
+  pub stop_is : slice_index words (stop_word (length w.routes)) ≡ stop_number w.stop w.raised
   pub tape_free : slice_index words tape_door ≡ 0
   pub state : (c : ℕ) → c < length w.routes → slice_index words (state_word c)
       ≡ state_number (w.states c)

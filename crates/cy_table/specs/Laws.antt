@@ -2,7 +2,7 @@
 -- what the step needs, then the table shows a world after it: the one that the event gives, or the
 -- same.
 use Rattle.std.specs.Prelude.{ℕ, ◌+◌, ◌≡◌, ◌≢◌, ◌≤◌, ◌<◌, ◌==◌, List, [], ◌∷◌, ◌++◌, length}
-use Rattle.std.specs.Prelude.{slice_index, slice_set, Some, None}
+use Rattle.std.specs.Prelude.{slice_index, slice_set, true, Some, None}
 use mathlib.Core.Option.{some}
 use mathlib.Core.Option as maybe
 use lib.ListN.{get_elem?}
@@ -16,10 +16,10 @@ use Rattle.cy_comp.specs.Calls.{cursor_after, outs}
 use Rattle.cy_comp.specs.Routine.{RoutineView, MayTake}
 use Rattle.wake_core.specs.declared.entries.TheConstants.{MOST_PLANNED}
 use Rattle.wake_core.specs.declared.phase.Phase.TheVariants.{Asked}
-use Rattle.wake_core.specs.Plain.{Plain, to_play_from}
+use Rattle.wake_core.specs.Plain.{Plain, stops}
 use Rattle.wake_core.specs.Events.{Acquires, Spends, Readies, Asks, Fills, Looks, Clears}
 use Rattle.wake_core.specs.Events.{Yields, Releases, Ticks, Closes, Tapes, Sends}
-use Rattle.wake_core.specs.Events.{Fetches}
+use Rattle.wake_core.specs.Events.{Fetches, Checks, Stops}
 use Rattle.wake_core.specs.Sound.{Sound}
 use Rattle.wake_core.specs.Fields.{IsFixed}
 use Rattle.wake_core.specs.Laws.{IsIdle}
@@ -27,7 +27,7 @@ use Rattle.cy_table.specs.declared.part.Part.{Part}
 use Rattle.cy_table.specs.declared.part.Part.TheVariants as part
 use Rattle.cy_table.specs.Layout.{clock_word, closing_word, hold_word, state_word, flag_word}
 use Rattle.cy_table.specs.Layout.{tape_door, visitor_door, tape_slot, routine_slot}
-use Rattle.cy_table.specs.Layout.{visitor_slot, state_number}
+use Rattle.cy_table.specs.Layout.{visitor_slot, state_number, stop_word, stop_number}
 use Rattle.cy_table.specs.Seats.{Seat, Seen, Grip, Visit, TapeView, no_seat}
 use Rattle.cy_table.specs.Seats.{AreSeen, IsEmpty}
 use Rattle.cy_table.specs.Shown.{Rooms, AreRoomy, LiesOpen, routine_at, visitor_at, tape_at}
@@ -38,7 +38,7 @@ use Rattle.cy_table.specs.Steps.{MaySpend, spending, looking, clearing_but, seei
 use Rattle.cy_table.specs.Steps.{heeding, closing_all, entering, visiting, filling}
 use Rattle.cy_table.specs.Steps.{with_message, MayTape, taping, MaySend, out_at, output_at}
 use Rattle.cy_table.specs.Steps.{phase_sent, sending, fetching, splitting, split_off, joining}
-use Rattle.cy_table.specs.Steps.{first_seat}
+use Rattle.cy_table.specs.Steps.{first_seat, MayClose, MayCheck, checking, MayRaise, raising}
 
 -- The swap of a hold word, by a thread with nothing in hand: the event Acquire where it was found
 -- free, and then the routine was at home; else no event.
@@ -125,8 +125,28 @@ pub record ClosingSteps : Type 0 where
   pub is_true : (r : Rooms) (w : Plain) (s : Table Part Seat) (id : ℕ) (v : Seat)
       → Sits r w s id v → (slice_index s.words closing_word == 1) ≡ w.closing
   pub close : (r : Rooms) (w : Plain) (s : Table Part Seat) (v : Seat) (out : List (ℕ × Part))
-      → Sits r w s 0 v → length v.played ≡ to_play_from v.routes 0 v.counts
+      → Sits r w s 0 v → MayClose v
       → Becomes r Closes w (stepped s closing_word 1 0 out (closing_all v) keeps)
+
+-- The load of the stop word by the holder of a croutine that is to be resumed: the event Check. The
+-- word names a component exactly where the raised stop does.
+pub record StopLoads : Type 0 where
+  pub check : (r : Rooms) (w : Plain) (s : Table Part Seat) (id : ℕ) (v : Seat) (g : Grip)
+      (out : List (ℕ × Part)) → Sits r w s id v → v.hand ≡ Some g → MayCheck g
+      → let i = stop_word (length w.routes) in
+      Becomes r (Checks id g.croutine) w (stepped s i (slice_index s.words i) id out
+      (checking v g (slice_index s.words i == g.croutine + 1)) keeps)
+  pub names : (r : Rooms) (w : Plain) (s : Table Part Seat) (c : ℕ) → Rules r w s
+      → c < length w.routes
+      → (slice_index s.words (stop_word (length w.routes)) == c + 1) ≡ stops w.stop w.raised c
+
+-- The store of the stop word by the player, when as many messages were played as the stop says: the
+-- event Stop.
+pub record StopStores : Type 0 where
+  pub stop : (r : Rooms) (w : Plain) (s : Table Part Seat) (v : Seat) (out : List (ℕ × Part))
+      → Sits r w s 0 v → MayRaise v
+      → Becomes r Stops w (stepped s (stop_word (length w.routes)) (stop_number w.stop true) 0 out
+      (raising v) keeps)
 
 -- The swaps of a door, which are no event. Where it was found open, the slot had the tape, or the
 -- visitor, that the world has.

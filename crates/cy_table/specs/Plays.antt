@@ -1,7 +1,7 @@
 -- The rule for a world that a table is made of, and what each step tells the thread that makes it:
 -- its seat, and the slots that it took, after the step.
-use Rattle.std.specs.Prelude.{ℕ, ◌≡◌, ◌≢◌, ◌≤◌, ◌<◌, ◌⊎◌, ◌==◌, true, List, [], ◌∷◌, length}
-use Rattle.std.specs.Prelude.{take, Option, Some, None}
+use Rattle.std.specs.Prelude.{ℕ, ◌+◌, ◌≡◌, ◌≢◌, ◌≤◌, ◌<◌, ◌⊎◌, ◌==◌, true, List, [], ◌∷◌}
+use Rattle.std.specs.Prelude.{length, take, Option, Some, None}
 use Rattle.atomic_table.specs.Table.{State as Table, Me, Step, rest}
 use Rattle.cy_msg.specs.declared.token.Token.{Token}
 use Rattle.cy_msg.specs.declared.token.Tuple.{Tuple}
@@ -26,7 +26,8 @@ use Rattle.cy_table.specs.Rule.{Ruled}
 use Rattle.cy_table.specs.Steps.{acquiring, failing, releasing, asking, yielding, first_seat}
 use Rattle.cy_table.specs.Steps.{visiting, filling, called, fetching, entering, MayTape, taping}
 use Rattle.cy_table.specs.Steps.{sending, readying, spending, seeing}
-use Rattle.cy_table.specs.Steps.{ticking, heeding, closing_all, looking, clearing_but}
+use Rattle.cy_table.specs.Steps.{ticking, heeding, closing_all, looking, clearing_but, checking}
+use Rattle.cy_table.specs.Steps.{raising}
 
 -- The calls of the first components of a world, the last component first.
 abbrev pub calls_from : Plain → ℕ → List Seen
@@ -100,6 +101,14 @@ heeded step m found n = HeedTells m found n
 
 abbrev pub closed : Step Part → Thread → ℕ → Thread → Type 0
 closed step m found n = n ≡ (closing_all m.0, m.1)
+
+-- The load and the store of the stop word.
+abbrev pub checked : Step Part → Thread → ℕ → Thread → Type 0
+checked step m found n =
+    n ≡ (checking m.0 (in_hand m.0) (found == (in_hand m.0).croutine + 1), m.1)
+
+abbrev pub stopped : Step Part → Thread → ℕ → Thread → Type 0
+stopped step m found n = n ≡ (raising m.0, m.1)
 
 -- The load of the state of the first of the news, and the store of the last flag that is to be
 -- cleared.

@@ -20,7 +20,8 @@ use Rattle.wake_core.specs.Laws.{Events}
 use Rattle.cy_table.specs.declared.part.Part.{Part}
 use Rattle.cy_table.specs.Layout.{clock_word, closing_word, tape_door, hold_word, state_word}
 use Rattle.cy_table.specs.Layout.{flag_word, visitor_door, tape_slot, routine_slot, visitor_slot}
-use Rattle.cy_table.specs.Layout.{words_for, slots_for, state_number, yes_or_no}
+use Rattle.cy_table.specs.Layout.{words_for, slots_for, state_number, yes_or_no, stop_word}
+use Rattle.cy_table.specs.Layout.{stop_number}
 use Rattle.cy_table.specs.Seats.{Seat, Entry, TapeView, IsEmpty, AreSeen, total_live}
 use Rattle.cy_table.specs.Seats.Entry.{Busy, Found, Saw, Clock, Closing}
 use Rattle.cy_table.specs.Shown.{Spread, spread, routine_in, visitor_in, tape_in, routine_of}
@@ -37,13 +38,14 @@ pub record ShowsParts (n : ℕ) (tape : TapeView) (routines : ℕ → RoutineVie
   pub visitor_kept : (c : ℕ) → c < n → Kept (visitor_in (t.home (visitor_slot c)))
       (t.word (visitor_door c)) (λ j. visitor_of c (t.seat j).visit) (visitors c)
 
--- Words show the states, the flags, the clock and whether the run is closing.
+-- Words show the states, the flags, the clock, whether the run is closing, and the stop.
 pub record ShowsWords (n : ℕ) (states : ℕ → State) (spent : ℕ → Bool) (clock : ℕ) (closing : Bool)
-    (word : ℕ → ℕ) : Type 0 where
+    (stop : ℕ) (word : ℕ → ℕ) : Type 0 where
   pub state : (c : ℕ) → c < n → word (state_word c) ≡ state_number (states c)
   pub flag : (c : ℕ) → c < n → word (flag_word c) ≡ yes_or_no (spent c)
   pub clock_is : word clock_word ≡ clock
   pub closing_is : word closing_word ≡ yes_or_no closing
+  pub stop_is : word (stop_word n) ≡ stop
 
 -- Seats show what each thread has in hand and owes, and to whom it owes something the message.
 pub record ShowsThreads (hands : ℕ → Option Hand) (fills : ℕ → List (ℕ × ℕ))
@@ -57,20 +59,23 @@ pub record ShowsThreads (hands : ℕ → Option Hand) (fills : ℕ → List (ℕ
 -- All of them show one plain world.
 pub record Shows (r : Rooms) (w : Plain) (t : Spread) : Type 0 where
   pub parts : ShowsParts (length w.routes) (tape_at r w) (routine_at r w) (visitor_at r w) t
-  pub words : ShowsWords (length w.routes) w.states w.spent w.clock w.closing t.word
+  pub words : ShowsWords (length w.routes) w.states w.spent w.clock w.closing
+      (stop_number w.stop w.raised) t.word
   pub threads : ShowsThreads w.hands w.fills w.news w.clearing w.tokens t.seat
 
 -- What a thread knows of the world beside what it has: what the table is for, the calls that it
 -- saw, a clock that is past, and that the run is closing where it found so. A seat that was joined
--- is empty. The player knows the played messages, the clock and whether the run is closing.
+-- is empty. The player knows the played messages, the clock, whether the run is closing and whether
+-- the stop is raised.
 pub record Knows (w : Plain) (j : ℕ) (v : Seat) : Type 0 where
-  pub made : v.live ≢ 0 → (v.routes ≡ w.routes) × (v.counts ≡ w.counts)
+  pub made : v.live ≢ 0 → (v.routes ≡ w.routes) × (v.counts ≡ w.counts) × (v.stop ≡ w.stop)
   pub joined : v.live ≡ 0 → IsEmpty v
   pub calls : AreSeen w.calls v.seen
   pub past : v.clock ≤ w.clock
   pub closes : v.closing ≡ true → w.closing ≡ true
   pub player : j ≡ 0
       → (v.played ≡ played_of w.routes w.tape) × (v.clock ≡ w.clock) × (v.closing ≡ w.closing)
+      × (v.raised ≡ w.raised)
 
 -- The table shows a plain world that a run can come to. The player's seat is there, and counts the
 -- others that are.
@@ -118,6 +123,7 @@ pub record Ruled (made : Plain) (s : Table Part Seat) : Type 0 where
   pub rooms : Rooms
   pub components : world.routes ≡ made.routes
   pub planned : world.counts ≡ made.counts
+  pub stop : world.stop ≡ made.stop
   pub reached : Events made world
   pub noted : (j : ℕ) (v : Seat) → get_elem? s.views j ≡ some v → WereSo made world v.note
   pub rules : Rules rooms world s

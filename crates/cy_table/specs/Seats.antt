@@ -1,5 +1,6 @@
 -- What a thread at the table knows: plain data, which each of its steps changes.
 use Rattle.std.specs.Prelude.{ℕ, ◌+◌, ◌≡◌, Bool, false, List, [], ◌∷◌, length, take, Option, None}
+use Rattle.cy_msg.specs.declared.stop.Stop.{Stop}
 use Rattle.cy_msg.specs.declared.token.Token.{Token}
 use Rattle.cy_fuse.specs.Visitor.{VisitorView}
 use Rattle.cy_comp.specs.declared.call.Call.{Call}
@@ -42,9 +43,11 @@ pub data Entry : Type 0 where
   Closing : Bool → Entry
 
 pub record Seat : Type 0 where
-  -- What the table is for: the components, and how many messages are played on each channel.
+  -- What the table is for: the components, how many messages are played on each channel, and the
+  -- stop, if there is one.
   pub routes : List Route
   pub counts : List ℕ
+  pub stop : Option Stop
   -- What is in hand.
   pub hand : Option Grip
   pub visit : Option Visit
@@ -61,6 +64,8 @@ pub record Seat : Type 0 where
   pub seen : List Seen
   pub clock : ℕ
   pub closing : Bool
+  -- The player's: whether the stop is raised.
+  pub raised : Bool
   -- For contracts alone.
   pub note : List Entry
   -- How many seats were split off this one and not joined yet; and 1 where this seat itself was
@@ -69,10 +74,11 @@ pub record Seat : Type 0 where
   pub live : ℕ
 
 -- A seat that has nothing and owes nothing.
-abbrev pub idle_seat : List Route → (counts : List ℕ) → List Seen → (live : ℕ) → Seat
-idle_seat routes counts seen live = record {
+abbrev pub idle_seat : List Route → (counts : List ℕ) → Option Stop → List Seen → (live : ℕ) → Seat
+idle_seat routes counts stop seen live = record {
   routes = routes;
   counts = counts;
+  stop = stop;
   hand = None;
   visit = None;
   tape = None;
@@ -84,6 +90,7 @@ idle_seat routes counts seen live = record {
   seen = seen;
   clock = 0;
   closing = false;
+  raised = false;
   note = [];
   split = 0;
   live = live;
@@ -91,7 +98,7 @@ idle_seat routes counts seen live = record {
 
 -- No seat: that of a thread which was joined, or never came.
 abbrev pub no_seat : Seat
-no_seat = idle_seat [] [] [] 0
+no_seat = idle_seat [] [] None [] 0
 
 -- Calls that were seen begin those that the component has now.
 abbrev pub AreSeen : (ℕ → List Call) → List Seen → Type 0

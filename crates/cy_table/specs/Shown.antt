@@ -22,7 +22,8 @@ use Rattle.cy_table.specs.declared.part.Part.{Part}
 use Rattle.cy_table.specs.declared.part.Part.TheVariants as part
 use Rattle.cy_table.specs.Layout.{clock_word, closing_word, tape_door, hold_word, state_word}
 use Rattle.cy_table.specs.Layout.{flag_word, visitor_door, tape_slot, routine_slot, visitor_slot}
-use Rattle.cy_table.specs.Layout.{words_for, slots_for, state_number, yes_or_no}
+use Rattle.cy_table.specs.Layout.{words_for, slots_for, state_number, yes_or_no, stop_word}
+use Rattle.cy_table.specs.Layout.{stop_number}
 use Rattle.cy_table.specs.Seats.{Seat, Grip, Visit, TapeView, no_seat}
 
 -- The table spread out: each word, slot and seat by its number. A slot out with a seat is `some
@@ -142,6 +143,7 @@ pub record LiesOpen (r : Rooms) (w : Plain) (words : List ℕ) (homes : List (ma
   pub deep : length homes ≡ slots_for (length w.routes)
   pub clock_is : slice_index words clock_word ≡ w.clock
   pub closing_is : slice_index words closing_word ≡ yes_or_no w.closing
+  pub stop_is : slice_index words (stop_word (length w.routes)) ≡ stop_number w.stop w.raised
   pub state : (c : ℕ) → c < length w.routes → slice_index words (state_word c)
       ≡ state_number (w.states c)
   pub flag : (c : ℕ) → c < length w.routes → slice_index words (flag_word c)

@@ -1,11 +1,12 @@
 -- What each kind of step leaves of the seat that steps, and what the seat has to show before it.
-use Rattle.std.specs.Prelude.{ℕ, ◌+◌, ◌-◌, ◌≡◌, ◌≢◌, ◌≤◌, ◌⊎◌, ◌==◌, Bool, true, List, [], ◌∷◌}
-use Rattle.std.specs.Prelude.{◌++◌, length, slice_get, slice_index, if◌then◌else◌, Option, Some}
-use Rattle.std.specs.Prelude.{None}
+use Rattle.std.specs.Prelude.{ℕ, ◌+◌, ◌-◌, ◌≡◌, ◌≢◌, ◌≤◌, ◌⊎◌, ◌==◌, Bool, true, false, List, []}
+use Rattle.std.specs.Prelude.{◌∷◌, ◌++◌, length, slice_get, slice_index, if◌then◌else◌, Option}
+use Rattle.std.specs.Prelude.{Some, None}
 use Rattle.std.specs.Option.{option_map_or}
 use mathlib.Core.Option.{some}
 use lib.ListN.{get_elem?}
 use Rattle.atomic_table.specs.Table.{State as Table}
+use Rattle.cy_msg.specs.declared.stop.Stop.{Stop}
 use Rattle.cy_msg.specs.declared.token.Token.{Token}
 use Rattle.cy_msg.specs.declared.token.Tuple.{Tuple}
 use Rattle.cy_msg.specs.Tokens.{on_channel}
@@ -16,11 +17,12 @@ use Rattle.cy_comp.specs.Routine.{RoutineView, taken}
 use Rattle.wake_core.specs.declared.route.Route.{Route}
 use Rattle.wake_core.specs.Run.{readers_of, writes_from, played_of}
 use Rattle.cy_comp.specs.declared.state.State.{State}
-use Rattle.cy_comp.specs.declared.state.State.TheVariants.{Ready, DataWait}
-use Rattle.wake_core.specs.Plain.{Plain}
+use Rattle.cy_comp.specs.declared.state.State.TheVariants.{Ready, DataWait, Finished}
+use Rattle.wake_core.specs.Plain.{Plain, to_play_from}
 use Rattle.wake_core.specs.declared.phase.Phase.{Phase}
-use Rattle.wake_core.specs.declared.phase.Phase.TheVariants.{Fresh, Woken, Known, Asked, Empty}
-use Rattle.wake_core.specs.declared.phase.Phase.TheVariants.{Running, Sending, Done}
+use Rattle.wake_core.specs.declared.phase.Phase.TheVariants.{Fresh, Woken, Known, Checked}
+use Rattle.wake_core.specs.declared.phase.Phase.TheVariants.{Stopping, Asked, Empty, Running}
+use Rattle.wake_core.specs.declared.phase.Phase.TheVariants.{Sending, LastSending, Done}
 use Rattle.wake_core.specs.Events.{IsDue, phase_after_spend, state_after}
 use Rattle.cy_table.specs.declared.part.Part.{Part}
 use Rattle.cy_table.specs.Seats.{Seat, Seen, Grip, TapeView, Entry, idle_seat}
@@ -35,12 +37,13 @@ pub record Sits (r : Rooms) (w : Plain) (s : Table Part Seat) (id : ℕ) (v : Se
   pub live : v.live ≢ 0
 
 -- A step is an event: the table shows the world that the event gives, which is for the same
--- components and counts.
+-- components, counts and stop.
 pub record Becomes (r : Rooms) (event : Plain → Plain → Type 0) (w : Plain) (s : Table Part Seat)
     : Type 0 where
   pub world : Plain
   pub routes : world.routes ≡ w.routes
   pub counts : world.counts ≡ w.counts
+  pub stop : world.stop ≡ w.stop
   pub happens : event w world
   pub rules : Rules r world s
 
@@ -78,8 +81,7 @@ abbrev pub readying : Seat → Grip → Seat
 readying v g = noting (put_in v g Known Ready) (Found g.croutine Ready)
 
 pub record MayAsk (g : Grip) : Type 0 where
-  pub known : g.phase ≡ Known
-  pub ready : g.routine.state ≡ Ready
+  pub checked : g.phase ≡ Checked
   pub none_held : g.routine.pending ≡ None
 
 abbrev pub asking : Seat → Grip → Seat
@@ -94,10 +96,13 @@ abbrev pub next_in : Phase → RoutineView → State
 next_in Fresh x = x.state
 next_in Woken x = x.state
 next_in Known x = x.state
+next_in Checked x = x.state
+next_in Stopping x = Finished
 next_in Asked x = x.state
 next_in Empty x = DataWait
 next_in Running x = option_map_or state_after (last_outcome x.kind x.calls) x.state
 next_in Sending x = Ready
+next_in LastSending x = Finished
 next_in Done x = x.state
 
 abbrev pub next_state : Grip → State
@@ -110,6 +115,7 @@ pub record MayYield (v : Seat) (g : Grip) : Type 0 where
       × (held_until (last_outcome g.routine.kind g.routine.calls) ≡ None
       → g.routine.pending ≡ None))
       ⊎ ((g.phase ≡ Sending) × (g.routine.pending ≡ None))
+      ⊎ (((g.phase ≡ Stopping) ⊎ (g.phase ≡ LastSending)) × (g.routine.pending ≡ None))
 
 abbrev pub yielding : Seat → Grip → Seat
 yielding v g = put_in v g Done (next_state g)
@@ -161,6 +167,38 @@ heeding v found = record v { closing = found; note = v.note ++ Closing found ∷
 abbrev pub closing_all : Seat → Seat
 closing_all v = heeding v true
 
+-- .. by the player: all was played, and the stop raised where one is given.
+abbrev pub HasRaised : Seat → Type 0
+HasRaised v = (s : Stop) → v.stop ≡ Some s → v.raised ≡ true
+
+pub record MayClose (v : Seat) : Type 0 where
+  pub owes : OwesNone v
+  pub raised : HasRaised v
+  pub all : length v.played ≡ to_play_from v.routes 0 v.counts
+
+-- The load of the stop word by the holder of a croutine that is to be resumed: it is to end where
+-- the word names it.
+pub record MayCheck (g : Grip) : Type 0 where
+  pub known : g.phase ≡ Known
+  pub ready : g.routine.state ≡ Ready
+
+abbrev pub phase_checked : (stopped : Bool) → Phase
+phase_checked stopped = if stopped then Stopping else Checked
+
+abbrev pub checking : Seat → Grip → (stopped : Bool) → Seat
+checking v g stopped = record v { hand = Some record g { phase = phase_checked stopped } }
+
+-- .. and its store by the player, when as many messages were played as the stop says.
+pub record MayRaise (v : Seat) : Type 0 where
+  pub owes : OwesNone v
+  pub given : Stop
+  pub there : v.stop ≡ Some given
+  pub unraised : v.raised ≡ false
+  pub played : length v.played ≡ given.after
+
+abbrev pub raising : Seat → Seat
+raising v = record v { raised = true }
+
 -- The swaps of a door that was found open: the tape, or a visitor, is in hand.
 abbrev pub entering : Seat → TapeView → Seat
 entering v x = record v { tape = Some x }
@@ -201,9 +239,11 @@ with_message x t = record x { messages = x.messages ++ t ∷ [] }
 abbrev pub owing : Seat → Token → Seat
 owing v t = record v { tape = None; fills = readers_of v.routes t.channel; token = t }
 
--- .. by the player: the next message of a channel that no component writes, at its time.
+-- .. by the player: the next message of a channel that no component writes, at its time, once the
+-- stop is raised where it was to be raised by now.
 pub record MayTape (v : Seat) (t : Token) : Type 0 where
   pub owes : OwesNone v
+  pub raised : (s : Stop) → v.stop ≡ Some s → length v.played ≡ s.after → v.raised ≡ true
   pub unwritten : writes_from 0 v.routes t.channel ≡ None
   pub next : t.seq ≡ length (on_channel t.channel v.played) + 1
   pub within : t.seq ≤ slice_index v.counts t.channel
@@ -217,7 +257,8 @@ pub record MaySend (v : Seat) (g : Grip) : Type 0 where
   pub owes : OwesNone v
   pub sends : ((g.phase ≡ Running)
       × (held_until (last_outcome g.routine.kind g.routine.calls) ≡ None))
-      ⊎ ((g.phase ≡ Known) × (g.routine.state ≡ Ready))
+      ⊎ (g.phase ≡ Checked)
+      ⊎ (g.phase ≡ Stopping)
 
 abbrev pub out_at : List Route → ℕ → ℕ
 out_at routes c = option_map_or (λ (x : Route). x.out) (slice_get routes c) 0
@@ -228,6 +269,7 @@ output_at routes c tape out =
 
 abbrev pub phase_sent : Phase → Phase
 phase_sent Running = Running
+phase_sent Stopping = LastSending
 phase_sent phase = Sending
 
 abbrev pub sent_of : Grip → Grip
@@ -245,15 +287,16 @@ abbrev pub splitting : Seat → Seat
 splitting v = record v { split = v.split + 1 }
 
 abbrev pub split_off : Seat → Seat
-split_off v = idle_seat v.routes v.counts [] 1
+split_off v = idle_seat v.routes v.counts v.stop [] 1
 
 abbrev pub joining : Seat → Seat → Seat
 joining v o = record v { seen = o.seen ++ v.seen; split = v.split - 1 }
 
 -- The player's seat at the start, which has seen some calls.
 abbrev pub first_seat : Plain → List Seen → Seat
-first_seat w seen = record (idle_seat w.routes w.counts seen 1) {
+first_seat w seen = record (idle_seat w.routes w.counts w.stop seen 1) {
   played = played_of w.routes w.tape;
   clock = w.clock;
   closing = w.closing;
+  raised = w.raised;
 }

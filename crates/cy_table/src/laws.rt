@@ -5,7 +5,7 @@
 ghost use Rattle.cy_table.specs.Laws.{HoldSwaps, StateStores, HoldStores, FlagSwaps, StateLoads};
 ghost use Rattle.cy_table.specs.Laws.{FlagStores, ClockSteps, ClosingSteps, TapeDoorSwaps};
 ghost use Rattle.cy_table.specs.Laws.{VisitorDoorSwaps, FillStores, TapeStores, FetchStores};
-ghost use Rattle.cy_table.specs.Laws.{BenchSteps, RoomsLeft, TableEnds};
+ghost use Rattle.cy_table.specs.Laws.{BenchSteps, RoomsLeft, TableEnds, StopLoads, StopStores};
 
 use wake_core::laws;
 
@@ -65,6 +65,20 @@ pub fn closing_steps()
     ensures { ClosingSteps }
 {
     laws::close();
+}
+
+/// The load of the stop tells whether it names the croutine in hand.
+pub fn stop_loads()
+    ensures { StopLoads }
+{
+    laws::check();
+}
+
+/// The store of the stop raises it.
+pub fn stop_stores()
+    ensures { StopStores }
+{
+    laws::stop();
 }
 
 /// The swap of the tape's door takes the tape, or changes nothing.

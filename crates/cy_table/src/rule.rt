@@ -2,7 +2,7 @@
 ghost use Rattle.cy_table.specs.Plays.{rule_for, seat_for, acquired, released, asked, yielded};
 ghost use Rattle.cy_table.specs.Plays.{saw, ticked, heeded, closed, looked, cleared};
 ghost use Rattle.cy_table.specs.Plays.{readied, spent, visited, filled, fetched, entered, taped};
-ghost use Rattle.cy_table.specs.Plays.{sent};
+ghost use Rattle.cy_table.specs.Plays.{sent, checked, stopped};
 ghost use Rattle.cy_table.specs.Steps.{splitting, split_off, joining};
 ghost use Rattle.cy_table.specs.Seats.{no_seat};
 
@@ -75,6 +75,20 @@ pub struct Close;
 
 impl Play<Part, View> for Close {
     ghost then = { closed };
+}
+
+// The load of the stop word.
+pub struct Check;
+
+impl Play<Part, View> for Check {
+    ghost then = { checked };
+}
+
+// The player's store of that word.
+pub struct Raise;
+
+impl Play<Part, View> for Raise {
+    ghost then = { stopped };
 }
 
 // The load of a state by who filled the component's visitor.

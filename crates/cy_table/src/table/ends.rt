@@ -13,7 +13,7 @@ use crate::counted_routine::CountedRoutine;
 use crate::laws;
 use crate::part::{Part, Tape};
 use crate::pass::{Pass, TableError};
-use crate::table::FlagTable;
+use crate::table::{FlagTable, stop_number};
 use atomic_table::{Refused, Table};
 use cy_comp::Routine;
 use cy_fuse::Visitor;
@@ -103,6 +103,7 @@ impl FlagTable {
         }
         let clock = closed.word(1);
         let closing = closed.word(2) == 1;
+        let raised = closed.word(4 * count + 4) != 0;
         closed.free();
         let tape = tape.into_messages();
         let played = fixed.played_in(tape.as_slice()) as u32;
@@ -114,6 +115,7 @@ impl FlagTable {
             played,
             clock,
             closing,
+            raised,
             fixed,
         }
     }
@@ -150,9 +152,11 @@ fn words_of(alloc: Global, parts: &Parts) -> Result<Vec<u64>, TableError>
 {
     let routines = parts.routines.as_slice();
     let spent = parts.spent.as_slice();
-    let mut words = vec![in alloc; 0u64; 4 * routines.len() + 4]?;
+    let stop = 4 * routines.len() + 4;
+    let mut words = vec![in alloc; 0u64; stop + 1]?;
     words[1] = parts.clock;
     words[2] = word_of(parts.closing);
+    words[stop] = stop_number(parts.fixed.stop(), parts.raised);
     for c in 0..routines.len() {
         words[4 * c + 5] = state_number(routines[c].state());
         let is_spent = spent[c];

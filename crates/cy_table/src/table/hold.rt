@@ -1,4 +1,4 @@
-// Taking a croutine, saying what it is to do next, and giving it back.
+// Taking a croutine, beginning its resume, saying what it is to do next, and giving it back.
 ghost use Rattle.std.specs.Prelude.{◌≡◌};
 ghost use Rattle.cy_table.specs.Layout.{state_number as number_for};
 
@@ -6,16 +6,17 @@ use crate::hold::Hold;
 use crate::laws;
 use crate::part::Part;
 use crate::pass::{Busy, Pass};
-use crate::rule::{Acquire, Ask, Release, Yield};
+use crate::rule::{Acquire, Ask, Check, Release, Yield};
 use crate::table::FlagTable;
 use cy_comp::State;
 
 impl FlagTable {
     ghost use Rattle.std.specs.Prelude.{◌≡◌, IfOk, IfErr};
-    ghost use Rattle.cy_table.specs.Steps.{releasing, asking, yielding};
+    ghost use Rattle.cy_table.specs.Steps.{releasing, checking, asking, yielding};
     ghost use Rattle.cy_table.specs.Plays.{in_hand};
     ghost use Rattle.cy_table.specs.Calls.{seat_of, Stays, HasNoHold, Holds, IsStepped, MayAcquire};
-    ghost use Rattle.cy_table.specs.Calls.{Acquired, FoundHeld, CanRelease, CanAsk, CanYield};
+    ghost use Rattle.cy_table.specs.Calls.{Acquired, FoundHeld, CanRelease, CanResume, CanAsk};
+    ghost use Rattle.cy_table.specs.Calls.{CanYield, ShowsTheSame};
 
     /// Takes a croutine in hand, by one swap of its hold word, where it was found free. `Busy`
     /// comes exactly where another thread was found to have it. The routine has at least the calls
@@ -47,7 +48,24 @@ impl FlagTable {
         }
     }
 
-    /// Before a fetch: the croutine in hand, which is READY, waits for a message again.
+    /// Begins a resume of the croutine in hand, which is READY, by one load of the stop. Whether
+    /// that load found it raised and of this component, which then ends without a call.
+    pub fn resume(&self, pass: &mut Pass, hold: &mut Hold) -> bool
+        requires { CanResume self.now pass.old hold.old }
+        ensures same { Stays self.now pass.old pass.new }
+        ensures seat { seat_of pass.new
+            ≡ checking (seat_of pass.old) (in_hand (seat_of pass.old)) result }
+        ensures holds { Holds self.now pass.new hold.new × ShowsTheSame hold.old hold.new
+            × IsStepped hold.new }
+    {
+        laws::stop_loads();
+        let shared = &self.table.shared;
+        let found = shared.load::<Check>(&mut pass.seat, self.stop_word());
+        found == u64::from(hold.component) + 1
+    }
+
+    /// Before a fetch: the croutine in hand, which is to be resumed and not stopped, waits for a
+    /// message again.
     pub fn ask(&self, pass: &mut Pass, hold: &mut Hold)
         requires { CanAsk self.now pass.old hold.old }
         ensures same { Stays self.now pass.old pass.new }
@@ -61,8 +79,8 @@ impl FlagTable {
         shared.store::<Ask>(&mut pass.seat, 4 * c + 5, 1);
     }
 
-    /// After a fetch, and where one was called after the step: stores what the croutine in hand is
-    /// to do next.
+    /// After a fetch, and where one was called after the step; or of one that is stopped, once its
+    /// held output was sent: stores what the croutine in hand is to do next.
     pub fn yield_as(&self, pass: &mut Pass, hold: &mut Hold, state: State)
         requires { CanYield self.now pass.old hold.old state }
         ensures same { Stays self.now pass.old pass.new }

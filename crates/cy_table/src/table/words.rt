@@ -1,15 +1,16 @@
-// The clock, the end of the play, and the flags of components that were filled.
+// The clock, the stop, the end of the play, and the flags of components that were filled.
 use crate::laws;
 use crate::pass::Pass;
-use crate::rule::{Clear, Close, Heed, Look, Tick};
-use crate::table::FlagTable;
+use crate::rule::{Clear, Close, Heed, Look, Raise, Tick};
+use crate::table::{FlagTable, stop_number};
 
 impl FlagTable {
     ghost use Rattle.std.specs.Prelude.{◌≡◌, ◌<◌, ◌++◌, ◌∷◌, [], length, true};
-    ghost use Rattle.cy_table.specs.Steps.{ticking, heeding, closing_all, looking, clearing_but};
+    ghost use Rattle.cy_table.specs.Steps.{ticking, heeding, closing_all, raising, looking};
+    ghost use Rattle.cy_table.specs.Steps.{clearing_but};
     ghost use Rattle.cy_table.specs.Plays.{but_first, but_last};
     ghost use Rattle.cy_table.specs.Calls.{seat_of, thread_of, knowing, IsAt, Stays, CanTick};
-    ghost use Rattle.cy_table.specs.Calls.{CanClose, CanLook, after_look, made_of};
+    ghost use Rattle.cy_table.specs.Calls.{CanRaise, CanClose, CanLook, after_look, made_of};
 
     /// The player sets the clock forward, to a time in nanoseconds.
     pub fn tick(&self, pass: &mut Pass, time: u64)
@@ -37,7 +38,19 @@ impl FlagTable {
         found == 1
     }
 
-    /// The player says that all was played.
+    /// The player raises the stop, when as many messages were played as it says.
+    pub fn raise(&self, pass: &mut Pass)
+        requires { CanRaise self.now pass.old }
+        ensures same { Stays self.now pass.old pass.new }
+        ensures thread { thread_of pass.new ≡ knowing pass.old (raising (seat_of pass.old)) }
+    {
+        laws::stop_stores();
+        let number = stop_number(self.fixed.stop(), true);
+        let shared = &self.table.shared;
+        shared.store::<Raise>(&mut pass.seat, self.stop_word(), number);
+    }
+
+    /// The player says that all was played, and the stop raised where one is given.
     pub fn set_closing(&self, pass: &mut Pass)
         requires { CanClose self.now pass.old }
         ensures same { Stays self.now pass.old pass.new }

@@ -6,5 +6,5 @@ pub returns : goal.returns
 returns k = record {
   load = λ r w s id v out sits. closing_seen r w s id v sits out;
   is_true = λ r w s id v sits. closing_is r w s id v sits;
-  close = λ r w s v out sits all. close_becomes r w s v sits all out k.close.ensures.sound;
+  close = λ r w s v out sits may. close_becomes r w s v sits may out k.close.ensures.sound;
 }

@@ -51,6 +51,7 @@ invariant_of-result c =
       slots = ok.1 ∙ ap length c.in_ok-slots.ensures ∙ ap₂ (λ (rs : List RoutineView) (vs : List VisitorView). length (part.Tape t ∷ laid rs vs)) c.into_vec.ensures c.into_vec-2.ensures ∙ deep ∙ ap (λ (l : List Route). slots_for (length l)) routes;
       made = routes;
       counted = counts;
+      given = ap (λ (w : Plain). w.stop) c.apart-parts.ensures.shown ∙ ap (λ (w : World). (plain_of w).stop) (sym key);
     }
 
 pub returns-in-Ok : goal.returns-in-Ok

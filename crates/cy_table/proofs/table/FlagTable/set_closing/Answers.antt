@@ -9,4 +9,4 @@ store-requires c =
     let table = c.args.self.now.table.shared in
     let made = plain_of table.key.value in
     let seat = c.args.pass.now.seat in
-    (c.requires.at.table, omega (arith, c.args.self.now.words), closes c.closing_steps.ensures made table.table_id.slots seat.id seat.me c.requires.at.live c.requires.player c.requires.all)
+    (c.requires.at.table, omega (arith, c.args.self.now.words), closes c.closing_steps.ensures made table.table_id.slots seat.id seat.me c.requires.at.live c.requires.player c.requires.may)

@@ -1,5 +1,5 @@
 -- The slots of a closed table are taken out one by one, and show the world that it leaves.
-use Rattle.std.proofs.Common.{ℕ, ◌≡◌, ◌+◌, ◌*◌, ◌<◌, ◌==◌, Bool, false, List, length, slice_index, set, refl, sym, ap, ◌∙◌, subst, arith}
+use Rattle.std.proofs.Common.{ℕ, ◌≡◌, ◌+◌, ◌*◌, ◌/◌, ◌<◌, ◌==◌, Bool, false, not, List, length, slice_index, set, refl, sym, ap, ◌∙◌, subst, arith}
 use mathlib.Core.Option.{some}
 use lib.ListN.{get_elem?}
 use Rattle.std.specs.Mem.Slots.{slots_items, slots_len, slots_filled}
@@ -14,7 +14,7 @@ use Rattle.cy_table.specs.declared.part.Part.{Part}
 use Rattle.cy_table.specs.declared.part.Part.TheVariants as part
 use Rattle.cy_table.specs.Seats.{TapeView}
 use Rattle.cy_table.specs.Shown.{routine_at, visitor_at, tape_at}
-use Rattle.cy_table.proofs.Unpacking.{TakenOut, AreRest, IsFrom, shuts, same_part, same_tape, taken_as, taken_more, index_of, from_more, few_played, agrees, parts_fit, played_left, clock_left, closing_left, calls_seen}
+use Rattle.cy_table.proofs.Unpacking.{TakenOut, AreRest, IsFrom, shuts, same_part, same_tape, taken_as, taken_more, index_of, from_more, few_played, agrees, parts_fit, played_left, clock_left, closing_left, raised_left, calls_seen}
 use Rattle.cy_table.proofs.table.FlagTable.unpack.Goals as goal
 
 pub unreachable-requires : goal.unreachable-requires
@@ -114,19 +114,22 @@ returns-clause-fit c =
       played = c.played_in-played.result;
       clock = c.word-clock.result;
       closing = c.word-closing.result == 1;
+      raised = not (c.word-raised.result == 0);
       fixed = c.args.self.fixed;
     } in
+    let count_is : c.slot_count-count.result / 2 ≡ length made.routes = omega (arith, c.slot_count-count.ensures, c.close_with-closed.ensures.counts.1, c.args.self.slots) in
     let all : c.loop-c.c ≡ length made.routes = omega (arith, c.loop-c-test.false, c.loop-c.auto.c-end, c.slot_count-count.ensures, c.close_with-closed.ensures.counts.1, c.args.self.slots) in
     let taken : TakenOut words slots (length made.routes) p.routines p.visitors p.spent =
     taken_as (ap slots_items c.take.ensures.others.3) c.take.ensures.others.0 all c.new.ensures c.new-2.ensures c.new-3.ensures c.loop-c.invariant.taken in
     let same_words : slots_items c.loop-c.closed.words ≡ words = ap slots_items (c.loop-c.invariant.words ∙ c.take.ensures.others.3) in
-    let rest : AreRest words slots p = record {
+    let rest : AreRest (length made.routes) words slots p = record {
       tape = c.take.ensures.value ∙ ap (λ (y : Part). some y) (c.in-Tape.is ∙ ap (λ (t : TapeView). part.Tape t) c.into_messages-tape.ensures);
       clock = sym (index_of words 1 c.word-clock.result (ap (λ (l : List ℕ). get_elem? l 1) (sym same_words) ∙ c.word-clock.ensures));
       closing = ap (λ n. n == 1) (sym (index_of words 2 c.word-closing.result (ap (λ (l : List ℕ). get_elem? l 2) (sym same_words) ∙ c.word-closing.ensures)));
+      raised = ap (λ n. not (n == 0)) (sym (index_of words (4 * length made.routes + 4) c.word-raised.result (ap (λ m. get_elem? words (4 * m + 4)) (sym count_is) ∙ ap (λ (l : List ℕ). get_elem? l (4 * (c.slot_count-count.result / 2) + 4)) (sym same_words) ∙ c.word-raised.ensures)));
       played = c.played_in-played.ensures ∙ ap (λ (l : List Token). length (played_of p.fixed.routes.items l)) c.as_slice.ensures.value;
     } in
-    parts_fit e p taken rest c.args.self.made c.args.self.counted c.threads.ensures c.outside.ensures c.unsent.ensures
+    parts_fit e p taken rest c.args.self.made c.args.self.counted c.args.self.given c.threads.ensures c.outside.ensures c.unsent.ensures
 
 pub returns-clause-left : goal.returns-clause-left
 unfolding shown_by
@@ -146,26 +149,31 @@ returns-clause-left c =
       played = c.played_in-played.result;
       clock = c.word-clock.result;
       closing = c.word-closing.result == 1;
+      raised = not (c.word-raised.result == 0);
       fixed = c.args.self.fixed;
     } in
+    let count_is : c.slot_count-count.result / 2 ≡ length made.routes = omega (arith, c.slot_count-count.ensures, c.close_with-closed.ensures.counts.1, c.args.self.slots) in
     let all : c.loop-c.c ≡ length made.routes = omega (arith, c.loop-c-test.false, c.loop-c.auto.c-end, c.slot_count-count.ensures, c.close_with-closed.ensures.counts.1, c.args.self.slots) in
     let taken : TakenOut words slots (length made.routes) p.routines p.visitors p.spent =
     taken_as (ap slots_items c.take.ensures.others.3) c.take.ensures.others.0 all c.new.ensures c.new-2.ensures c.new-3.ensures c.loop-c.invariant.taken in
     let same_words : slots_items c.loop-c.closed.words ≡ words = ap slots_items (c.loop-c.invariant.words ∙ c.take.ensures.others.3) in
-    let rest : AreRest words slots p = record {
+    let rest : AreRest (length made.routes) words slots p = record {
       tape = c.take.ensures.value ∙ ap (λ (y : Part). some y) (c.in-Tape.is ∙ ap (λ (t : TapeView). part.Tape t) c.into_messages-tape.ensures);
       clock = sym (index_of words 1 c.word-clock.result (ap (λ (l : List ℕ). get_elem? l 1) (sym same_words) ∙ c.word-clock.ensures));
       closing = ap (λ n. n == 1) (sym (index_of words 2 c.word-closing.result (ap (λ (l : List ℕ). get_elem? l 2) (sym same_words) ∙ c.word-closing.ensures)));
+      raised = ap (λ n. not (n == 0)) (sym (index_of words (4 * length made.routes + 4) c.word-raised.result (ap (λ m. get_elem? words (4 * m + 4)) (sym count_is) ∙ ap (λ (l : List ℕ). get_elem? l (4 * (c.slot_count-count.result / 2) + 4)) (sym same_words) ∙ c.word-raised.ensures)));
       played = c.played_in-played.ensures ∙ ap (λ (l : List Token). length (played_of p.fixed.routes.items l)) c.as_slice.ensures.value;
     } in
     record {
-      reached = record { world = e.world; events = e.reached; idle = e.idle; same = agrees e p taken rest c.args.self.made c.args.self.counted };
+      reached = record { world = e.world; events = e.reached; idle = e.idle; same = agrees e p taken rest c.args.self.made c.args.self.counted c.args.self.given };
       noted = e.noted;
       routes = c.args.self.made;
       counts = c.args.self.counted;
+      stop = c.args.self.given;
       rest = λ j. record { hand = refl; owes = record { filled = refl; looked = refl; cleared = refl } };
-      played = played_left e p taken rest c.args.self.made c.args.self.counted;
-      clock = clock_left e p taken rest c.args.self.made c.args.self.counted;
-      closing = closing_left e p taken rest c.args.self.made c.args.self.counted;
-      seen = calls_seen e p taken rest c.args.self.made c.args.self.counted;
+      played = played_left e p taken rest c.args.self.made c.args.self.counted c.args.self.given;
+      clock = clock_left e p taken rest c.args.self.made c.args.self.counted c.args.self.given;
+      closing = closing_left e p taken rest c.args.self.made c.args.self.counted c.args.self.given;
+      raised = raised_left e p taken rest c.args.self.made c.args.self.counted c.args.self.given;
+      seen = calls_seen e p taken rest c.args.self.made c.args.self.counted c.args.self.given;
     }
