@@ -1,5 +1,5 @@
 -- The messages of a list, one after another, by the player.
-use Rattle.std.proofs.Common.{ℕ, ◌+◌, ◌≡◌, ◌≤◌, ◌<◌, ◌==◌, nat_lt, ◌∙◌, cond, Bool, true, false, List, [], ◌∷◌, ◌++◌, refl, sym, ap, subst, arith, length, take, get_or, Some, zero, suc, append_assoc, append-nil}
+use Rattle.std.proofs.Common.{ℕ, ◌+◌, ◌≡◌, ◌≢◌, ◌≤◌, ◌<◌, ◌==◌, nat_lt, ◌∙◌, cond, Bool, true, false, List, [], ◌∷◌, ◌++◌, refl, sym, ap, subst, arith, length, take, get_or, Option, Some, zero, suc, append_assoc, append-nil}
 use Rattle.std.proofs.lemmas.Bool.Decides.{nat_tests}
 use Rattle.std.proofs.lemmas.List.{take_more, take_all, map-append}
 use Rattle.std.proofs.lemmas.Option.{slice_get-get_or}
@@ -18,7 +18,8 @@ use Rattle.cy_table.specs.declared.table.FlagTable.{FlagTable}
 use Rattle.cy_table.specs.Seats.{Seat, Entry}
 use Rattle.cy_table.specs.Seats.Entry.{Clock, Closing}
 use Rattle.cy_table.specs.Steps.{HasRaised}
-use Rattle.cy_table.specs.Calls.{made_of, seat_of, CanClose}
+use Rattle.cy_table.specs.Calls.{made_of, seat_of, CanClose, CanRaise}
+use Rattle.cy_msg.specs.declared.stop.Stop.{Stop}
 use Rattle.cy_run.specs.Playing.{IsFreePlayer, IsNextFor, IsRaisedBefore, after_play, after_end, clocks_of, IsToBePlayed, IsPlayed, PlaysOn}
 
 -- There is one message more of its channel in a list than before it.
@@ -49,6 +50,13 @@ within_is m n k s a b c = omega (arith, a, b, c)
 at_place : (tokens items : List Token) (i : ℕ) (d : Token) → items ≡ tokens → i < length items → slice_get tokens i ≡ Some (get_or items i d)
 at_place tokens items i d same lt = ap (λ l. slice_get l i) (sym same) ∙ slice_get-get_or items i d lt
 
+-- So many messages were played before it.
+pub all_played : (tokens items : List Token) (i : ℕ) (d : Token) (played : List Token) → items ≡ tokens → i < length items → played ≡ take i tokens → length played ≡ i
+all_played tokens items i d played same lt is = ap length is ∙ subst (λ l. length (take i l) ≡ i) same (taken items i lt)
+  where
+    taken : (l : List Token) (i : ℕ) → i < length l → length (take i l) ≡ i
+    taken l i lt = grind (arith, Rattle.std.proofs.lemmas.List.length-take, lt)
+
 pub next_for : (t : FlagTable) (tokens items : List Token) (i : ℕ) (d : Token) (p q : Pass) → IsTimed tokens → IsNumbered tokens → IsToPlay (made_of t) tokens → items ≡ tokens → i < length items
     → PlaysOn t tokens i p q → IsRaisedBefore (i + 1) (seat_of q) → IsNextFor (seat_of q) (get_or items i d)
 next_for t tokens items i d p q timed numbered made same lt on before =
@@ -64,12 +72,30 @@ next_for t tokens items i d p q timed numbered made same lt on before =
     just_before : (i after : ℕ) → {k : ℕ} → k ≡ i → k ≡ after → nat_lt after (i + 1) ≡ true
     just_before i after a b = grind (arith, nat_tests, a, b)
 
--- .. behind as many messages.
-pub all_played : (tokens items : List Token) (i : ℕ) (d : Token) (played : List Token) → items ≡ tokens → i < length items → played ≡ take i tokens → length played ≡ i
-all_played tokens items i d played same lt is = ap length is ∙ subst (λ l. length (take i l) ≡ i) same (taken items i lt)
+-- The stop is raised when as many messages were played as it says, and no later.
+pub raise_now : (t : FlagTable) (p : Pass) (stop : Option Stop) (given : Stop) (played : ℕ) → IsFreePlayer t p → (made_of t).stop ≡ stop → stop ≡ Some given → length (seat_of p).played ≡ played
+    → IsRaisedBefore played (seat_of p) → given.after ≡ played → CanRaise t p
+raise_now t p stop given played mine is some all before now = record {
+  at = mine.free.seated.at;
+  player = mine.player;
+  may = record { owes = mine.free.owes; given = given; there = there; unraised = before given there ∙ not_yet given.after played now; played = all ∙ sym now };
+}
   where
-    taken : (l : List Token) (i : ℕ) → i < length l → length (take i l) ≡ i
-    taken l i lt = grind (arith, Rattle.std.proofs.lemmas.List.length-take, lt)
+    there : (seat_of p).stop ≡ Some given
+    there = mine.free.seated.stop ∙ (is ∙ some)
+
+    not_yet : (a b : ℕ) → a ≡ b → nat_lt a b ≡ false
+    not_yet a b e = grind (arith, nat_tests, e)
+
+pub raised_already : (t : FlagTable) (p : Pass) (stop : Option Stop) (given : Stop) (played : ℕ) → IsFreePlayer t p → (made_of t).stop ≡ stop → stop ≡ Some given → IsRaisedBefore played (seat_of p) → given.after ≢ played
+    → IsRaisedBefore (played + 1) (seat_of p)
+raised_already t p stop given played mine is some before not s there = before s there ∙ as_before s.after (λ e. not (ap (λ (x : Stop). x.after) (same (sym some ∙ (sym is ∙ (sym mine.free.seated.stop ∙ there)))) ∙ e))
+  where
+    same : Some given ≡ Some s → given ≡ s
+    same e = cc
+
+    as_before : (a : ℕ) → a ≢ played → nat_lt a played ≡ nat_lt a (played + 1)
+    as_before a ne = grind (arith, nat_tests, ne)
 
 -- The stop is raised on the way, which changes nothing else.
 pub plays_raised : (t : FlagTable) (tokens : List Token) (i : ℕ) (p q u : Pass) → PlaysOn t tokens i p q → IsFreePlayer t u → seat_of u ≡ record (seat_of q) { raised = (seat_of u).raised } → PlaysOn t tokens i p u

@@ -51,7 +51,7 @@ fn resume<G: Gate, R: Wait>(
     ensures done { IsInPhase table.now Done pass.new hold.new }
 {
     if table.resume(pass, hold) {
-        return end(rt, table, pass, hold, idle, wiring);
+        return end_stopped(rt, table, pass, hold, idle, wiring);
     }
     match hold.token() {
         Some(_) => {
@@ -65,7 +65,7 @@ fn resume<G: Gate, R: Wait>(
 
 // Ends a croutine that is stopped, once the output was sent that was held back. As one that ended of
 // itself, it sleeps for ever.
-fn end<R: Wait>(
+fn end_stopped<R: Wait>(
     rt: &R,
     table: &FlagTable,
     pass: &mut Pass,

@@ -1,4 +1,3 @@
-use Rattle.std.proofs.Common.{◌≡◌, ◌≤◌, length}
 use Rattle.cy_table.specs.Calls.{Stays, seat_of}
 use Rattle.cy_run.specs.Playing.{PlaysOn, IsRaisedBefore}
 use Rattle.cy_run.proofs.play.play_all.Given as goal
