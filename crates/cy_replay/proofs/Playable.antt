@@ -204,12 +204,13 @@ is_scan size scan moved = record {
 
 -- the list may be played
 pub may_play : (whole : Contents) (choice : Choice) (list : PlayList) (plans : List Plan) (counts scan : List ℕ) → IsPlayList whole choice list → choice.written ≡ map (λ p. p.out) plans
-    → AreCounts (length choice.names) list.tokens counts → IsPermutation (numbers_below (length plans)) scan → MayPlay (opening_world (routes_of plans) counts) list.tokens scan
+    → AreCounts (length choice.names) list.tokens counts → IsPermutation (numbers_below (length plans)) scan → MayPlay (opening_world (routes_of plans) counts None) list.tokens scan
 may_play whole choice list plans counts scan is written are moved = record {
   opening = refl;
   made = record {
     counted = are.each;
     unwritten = λ n t at. no_writer plans 0 t.channel (subst (λ ws. list_any (λ x. x == t.channel) ws ≡ false) written (all_at (λ u. list_any (λ x. x == u.channel) choice.written ≡ false) list.tokens n t (all_unwritten whole choice list is) at));
   };
+  within = record { component = λ s given. absurd cc; after = λ s given. absurd cc };
   scan = subst (λ size. IsScanOf size scan) (sym (length-map plans route_of)) (is_scan (length plans) scan moved);
 }

@@ -1,5 +1,5 @@
 -- What the files of a replay come to, and what it is set up with.
-use Rattle.std.specs.Prelude.{ℕ, ◌≡◌, ◌≤◌, ◌<◌, ◌⊎◌, All, List, length, map, Option}
+use Rattle.std.specs.Prelude.{ℕ, ◌≡◌, ◌≤◌, ◌<◌, ◌⊎◌, All, List, length, map, Option, None}
 use Rattle.cy_store.specs.Files.{Files}
 use Rattle.cy_store.specs.Reads.{Reads, Accepts, ◌>>=◌}
 use Rattle.cy_msg.specs.Once.{IsOnce}
@@ -91,5 +91,5 @@ pub record IsSetUp (filter : Filter) (x : Replay) : Type 0 where
   pub once : IsOnce x.wiring.names
   pub limited : planned (routes_of x.wiring.plans) x.counts ≤ MOST_PLANNED
   pub named : All (λ t. t.channel < length x.wiring.names) x.list.tokens
-  pub playable : MayPlay (opening_world (routes_of x.wiring.plans) x.counts) x.list.tokens
+  pub playable : MayPlay (opening_world (routes_of x.wiring.plans) x.counts None) x.list.tokens
       (scan_of x.placement.contexts)

@@ -1,20 +1,20 @@
 -- What thread 1 does with component 0, event by event.
-use Rattle.std.proofs.Common.{ℕ, ◌≡◌, refl, sym, ◌∙◌, ap, subst, inl, inr, arith, Bool, true, false, not, Option, Some, None, is_some, option_map}
+use Rattle.std.proofs.Common.{ℕ, ◌≡◌, refl, sym, ◌∙◌, ap, subst, inl, inr, arith, Bool, true, false, not, if◌then◌else◌, Option, Some, None, is_some, option_map}
 use Rattle.std.proofs.lemmas.Bool.Decides.{eqb_tells}
 use Rattle.std.specs.Option.{option_map_or}
 use Rattle.cy_msg.specs.declared.token.Token.{Token}
 use Rattle.cy_msg.specs.declared.token.Tuple.{Tuple}
 use Rattle.cy_comp.specs.declared.call.Call.{Call}
 use Rattle.wake_core.specs.Run.{set_at}
-use Rattle.wake_core.specs.Plain.{Plain, hand}
+use Rattle.wake_core.specs.Plain.{Plain, hand, stops, unsent_of}
 use Rattle.wake_core.specs.declared.phase.Hand.{Hand}
 use Rattle.cy_comp.specs.declared.state.State.{State}
 use Rattle.wake_core.specs.declared.phase.Phase.{Phase}
 use Rattle.cy_comp.specs.declared.state.State.TheVariants.{Ready}
-use Rattle.wake_core.specs.declared.phase.Phase.TheVariants.{Known, Woken, Running, Empty, Sending}
-use Rattle.wake_core.specs.Events.{IsFree, Spends, Readies, Asks, Fetches, Sends, Yields, next_call, Releases, MayYield, after_acquire, after_ready, after_ask, after_fetch, after_send, after_yield, after_release}
-use Rattle.wake_core.specs.WorldCalls.{in_hand, phase_sent, MayAcquire, Acquired, MaySpend, MayReady, MayAsk, MayFetch, MayStep, MayTape, Taped, MayYieldAs, MayRelease}
-use Rattle.wake_core_tests.specs.Groups.{MayTake, MayTakeWoken, MayAskAgain, MayGiveBack, MaySendOn, after_take, after_wake, after_fetching, found_then, after_back, after_output}
+use Rattle.wake_core.specs.declared.phase.Phase.TheVariants.{Known, Checked, Stopping, Woken, Running, Empty, Sending, LastSending}
+use Rattle.wake_core.specs.Events.{IsFree, Spends, Readies, Checks, Asks, Fetches, Sends, Yields, next_call, Releases, MayYield, after_acquire, after_ready, after_check, after_ask, after_fetch, after_send, after_yield, after_release}
+use Rattle.wake_core.specs.WorldCalls.{in_hand, phase_sent, MayAcquire, Acquired, MaySpend, MayReady, MayCheck, MayAsk, MayFetch, MayStep, MayTape, Taped, MayYieldAs, MayRelease}
+use Rattle.wake_core_tests.specs.Groups.{MayTake, MayTakeWoken, MayAskAgain, MayGiveBack, MaySendOn, after_take, after_wake, after_asking, after_fetching, found_then, after_back, after_output}
 
 -- What a thread has in hand.
 in_hand_is : (p c : ℕ) (phase : Phase) (w : Plain) → w.hands p ≡ hand c phase → in_hand p w ≡ c
@@ -64,35 +64,58 @@ module _ (w a : Plain) (m : MayTakeWoken w) (takes : a ≡ after_take w) where
       let h : Readies 1 0 a v = subst (λ c. Readies 1 c a v) (in_hand_is 1 0 Woken a woken_held) ready in
       h.effect ∙ ap (after_ready 1 0) takes
 
--- Asking and fetching.
+-- Looking for the stop, and asking.
+unstopped_phase : (is_stopped : Bool) → is_stopped ≡ false → (if is_stopped then Stopping else Checked) ≡ Checked
+unstopped_phase true is = absurd cc
+unstopped_phase false is = refl
+
 module _ (w : Plain) (m : MayAskAgain w) where
-  pub may_ask : MayAsk 1 w
-  may_ask = subst (λ c. Asks 1 c w (after_ask 1 c w)) (sym (in_hand_is 1 0 Known w m.held)) record { held = m.held; ready = m.ready; none_held = m.none_held; effect = refl }
+  pub may_check : MayCheck 1 w
+  may_check = subst (λ c. Checks 1 c w (after_check 1 c w)) (sym (in_hand_is 1 0 Known w m.held)) record { held = m.held; ready = m.ready; effect = refl }
 
-  module _ (a : Plain) (ask : Asks 1 (in_hand 1 w) w a) where
-    asked_is : a ≡ after_ask 1 0 w
-    asked_is = let h : Asks 1 0 w a = subst (λ c. Asks 1 c w a) (in_hand_is 1 0 Known w m.held) ask in h.effect
+  pub unstopped_answer : (answer : Bool) → answer ≡ stops w.stop w.raised (in_hand 1 w) → answer ≡ false
+  unstopped_answer answer is = is ∙ (ap (stops w.stop w.raised) (in_hand_is 1 0 Known w m.held) ∙ m.unstopped)
 
-    asked_held : in_hand 1 a ≡ 0
+  module _ (a : Plain) (check : Checks 1 (in_hand 1 w) w a) where
+    checked_is : a ≡ after_check 1 0 w
+    checked_is = let h : Checks 1 0 w a = subst (λ c. Checks 1 c w a) (in_hand_is 1 0 Known w m.held) check in h.effect
+
+    checked_held : a.hands 1 ≡ hand 0 Checked
     unfolding set_at
-    asked_held = ap (in_hand 1) asked_is
+    checked_held = ap (λ (x : Plain). x.hands 1) checked_is ∙ ap (hand 0) (unstopped_phase (stops w.stop w.raised 0) m.unstopped)
 
-    pub may_fetch : MayFetch 1 a
-    unfolding set_at
-    may_fetch = let here : MayFetch 1 (after_ask 1 0 w) = refl in subst (MayFetch 1) (sym asked_is) here
+    pub may_ask : MayAsk 1 a
+    may_ask =
+        let here : Asks 1 0 a (after_ask 1 0 a) = record { held = checked_held; none_held = ap (λ (x : Plain). unsent_of x 0) checked_is ∙ m.none_held; effect = refl } in
+        subst (λ c. Asks 1 c a (after_ask 1 c a)) (sym (in_hand_is 1 0 Checked a checked_held)) here
 
-    pub fetched : (v : Plain) → Fetches 1 (in_hand 1 a) a v → v ≡ after_fetching w
-    unfolding set_at
-    fetched v fetch =
-        let here = after_ask 1 0 w in
-        let h : Fetches 1 (in_hand 1 here) here v = subst (λ x. Fetches 1 (in_hand 1 x) x v) asked_is fetch in h.effect
+    pub asked : (v : Plain) → Asks 1 (in_hand 1 a) a v → v ≡ after_asking w
+    asked v ask =
+        let h : Asks 1 0 a v = subst (λ c. Asks 1 c a v) (in_hand_is 1 0 Checked a checked_held) ask in
+        h.effect ∙ ap (after_ask 1 0) checked_is
 
-    pub fetched_answer : (answer : Option Tuple) → answer ≡ option_map (λ (x : Call). x.tuple) (next_call a (in_hand 1 a)) → answer ≡ option_map (λ (x : Call). x.tuple) (found_then w)
-    unfolding set_at
-    fetched_answer answer is = is ∙ ap (λ (x : Plain). option_map (λ (x : Call). x.tuple) (next_call x (in_hand 1 x))) asked_is
+-- Fetching.
+module _ (w a : Plain) (asks : a ≡ after_asking w) where
+  asked_held : in_hand 1 a ≡ 0
+  unfolding set_at
+  asked_held = ap (in_hand 1) asks
 
-    pub fetched_steps : (answer : Option Tuple) (f g h : ℕ → Option Tuple) → h ≡ set_at (in_hand 1 a) answer g → g ≡ f → h ≡ set_at 0 answer f
-    fetched_steps answer f g h is same = is ∙ (ap (λ c. set_at c answer g) asked_held ∙ ap (set_at 0 answer) same)
+  pub may_fetch : MayFetch 1 a
+  unfolding set_at
+  may_fetch = let here : MayFetch 1 (after_asking w) = refl in subst (MayFetch 1) (sym asks) here
+
+  pub fetched : (v : Plain) → Fetches 1 (in_hand 1 a) a v → v ≡ after_fetching w
+  unfolding set_at
+  fetched v fetch =
+      let here = after_asking w in
+      let h : Fetches 1 (in_hand 1 here) here v = subst (λ x. Fetches 1 (in_hand 1 x) x v) asks fetch in h.effect
+
+  pub fetched_answer : (answer : Option Tuple) → answer ≡ option_map (λ (x : Call). x.tuple) (next_call a (in_hand 1 a)) → answer ≡ option_map (λ (x : Call). x.tuple) (found_then w)
+  unfolding set_at
+  fetched_answer answer is = is ∙ ap (λ (x : Plain). option_map (λ (x : Call). x.tuple) (next_call x (in_hand 1 x))) asks
+
+  pub fetched_steps : (answer : Option Tuple) (f g h : ℕ → Option Tuple) → h ≡ set_at (in_hand 1 a) answer g → g ≡ f → h ≡ set_at 0 answer f
+  fetched_steps answer f g h is same = is ∙ (ap (λ c. set_at c answer g) asked_held ∙ ap (set_at 0 answer) same)
 
 -- A call: something was found, and the component runs.
 runs : (found : Option Call) (tuple : Tuple) (w : Plain) → Some tuple ≡ option_map (λ (x : Call). x.tuple) found → (after_fetch 1 0 found w).hands 1 ≡ hand 0 Running
@@ -115,7 +138,7 @@ module _ (w a : Plain) (fetched : a ≡ after_fetching w) (f g : ℕ → Option 
 
   module _ (tuple : Tuple) (answer : Some tuple ≡ option_map (λ (x : Call). x.tuple) (found_then w)) (steps : g ≡ set_at 0 (Some tuple) f) where
     runs_now : a.hands 1 ≡ hand 0 Running
-    runs_now = ap (λ (x : Plain). x.hands 1) fetched ∙ runs (found_then w) tuple (after_ask 1 0 w) answer
+    runs_now = ap (λ (x : Plain). x.hands 1) fetched ∙ runs (found_then w) tuple (after_asking w) answer
 
     pub may_step : MayStep 1 tuple a g
     unfolding set_at
@@ -145,7 +168,9 @@ found_none (Some call) is = absurd cc
 back_in_hand : (state : State) (w : Plain) → MayYield 1 0 state w → in_hand 1 w ≡ 0
 back_in_hand state w (inl h) = in_hand_is 1 0 Empty w h.0
 back_in_hand state w (inr (inl h)) = in_hand_is 1 0 Running w h.0
-back_in_hand state w (inr (inr h)) = in_hand_is 1 0 Sending w h.0
+back_in_hand state w (inr (inr (inl h))) = in_hand_is 1 0 Sending w h.0
+back_in_hand state w (inr (inr (inr (inl held, finished, none)))) = in_hand_is 1 0 Stopping w held
+back_in_hand state w (inr (inr (inr (inr held, finished, none)))) = in_hand_is 1 0 LastSending w held
 
 module _ (state : State) (w : Plain) (m : MayGiveBack state w) where
   pub may_yield : MayYieldAs 1 state w

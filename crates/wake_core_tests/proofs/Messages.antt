@@ -23,6 +23,7 @@ may_tape_then t w m = record {
   player = λ _. refl;
   played = λ _. record {
     owes = record { filled = m.owes.filled; looked = m.owes.looked; cleared = m.owes.cleared };
+    raised = m.raised;
     next = record { unwritten = m.next.unwritten; next = m.next.next; within = m.next.within };
     now = refl;
     effect = refl;

@@ -1,5 +1,5 @@
 -- The world that is made of a wiring of one component.
-use Rattle.std.proofs.Common.{ℕ, ◌≡◌, ◌≤◌, refl, ◌∙◌, ap, arith, List, [], ◌∷◌, Result, Ok, Err}
+use Rattle.std.proofs.Common.{ℕ, ◌≡◌, ◌≤◌, refl, ◌∙◌, ap, arith, List, [], ◌∷◌, None, Result, Ok, Err}
 use Rattle.std.specs.Prelude.{IfOk, IfErr, IsErrOf, ◌↔◌}
 use Rattle.cy_comp.specs.declared.plan.Plan.{Plan}
 use Rattle.wake_core.specs.declared.world.World.{World}
@@ -15,8 +15,8 @@ use Rattle.wake_core.specs.WorldCalls.{IsOpening, IsTooMany}
 use Rattle.wake_core_tests.specs.Groups.{Shows}
 use Rattle.wake_core_tests.specs.Runs.{passing, summing}
 
-pub opens : (routes expected : List Route) (counts : List ℕ) (result : Result World CoreError) → routes ≡ expected → IfOk result (λ w. IsOpening routes counts (plain_of w) (to_step w)) → IfOk result (Shows (opening_world expected counts))
-opens routes expected counts (Ok w) is opening = record { plain = opening.opens ∙ ap (λ r. opening_world r counts) is; stepped = opening.stepped }
+pub opens : (routes expected : List Route) (counts : List ℕ) (result : Result World CoreError) → routes ≡ expected → IfOk result (λ w. IsOpening routes counts None (plain_of w) (to_step w)) → IfOk result (Shows (opening_world expected counts None))
+opens routes expected counts (Ok w) is opening = record { plain = opening.opens ∙ ap (λ r. opening_world r counts None) is; stepped = opening.stepped }
 opens routes expected counts (Err e) is opening = tt
 
 pub only_memory : (routes expected : List Route) (counts : List ℕ) (result : Result World CoreError) → routes ≡ expected → planned expected counts ≤ MOST_PLANNED

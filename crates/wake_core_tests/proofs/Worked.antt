@@ -8,9 +8,10 @@ use Rattle.cy_fuse.specs.Fetch.{fetch}
 use Rattle.cy_comp.specs.Step.{outcome_after}
 use Rattle.cy_comp.specs.Calls.{outs, last_outcome}
 use Rattle.wake_core.specs.Run.{set_at}
-use Rattle.wake_core.specs.Plain.{Plain, opening_world, played_count, to_play}
+use Rattle.wake_core.specs.Plain.{Plain, opening_world}
 use Rattle.cy_comp.specs.declared.state.State.TheVariants.{DataWait}
 use Rattle.wake_core.specs.Events.{Closes}
+use Rattle.wake_core.specs.WorldCalls.{MayClose}
 use Rattle.wake_core_tests.specs.Groups.{MayCome, MayTell, MayTake, MayTakeWoken, MayAskAgain, MayGiveBack, MayTurn, after_message, after_news, after_take, after_wake, after_fetching, after_back, after_turn}
 use Rattle.wake_core_tests.specs.Runs.{passing, summing, message, passed_on, called_once, parked_too_late, four_came, parked_once, HadCalls}
 
@@ -20,7 +21,7 @@ written x is = absurd cc
 
 -- A message was passed on, and the component taken again.
 abbrev pub one_opened : Plain
-one_opened = opening_world (passing 1 ∷ []) (2 ∷ 0 ∷ [])
+one_opened = opening_world (passing 1 ∷ []) (2 ∷ 0 ∷ []) None
 
 abbrev pub one_came : Plain
 one_came = after_message (message 1) one_opened
@@ -32,6 +33,7 @@ pub first_comes : MayCome (message 1) one_opened
 first_comes = record {
   owes = record { filled = refl; looked = refl; cleared = refl };
   later = omega arith;
+  raised = λ s is _. absurd cc;
   next = record { unwritten = refl; next = refl; within = omega arith };
   read = refl;
 }
@@ -40,7 +42,7 @@ pub first_turn : MayTurn (passed_on 1) one_came
 unfolding set_at fused fetch outs last_outcome outcome_after
 first_turn = record {
   takes = record { known = omega arith; nobody = λ p. refl; not_due = λ d. d };
-  asks = record { held = refl; ready = refl; none_held = refl };
+  asks = record { held = refl; ready = refl; none_held = refl; unstopped = refl };
   sends = record {
     owes = record { filled = refl; looked = refl; cleared = refl };
     held = refl;
@@ -64,7 +66,7 @@ taken_again = record {
 -- The message that comes too late, and wakes the component.
 pub asks_in_vain : MayAskAgain called_once
 unfolding called_once set_at fused fetch outs last_outcome outcome_after
-asks_in_vain = record { held = refl; ready = refl; none_held = refl }
+asks_in_vain = record { held = refl; ready = refl; none_held = refl; unstopped = refl }
 
 pub second_wakes : MayTell (message 2) (after_fetching called_once)
 unfolding called_once set_at fused fetch outs last_outcome outcome_after
@@ -72,6 +74,7 @@ second_wakes = record {
   comes = record {
     owes = record { filled = refl; looked = refl; cleared = refl };
     later = omega arith;
+    raised = λ s is _. absurd cc;
     next = record { unwritten = refl; next = refl; within = omega arith };
     read = refl;
   };
@@ -91,7 +94,7 @@ is_woken = record {
 
 pub asks_again : MayAskAgain (after_wake parked_too_late)
 unfolding called_once parked_too_late set_at fused fetch outs last_outcome outcome_after
-asks_again = record { held = refl; ready = refl; none_held = refl }
+asks_again = record { held = refl; ready = refl; none_held = refl; unstopped = refl }
 
 pub called_after_race : HadCalls ((1, 1, One (message 1)) ∷ (2, 2, One (message 2)) ∷ []) 3 (after_fetching (after_wake parked_too_late))
 unfolding called_once parked_too_late set_at fused fetch outs last_outcome outcome_after
@@ -103,13 +106,14 @@ unfolding called_once set_at fused fetch outs last_outcome outcome_after
 second_comes = record {
   owes = record { filled = refl; looked = refl; cleared = refl };
   later = omega arith;
+  raised = λ s is _. absurd cc;
   next = record { unwritten = refl; next = refl; within = omega arith };
   read = refl;
 }
 
 pub asks_in_time : MayAskAgain (after_message (message 2) called_once)
 unfolding called_once set_at fused fetch outs last_outcome outcome_after
-asks_in_time = record { held = refl; ready = refl; none_held = refl }
+asks_in_time = record { held = refl; ready = refl; none_held = refl; unstopped = refl }
 
 pub called_in_time : HadCalls ((1, 1, One (message 1)) ∷ (2, 2, One (message 2)) ∷ []) 3 (after_fetching (after_message (message 2) called_once))
 unfolding called_once set_at fused fetch outs last_outcome outcome_after
@@ -117,7 +121,7 @@ called_in_time = record { calls = refl; cursor = refl }
 
 -- Four messages that come first.
 abbrev pub four_opened : Plain
-four_opened = opening_world (passing 4 ∷ []) (4 ∷ 0 ∷ [])
+four_opened = opening_world (passing 4 ∷ []) (4 ∷ 0 ∷ []) None
 
 abbrev pub first_of_four : Plain
 first_of_four = after_message (message 1) four_opened
@@ -132,6 +136,7 @@ pub four_first : MayCome (message 1) four_opened
 four_first = record {
   owes = record { filled = refl; looked = refl; cleared = refl };
   later = omega arith;
+  raised = λ s is _. absurd cc;
   next = record { unwritten = refl; next = refl; within = omega arith };
   read = refl;
 }
@@ -141,6 +146,7 @@ unfolding set_at
 four_second = record {
   owes = record { filled = refl; looked = refl; cleared = refl };
   later = omega arith;
+  raised = λ s is _. absurd cc;
   next = record { unwritten = refl; next = refl; within = omega arith };
   read = refl;
 }
@@ -150,6 +156,7 @@ unfolding set_at
 four_third = record {
   owes = record { filled = refl; looked = refl; cleared = refl };
   later = omega arith;
+  raised = λ s is _. absurd cc;
   next = record { unwritten = refl; next = refl; within = omega arith };
   read = refl;
 }
@@ -159,6 +166,7 @@ unfolding set_at
 four_fourth = record {
   owes = record { filled = refl; looked = refl; cleared = refl };
   later = omega arith;
+  raised = λ s is _. absurd cc;
   next = record { unwritten = refl; next = refl; within = omega arith };
   read = refl;
 }
@@ -167,7 +175,7 @@ pub newest_turn : MayTurn (passed_on 4) four_came
 unfolding four_came set_at fused fetch outs last_outcome outcome_after
 newest_turn = record {
   takes = record { known = omega arith; nobody = λ p. refl; not_due = λ d. d };
-  asks = record { held = refl; ready = refl; none_held = refl };
+  asks = record { held = refl; ready = refl; none_held = refl; unstopped = refl };
   sends = record {
     owes = record { filled = refl; looked = refl; cleared = refl };
     held = refl;
@@ -180,9 +188,9 @@ newest_turn = record {
   };
 }
 
-pub all_played : played_count (after_turn (passed_on 4) four_came) ≡ to_play (after_turn (passed_on 4) four_came)
+pub closes : MayClose (after_turn (passed_on 4) four_came)
 unfolding four_came set_at fused fetch outs last_outcome outcome_after
-all_played = refl
+closes = record { owes = record { filled = refl; looked = refl; cleared = refl }; raised = λ s is. absurd cc; all = refl; effect = refl }
 
 pub called_on_newest : HadCalls ((4, 4, One (message 4)) ∷ []) 5 (after_turn (passed_on 4) four_came)
 unfolding four_came set_at fused fetch outs last_outcome outcome_after
@@ -190,7 +198,7 @@ called_on_newest = record { calls = refl; cursor = refl }
 
 -- Two readers, of which only the first gets messages.
 abbrev pub sum_opened : Plain
-sum_opened = opening_world (summing ∷ []) (2 ∷ 0 ∷ 0 ∷ [])
+sum_opened = opening_world (summing ∷ []) (2 ∷ 0 ∷ 0 ∷ []) None
 
 abbrev pub sum_came : Plain
 sum_came = after_message (message 1) sum_opened
@@ -199,6 +207,7 @@ pub sum_comes : MayCome (message 1) sum_opened
 sum_comes = record {
   owes = record { filled = refl; looked = refl; cleared = refl };
   later = omega arith;
+  raised = λ s is _. absurd cc;
   next = record { unwritten = refl; next = refl; within = omega arith };
   read = refl;
 }
@@ -209,7 +218,7 @@ sum_taken = record { known = omega arith; nobody = λ p. refl; not_due = λ d. d
 
 pub sum_asks : MayAskAgain (after_take sum_came)
 unfolding set_at outs
-sum_asks = record { held = refl; ready = refl; none_held = refl }
+sum_asks = record { held = refl; ready = refl; none_held = refl; unstopped = refl }
 
 pub sum_parks : MayGiveBack DataWait (after_fetching (after_take sum_came))
 unfolding set_at fused fetch
@@ -221,6 +230,7 @@ sum_wakes = record {
   comes = record {
     owes = record { filled = refl; looked = refl; cleared = refl };
     later = omega arith;
+    raised = λ s is _. absurd cc;
     next = record { unwritten = refl; next = refl; within = omega arith };
     read = refl;
   };
@@ -239,7 +249,7 @@ sum_again = after_wake (after_news (message 2) parked_once)
 
 pub sum_asks_again : MayAskAgain sum_again
 unfolding parked_once set_at fused fetch outs
-sum_asks_again = record { held = refl; ready = refl; none_held = refl }
+sum_asks_again = record { held = refl; ready = refl; none_held = refl; unstopped = refl }
 
 pub sum_parks_again : MayGiveBack DataWait (after_fetching sum_again)
 unfolding parked_once set_at fused fetch

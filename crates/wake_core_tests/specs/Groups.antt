@@ -1,21 +1,21 @@
 -- Events that belong together, of component 0 in the hand of thread 1 and of the player: what each
 -- group needs of a world, and the world that it leaves.
 use Rattle.std.specs.Prelude.{ℕ, ◌≡◌, ◌≢◌, ◌≤◌, ◌<◌, [], ◌∷◌, length, Option, Some, None}
-use Rattle.std.specs.Prelude.{option_map}
+use Rattle.std.specs.Prelude.{true, false, option_map}
 use Rattle.cy_msg.specs.declared.token.Token.{Token}
 use Rattle.cy_comp.specs.declared.call.Call.{Call}
 use Rattle.cy_comp.specs.Calls.{held_until}
 use Rattle.wake_core.specs.declared.world.World.{World}
 use Rattle.wake_core.specs.Run.{readers_of, writes_from}
-use Rattle.wake_core.specs.Plain.{Plain, hand}
-use Rattle.wake_core.specs.Plain.{last_of, unsent_of}
+use Rattle.wake_core.specs.Plain.{Plain, Stop, hand}
+use Rattle.wake_core.specs.Plain.{last_of, unsent_of, played_count, stops}
 use Rattle.cy_comp.specs.declared.state.State.{State}
 use Rattle.cy_comp.specs.declared.state.State.TheVariants.{Ready}
 use Rattle.wake_core.specs.declared.phase.Phase.TheVariants.{Known, Woken, Running}
 use Rattle.wake_core.specs.Events.{OwesNothing, IsDue, IsNext, MayYield, next_call, state_after}
-use Rattle.wake_core.specs.Events.{after_acquire, after_spend, after_ready, after_ask, after_fetch}
-use Rattle.wake_core.specs.Events.{after_tape, after_send, after_fill, after_look, after_clear}
-use Rattle.wake_core.specs.Events.{after_yield, after_release}
+use Rattle.wake_core.specs.Events.{after_acquire, after_spend, after_ready, after_check, after_ask}
+use Rattle.wake_core.specs.Events.{after_fetch, after_tape, after_send, after_fill, after_look}
+use Rattle.wake_core.specs.Events.{after_clear, after_yield, after_release}
 use Rattle.wake_core.specs.WorldOf.{plain_of, to_step}
 
 -- No component is to be stepped in a world.
@@ -42,6 +42,7 @@ after_message t w =
 pub record MayCome (t : Token) (w : Plain) : Type 0 where
   pub owes : OwesNothing 0 w
   pub later : w.clock ≤ t.time
+  pub raised : (s : Stop) → w.stop ≡ Some s → played_count w ≡ s.after → w.raised ≡ true
   pub next : IsNext t w
   pub read : readers_of w.routes t.channel ≡ (0, 0) ∷ []
 
@@ -70,17 +71,22 @@ pub record MayTakeWoken (w : Plain) : Type 0 where
   pub takes : MayTake w
   pub woken : (after_take w).hands 1 ≡ hand 0 Woken
 
--- It asks and fetches for the component, which is READY.
+-- It looks whether the component, which is READY, is stopped, which it isn't, and asks for it.
+abbrev pub after_asking : Plain → Plain
+after_asking w = after_ask 1 0 (after_check 1 0 w)
+
+-- It asks and fetches.
 abbrev pub found_then : Plain → Option Call
-found_then w = next_call (after_ask 1 0 w) 0
+found_then w = next_call (after_asking w) 0
 
 abbrev pub after_fetching : Plain → Plain
-after_fetching w = after_fetch 1 0 (found_then w) (after_ask 1 0 w)
+after_fetching w = after_fetch 1 0 (found_then w) (after_asking w)
 
 pub record MayAskAgain (w : Plain) : Type 0 where
   pub held : w.hands 1 ≡ hand 0 Known
   pub ready : w.states 0 ≡ Ready
   pub none_held : unsent_of w 0 ≡ None
+  pub unstopped : stops w.stop w.raised 0 ≡ false
 
 -- It yields in a state, and gives the component back.
 abbrev pub after_back : State → Plain → Plain

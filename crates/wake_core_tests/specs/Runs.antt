@@ -28,7 +28,7 @@ passed_on time = record { channel = 1; seq = 1; time = time; whole = None; origi
 -- A message was played and passed on. Thread 1 has taken the component again.
 unfoldable pub called_once : Plain
 called_once = after_take (after_turn (passed_on 1)
-    (after_message (message 1) (opening_world (passing 1 ∷ []) (2 ∷ 0 ∷ []))))
+    (after_message (message 1) (opening_world (passing 1 ∷ []) (2 ∷ 0 ∷ []) None)))
 
 -- It asks and finds nothing; then the second message comes, and only then is the component parked.
 unfoldable pub parked_too_late : Plain
@@ -37,12 +37,12 @@ parked_too_late = after_back DataWait (after_news (message 2) (after_fetching ca
 -- Four messages were played before the component was first resumed.
 unfoldable pub four_came : Plain
 four_came = after_message (message 4) (after_message (message 3) (after_message (message 2)
-    (after_message (message 1) (opening_world (passing 4 ∷ []) (4 ∷ 0 ∷ [])))))
+    (after_message (message 1) (opening_world (passing 4 ∷ []) (4 ∷ 0 ∷ []) None))))
 
 -- A message came to the first of two readers, and the component was parked.
 unfoldable pub parked_once : Plain
 parked_once = after_back DataWait (after_fetching (after_take
-    (after_message (message 1) (opening_world (summing ∷ []) (2 ∷ 0 ∷ 0 ∷ [])))))
+    (after_message (message 1) (opening_world (summing ∷ []) (2 ∷ 0 ∷ 0 ∷ []) None))))
 
 -- Component 0 had these calls, each told by its position, its tail and its tuple, and its next
 -- fetch begins at this number.

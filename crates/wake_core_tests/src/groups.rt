@@ -1,5 +1,5 @@
 // Events that belong together, of component 0 in the hand of thread 1 and of the player.
-ghost use Rattle.std.specs.Prelude.{◌≡◌, None, not, is_some, option_map};
+ghost use Rattle.std.specs.Prelude.{◌≡◌, None, false, not, is_some, option_map};
 ghost use Rattle.cy_comp.specs.declared.call.Call.{Call};
 ghost use Rattle.wake_core.specs.Run.{set_at};
 ghost use Rattle.wake_core.specs.Events.{is_waiting};
@@ -7,8 +7,8 @@ ghost use Rattle.wake_core.specs.WorldOf.{plain_of, to_step};
 ghost use Rattle.wake_core_tests.specs.Groups.{NoneToStep, Becomes, MayCome, MayTell, MayTake};
 ghost use Rattle.wake_core_tests.specs.Groups.{MayTakeWoken, MayAskAgain, MayGiveBack, MaySendOn};
 ghost use Rattle.wake_core_tests.specs.Groups.{MayTurn, after_message, after_news, after_take};
-ghost use Rattle.wake_core_tests.specs.Groups.{after_wake, after_fetching, after_back};
-ghost use Rattle.wake_core_tests.specs.Groups.{after_output, after_turn, found_then};
+ghost use Rattle.wake_core_tests.specs.Groups.{after_wake, after_asking, after_fetching};
+ghost use Rattle.wake_core_tests.specs.Groups.{after_back, after_output, after_turn, found_then};
 
 use cy_comp::State;
 use cy_msg::{Token, Tuple};
@@ -55,6 +55,19 @@ pub(crate) fn take_woken(world: &mut World)
     world.ready(1);
 }
 
+// Thread 1 looks whether the component in hand is stopped, and asks for it. The answer is that it
+// isn't.
+fn ask(world: &mut World) -> bool
+    requires { MayAskAgain (plain_of world.old) }
+    ensures plain { plain_of world.new ≡ after_asking (plain_of world.old) }
+    ensures answer { result ≡ false }
+    ensures steps { to_step world.new ≡ to_step world.old }
+{
+    let is_stopped = world.check(1);
+    world.ask(1);
+    is_stopped
+}
+
 // Thread 1 asks and fetches for the component in hand.
 fn fetch(world: &mut World) -> Option<Tuple>
     requires { MayAskAgain (plain_of world.old) }
@@ -63,7 +76,7 @@ fn fetch(world: &mut World) -> Option<Tuple>
         (found_then (plain_of world.old)) }
     ensures steps { to_step world.new ≡ set_at 0 result (to_step world.old) }
 {
-    world.ask(1);
+    ask(world);
     world.fetch(1)
 }
 

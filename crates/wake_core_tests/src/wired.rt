@@ -1,5 +1,5 @@
 // Worlds of one component, before anything happens.
-ghost use Rattle.std.specs.Prelude.{◌≡◌, ◌≤◌, ◌++◌, ◌∷◌, [], IfOk, IfErr, length};
+ghost use Rattle.std.specs.Prelude.{◌≡◌, ◌≤◌, ◌++◌, ◌∷◌, [], None, IfOk, IfErr, length};
 ghost use Rattle.std.specs.List.{Contains};
 ghost use Rattle.cy_comp.specs.Wiring.{IsWiring};
 ghost use Rattle.wake_core.specs.declared.error.CoreError.TheVariants as CoreError;
@@ -19,24 +19,24 @@ pub(crate) fn passing(alloc: Global, queue: u32, count: u32) -> Result<World, Co
     requires queue { 1 ≤ queue }
     requires few { count ≤ 4 }
     ensures opening { IfOk result (Shows (opening_world (passing_route queue ∷ [])
-        (count ∷ 0 ∷ []))) }
+        (count ∷ 0 ∷ []) None)) }
     ensures memory { IfErr result (λ e. e ≡ CoreError.Memory) }
 {
     let plan = plan(alloc, Kind::Pass, &[0], queue, 1)?;
     let wiring = wired(alloc, two_names(alloc)?, plan)?;
-    World::new(alloc, &wiring, &[count, 0])
+    World::new(alloc, &wiring, &[count, 0], None)
 }
 
 /// The world of a component that sums the values of /a and /b and writes /o, for two messages of
 /// /a.
 pub(crate) fn summing(alloc: Global) -> Result<World, CoreError>
     ensures opening { IfOk result (Shows (opening_world (summing_route ∷ [])
-        (2 ∷ 0 ∷ 0 ∷ []))) }
+        (2 ∷ 0 ∷ 0 ∷ []) None)) }
     ensures memory { IfErr result (λ e. e ≡ CoreError.Memory) }
 {
     let plan = plan(alloc, Kind::Sum, &[0, 1], 1, 2)?;
     let wiring = wired(alloc, three_names(alloc)?, plan)?;
-    World::new(alloc, &wiring, &[2, 0, 0])
+    World::new(alloc, &wiring, &[2, 0, 0], None)
 }
 
 // The names of a channel that is read and of one that is written.

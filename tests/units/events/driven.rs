@@ -10,6 +10,7 @@ pub(crate) enum Event {
     Acquire(u32),
     Spend,
     Ready,
+    Check,
     Ask,
     Fetch,
     Step,
@@ -81,7 +82,7 @@ impl Driven {
             })?;
         }
         Ok(Driven {
-            world: World::new(rt.alloc(), &wiring, &counts)?,
+            world: World::new(rt.alloc(), &wiring, &counts, None)?,
             list,
             next: 0,
             tuples: vec![in rt.alloc(); None; rows.len()]?,
@@ -132,13 +133,15 @@ impl Driven {
             Phase::Woken => events.push(Event::Ready)?,
             Phase::Known => {
                 events.push(Event::Release)?;
-                match self.world.unsent(croutine) {
-                    _ if self.state(croutine) != State::Ready => {}
-                    None => events.push(Event::Ask)?,
-                    Some(token) if owes_nothing => events.push(Event::Send(token))?,
-                    Some(_) => {}
+                if self.state(croutine) == State::Ready {
+                    events.push(Event::Check)?;
                 }
             }
+            Phase::Checked => match self.world.unsent(croutine) {
+                None => events.push(Event::Ask)?,
+                Some(token) if owes_nothing => events.push(Event::Send(token))?,
+                Some(_) => {}
+            },
             Phase::Asked => events.push(Event::Fetch)?,
             Phase::Empty if owes_nothing => events.push(Event::Yield(State::DataWait))?,
             Phase::Running if self.tuples[croutine as usize].is_some() => {
@@ -215,7 +218,7 @@ impl Driven {
             Some(_) => {}
             None => {
                 events.push(Event::Tick(u64::MAX))?;
-                if !self.world.closing {
+                if !self.world.closing && self.owes_nothing(0) {
                     events.push(Event::Close)?;
                 }
             }
@@ -235,6 +238,7 @@ impl Driven {
                 self.world.spend(thread);
             }
             Event::Ready => self.world.ready(thread),
+            Event::Check => holds(!self.world.check(thread), "none is stopped without a stop")?,
             Event::Ask => self.world.ask(thread),
             Event::Fetch => self.fetch(thread)?,
             Event::Step => self.step(thread),

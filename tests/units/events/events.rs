@@ -47,8 +47,8 @@ fn passing(rt: &HostRuntime, queue: u32, messages: usize) -> Result<Driven, Fail
 
 // Lets thread 1 take component 0, which is READY, and call it on the message that it finds.
 fn call(driven: &mut Driven) -> Result<(), Fail> {
-    use Event::{Acquire, Ask, Fetch, Release, Send, Spend, Step, Yield};
-    drive(driven, 1, &[Acquire(0), Spend, Ask, Fetch, Step])?;
+    use Event::{Acquire, Ask, Check, Fetch, Release, Send, Spend, Step, Yield};
+    drive(driven, 1, &[Acquire(0), Spend, Check, Ask, Fetch, Step])?;
     let Some(out) = driven.world.unsent(0) else {
         return Err(Fail::from("no output"));
     };
@@ -76,26 +76,26 @@ fn last_message(driven: &Driven) -> Option<u32> {
 
 #[test]
 fn wakes_a_component_that_parks_while_a_message_comes(rt: HostRuntime) -> Result<(), Fail> {
-    use Event::{Acquire, Ask, Clear, Fetch, Ready, Release, Spend, Step, Yield};
+    use Event::{Acquire, Ask, Check, Clear, Fetch, Ready, Release, Spend, Step, Yield};
     let mut driven = called_once(&rt)?;
-    drive(&mut driven, 1, &[Ask, Fetch])?;
+    drive(&mut driven, 1, &[Check, Ask, Fetch])?;
     tape(&mut driven)?;
     assert!(rt; tell(&mut driven)?);
     drive(&mut driven, 0, &[Clear(0)])?;
     drive(&mut driven, 1, &[Yield(State::DataWait), Release, Acquire(0)])?;
     assert!(rt; !driven.world.spent(0));
-    drive(&mut driven, 1, &[Spend, Ready, Ask, Fetch, Step])?;
+    drive(&mut driven, 1, &[Spend, Ready, Check, Ask, Fetch, Step])?;
     assert_eq!(rt; last_message(&driven), Some(2));
     driven.end(&rt, 2)
 }
 
 #[test]
 fn fetches_what_came_without_being_woken(rt: HostRuntime) -> Result<(), Fail> {
-    use Event::{Ask, Fetch, Step};
+    use Event::{Ask, Check, Fetch, Step};
     let mut driven = called_once(&rt)?;
     tape(&mut driven)?;
     assert!(rt; !tell(&mut driven)?);
-    drive(&mut driven, 1, &[Ask, Fetch, Step])?;
+    drive(&mut driven, 1, &[Check, Ask, Fetch, Step])?;
     assert_eq!(rt; last_message(&driven), Some(2));
     driven.end(&rt, 2)
 }
@@ -117,13 +117,13 @@ fn skips_to_the_newest_of_four(rt: HostRuntime) -> Result<(), Fail> {
 
 #[test]
 fn wakes_and_parks_where_nothing_is_joined(rt: HostRuntime) -> Result<(), Fail> {
-    use Event::{Acquire, Ask, Clear, Fetch, Ready, Release, Spend, Yield};
+    use Event::{Acquire, Ask, Check, Clear, Fetch, Ready, Release, Spend, Yield};
     let rows: [Row; 1] = [(Kind::Sum, &[0, 1], 1, 2)];
     let list = [(0, 0, 1), (0, 0, 2)];
     let mut driven = Driven::new(&rt, &["/a", "/b", "/o"], &rows, &list)?;
     tape(&mut driven)?;
     assert!(rt; !tell(&mut driven)?);
-    let parks = [Ask, Fetch, Yield(State::DataWait), Release];
+    let parks = [Check, Ask, Fetch, Yield(State::DataWait), Release];
     drive(&mut driven, 1, &[Acquire(0), Spend])?;
     drive(&mut driven, 1, &parks)?;
     tape(&mut driven)?;

@@ -59,7 +59,7 @@ fn played<G: Gate, R: Threads + Wait + Sync>(
     gate: &G,
 ) -> Result<World, Fail> {
     let counts = counts(host, wiring.names.count(), list.tokens.as_slice())?;
-    let world = World::new(host.alloc(), wiring, &counts)?;
+    let world = World::new(host.alloc(), wiring, &counts, None)?;
     Ok(run_threads(rt, host.alloc(), world, wiring, list, placement, gate)?)
 }
 

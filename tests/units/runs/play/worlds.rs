@@ -16,7 +16,7 @@ fn played(
     placement: &Placement,
 ) -> Result<World, Fail> {
     let counts = counts(rt, wiring.names.count(), list.tokens.as_slice())?;
-    let mut world = World::new(rt.alloc(), wiring, &counts)?;
+    let mut world = World::new(rt.alloc(), wiring, &counts, None)?;
     serial(&mut world, list, placement);
     Ok(world)
 }
@@ -289,7 +289,7 @@ fn keeps_sixteen_million_entries(rt: HostRuntime) -> Result<(), Fail> {
         planned(&wiring, &[1_048_576, 0, 0, 0, 0, 0, 0]),
         16_777_216
     );
-    let more = World::new(rt.alloc(), &wiring, &[1_048_576, 1, 0, 0, 0, 0, 0]);
+    let more = World::new(rt.alloc(), &wiring, &[1_048_576, 1, 0, 0, 0, 0, 0], None);
     assert_eq!(rt; more.err(), Some(CoreError::TooMany { count: 16_777_217 }));
     Ok(())
 }

@@ -24,7 +24,7 @@ fn pass_wiring(rt: &HostRuntime) -> Result<Wiring, Fail> {
 /// The world of that component, for so many messages of /a.
 pub(crate) fn world_of_one(rt: &HostRuntime, count: u32) -> Result<World, Fail> {
     let wiring = pass_wiring(rt)?;
-    Ok(World::new(rt.alloc(), &wiring, &[count, 0])?)
+    Ok(World::new(rt.alloc(), &wiring, &[count, 0], None)?)
 }
 
 /// The table of that world, and the player's pass.

@@ -68,13 +68,17 @@ fn follow<R: Wait>(
     }
 }
 
-/// Resumes component 0, which is READY: what it fetched, and what it sent.
+/// Resumes component 0, which is READY: what it fetched, and what it sent. One that is stopped ends.
 pub(crate) fn resume<R: Wait>(
     rt: &R,
     table: &FlagTable,
     pass: &mut Pass,
     mut hold: Hold,
 ) -> Option<(Tuple, Option<Token>)> {
+    if table.resume(pass, &mut hold) {
+        put_back(table, pass, hold, State::Finished);
+        return None;
+    }
     table.ask(pass, &mut hold);
     match table.fetch(rt, pass, &mut hold) {
         Some(tuple) => Some((tuple, follow(rt, table, pass, hold, &tuple))),
