@@ -166,7 +166,7 @@ can_close law t tokens items i p q made same le on raised = let seated = on.mine
   where
     whole : length (seat_of q).played ≡ to_play_from (seat_of q).routes 0 (seat_of q).counts
     whole = let seated = on.mine.free.seated in ap length (on.played ∙ take_all i tokens (subst (λ l. length l ≤ i) same le)) ∙ (sym (law.all (made_of t) tokens made)
-      ∙ (ap (λ (r : List Route). to_play_from r 0 (made_of t).counts) (sym seated.routes) ∙ ap (to_play_from (seat_of q).routes 0) (sym seated.counts)))
+        ∙ (ap (λ (r : List Route). to_play_from r 0 (made_of t).counts) (sym seated.routes) ∙ ap (to_play_from (seat_of q).routes 0) (sym seated.counts)))
 
 pub played_all : (t : FlagTable) (tokens items : List Token) (i : ℕ) (p q u : Pass) → items ≡ tokens → length items ≤ i → PlaysOn t tokens i p q → HasRaised (seat_of q) → IsFreePlayer t u → seat_of u ≡ after_end (seat_of q) → IsPlayed t tokens p u
 played_all t tokens items i p q u same le on raised mine seat =
