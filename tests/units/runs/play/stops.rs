@@ -7,7 +7,9 @@ use cy_msg::{PlayList, Stop};
 use cy_run::{OpenGate, run_threads};
 use cy_trace::trace_text;
 use std::str;
+use std::sync::Wait;
 use std::test::Fail;
+use std::thread::Threads;
 use wake_core::{World, serial};
 
 // Messages at the times 1 to 4, with these values.
@@ -144,12 +146,17 @@ tape "/o" 1
 
 // Whether a component that is stopped after so many messages ends on threads, and how many calls it
 // makes.
-fn stopped_calls(rt: &HostRuntime, list: &PlayList, after: u32) -> Result<(bool, u32), Fail> {
-    let wiring = wiring(rt, &["/a", "/o"], &[(Kind::Pass, &[0])])?;
-    let counts = counts(rt, wiring.names.count(), list.tokens.as_slice())?;
-    let world = World::new(rt.alloc(), &wiring, &counts, stop_after(after))?;
-    let placement = placed(rt, 1, false)?;
-    let world = run_threads(rt, rt.alloc(), world, &wiring, list, &placement, &OpenGate)?;
+fn stopped_calls<R: Threads + Wait + Sync>(
+    rt: &R,
+    host: &HostRuntime,
+    list: &PlayList,
+    after: u32,
+) -> Result<(bool, u32), Fail> {
+    let wiring = wiring(host, &["/a", "/o"], &[(Kind::Pass, &[0])])?;
+    let counts = counts(host, wiring.names.count(), list.tokens.as_slice())?;
+    let world = World::new(host.alloc(), &wiring, &counts, stop_after(after))?;
+    let placement = placed(host, 1, false)?;
+    let world = run_threads(rt, host.alloc(), world, &wiring, list, &placement, &OpenGate)?;
     let routine = world.routine(0);
     let ended = matches!(routine.state(), State::Finished);
     Ok((ended, routine.calls().len() as u32))
@@ -160,7 +167,7 @@ fn stopped_calls(rt: &HostRuntime, list: &PlayList, after: u32) -> Result<(bool,
 fn ends_a_stopped_component_on_threads(rt: HostRuntime) -> Result<(), Fail> {
     let list = list(&rt, FOUR)?;
     for after in 0..4 {
-        let (ended, calls) = stopped_calls(&rt, &list, after)?;
+        let (ended, calls) = stopped_calls(&rt, &rt, &list, after)?;
         assert!(rt; ended && calls <= after + 1, "{after} {ended} {calls}");
     }
     Ok(())
