@@ -72,6 +72,7 @@ tells_more t p q u c rest f g s news told =
           here = ap (λ (v : Seat). v.live) seat ∙ f.seated.here;
           routes = ap (λ (v : Seat). v.routes) seat ∙ f.seated.routes;
           counts = ap (λ (v : Seat). v.counts) seat ∙ f.seated.counts;
+          stop = ap (λ (v : Seat). v.stop) seat ∙ f.seated.stop;
           visit = ap (λ (v : Seat). v.visit) seat ∙ f.seated.visit;
           tape = ap (λ (v : Seat). v.tape) seat ∙ f.seated.tape;
         };

@@ -1,9 +1,10 @@
 -- Workers that are split off the player and taken in again.
-use Rattle.std.proofs.Common.{ℕ, ◌+◌, ◌-◌, ◌≡◌, ◌≤◌, ◌<◌, ◌∙◌, Bool, true, false, ◌||◌, List, [], ◌∷◌, ◌++◌, All, refl, sym, ap, subst, arith, length, take, drop, slice_index_or, append-nil, length-append, ◌==◌, zero, suc}
+use Rattle.std.proofs.Common.{ℕ, ◌+◌, ◌-◌, ◌≡◌, ◌≤◌, ◌<◌, ◌∙◌, Bool, true, false, ◌||◌, List, [], ◌∷◌, ◌++◌, All, refl, sym, ap, subst, arith, length, take, drop, slice_index_or, append-nil, length-append, ◌==◌, Option, zero, suc}
 use Rattle.std.proofs.lemmas.List.{take_all, drop_all, length-map}
 use Rattle.std.proofs.lemmas.List.Elements.{All-push}
 use Rattle.std.proofs.lemmas.Bool.Decides.{nat_tests}
 use Rattle.cy_msg.specs.declared.placement.ContextPlan.{ContextPlan}
+use Rattle.cy_msg.specs.declared.stop.Stop.{Stop}
 use Rattle.cy_msg.specs.declared.token.Token.{Token}
 use Rattle.cy_msg.specs.Placement.{scan_of}
 use Rattle.cy_comp.specs.declared.plan.Plan.{Plan}
@@ -11,6 +12,7 @@ use Rattle.wake_core.specs.declared.route.Route.{Route}
 use Rattle.wake_core.specs.declared.world.World.{World}
 use Rattle.wake_core.specs.Plain.{Plain, lists, to_play_from}
 use Rattle.wake_core.specs.Run.{played_of}
+use Rattle.wake_core.specs.Fields.{IsWithin}
 use Rattle.wake_core.specs.Rest.{IsToPlay, IsScanOf, MayFinish}
 use Rattle.wake_core.specs.WorldOf.{plain_of}
 use Rattle.wake_core.specs.TapeLaws.{PutLaws}
@@ -38,6 +40,7 @@ still_free t q u n seen m s told =
           here = ap (λ (v : Seat). v.live) seat ∙ f.seated.here;
           routes = ap (λ (v : Seat). v.routes) seat ∙ f.seated.routes;
           counts = ap (λ (v : Seat). v.counts) seat ∙ f.seated.counts;
+          stop = ap (λ (v : Seat). v.stop) seat ∙ f.seated.stop;
           visit = ap (λ (v : Seat). v.visit) seat ∙ f.seated.visit;
           tape = ap (λ (v : Seat). v.tape) seat ∙ f.seated.tape;
         };
@@ -59,6 +62,7 @@ split_free t q w m at told = let seat : seat_of w ≡ split_off (seat_of q) = ap
     here = ap (λ (v : Seat). v.live) seat;
     routes = ap (λ (v : Seat). v.routes) seat ∙ m.free.seated.routes;
     counts = ap (λ (v : Seat). v.counts) seat ∙ m.free.seated.counts;
+    stop = ap (λ (v : Seat). v.stop) seat ∙ m.free.seated.stop;
     visit = ap (λ (v : Seat). v.visit) seat;
     tape = ap (λ (v : Seat). v.tape) seat;
   };
@@ -152,16 +156,19 @@ all_orders n (x ∷ plans) known (suc k) d lt = all_orders n plans (λ c e. know
     down j n l = omega (arith, l)
 
 -- A crew that was split off may drive.
-pub may_drive : (w : World) (t : FlagTable) (plans : List Plan) (tokens : List Token) (contexts : List ContextPlan) (orders : List (List ℕ)) (parkers : ℕ) (p q : Pass) (crew : List Worker)
-    → MayRun (plain_of w) plans tokens (scan_of contexts) → IsNew w t p → orders ≡ orders_of contexts → IsCrew t (length contexts) parkers p q crew → MayDrive t plans tokens orders parkers q crew
-may_drive w t plans tokens contexts orders parkers p q crew r n is c =
+pub may_drive : (w : World) (t : FlagTable) (plans : List Plan) (tokens : List Token) (contexts : List ContextPlan) (orders : List (List ℕ)) (parkers : ℕ) (p q : Pass) (crew : List Worker) (stop : Option Stop)
+    → MayRun (plain_of w) plans tokens (scan_of contexts) → IsNew w t p → orders ≡ orders_of contexts → IsCrew t (length contexts) parkers p q crew → stop ≡ (plain_of w).stop → MayDrive t plans tokens orders parkers q crew stop
+may_drive w t plans tokens contexts orders parkers p q crew stop r n is c given =
     let w' = plain_of w in
     let seat : seat_of q ≡ record (Rattle.cy_table.specs.Plays.seat_for w) { split = length crew } = c.same ∙ ap (λ (x : Thread). record x.0 { split = length crew }) n.thread in
     let all : All (IsOrderOf t) orders = subst (λ l. All (IsOrderOf t) l) (sym is) (subst (λ k. All (λ (order : List ℕ). All (λ c. c < k) order) (orders_of contexts)) (ap (λ (x : Plain). length x.routes) (sym n.made)) (all_orders (length w'.routes) contexts r.play.scan.known)) in record {
       made = ap (λ (x : Plain). x.routes) n.made ∙ r.wired;
+      given = ap (λ (x : Plain). x.stop) n.made ∙ sym given;
       list = record {
         mine = c.mine;
         made = subst (λ (x : Plain). IsToPlay x tokens) (sym n.made) r.play.made;
+        within = subst (λ (x : Plain). IsWithin x.routes x.counts x.stop) (sym n.made) r.play.within;
+        unraised = ap (λ (v : Seat). v.raised) seat ∙ ap (λ (x : Plain). x.raised) r.play.opening;
         none_played = ap (λ (v : Seat). v.played) seat ∙ ap (λ (x : Plain). played_of w'.routes x.tape) r.play.opening;
         start = ap (λ (v : Seat). v.clock) seat ∙ ap (λ (x : Plain). x.clock) r.play.opening;
       };
@@ -170,12 +177,13 @@ may_drive w t plans tokens contexts orders parkers p q crew r n is c =
 
 -- A world that is left may be finished.
 pub may_finish : PutLaws → (w : World) (t : FlagTable) (plans : List Plan) (tokens : List Token) (scan : List ℕ) (p q v : Pass) (left : Plain) → MayRun (plain_of w) plans tokens scan → made_of t ≡ plain_of w
-    → IsPlayed t tokens p q → (seat_of v).played ≡ (seat_of q).played → (seat_of v).clock ≡ (seat_of q).clock → IsLeft t v left → MayFinish left scan
-may_finish law w t plans tokens scan p q v left r made played same clock l =
+    → IsPlayed t tokens p q → (seat_of v).played ≡ (seat_of q).played → (seat_of v).clock ≡ (seat_of q).clock → (seat_of v).raised ≡ (seat_of q).raised → IsLeft t v left → MayFinish left scan
+may_finish law w t plans tokens scan p q v left r made played same clock raised l =
     let routes : left.routes ≡ (plain_of w).routes = l.routes ∙ ap (λ (x : Plain). x.routes) made in let counts : left.counts ≡ (plain_of w).counts = l.counts ∙ ap (λ (x : Plain). x.counts) made in record {
       rest = l.rest;
       played = ap length (l.played ∙ (same ∙ played.exact)) ∙ (sym (law.all (plain_of w) tokens r.play.made)
           ∙ (ap (λ (x : List Route). to_play_from x 0 (plain_of w).counts) (sym routes) ∙ ap (to_play_from left.routes 0) (sym counts)));
       clock = l.clock ∙ (clock ∙ played.clock);
+      raised = λ s e. l.raised ∙ (raised ∙ played.raised s (played.mine.free.seated.stop ∙ (sym l.stop ∙ e)));
       scan = subst (λ (x : List Route). IsScanOf (length x) scan) (sym routes) r.play.scan;
     }

@@ -1,10 +1,11 @@
 -- A drive of a whole list: what it needs of the player and the processors, and what it leaves.
-use Rattle.std.specs.Prelude.{ℕ, ◌≡◌, ◌<◌, List, All, length, slice_index_or}
+use Rattle.std.specs.Prelude.{ℕ, ◌≡◌, ◌<◌, List, All, length, slice_index_or, Option}
+use Rattle.cy_msg.specs.declared.stop.Stop.{Stop}
 use Rattle.cy_msg.specs.declared.token.Token.{Token}
 use Rattle.cy_comp.specs.declared.plan.Plan.{Plan}
 use Rattle.cy_table.specs.declared.pass.Pass.{Pass}
 use Rattle.cy_table.specs.declared.table.FlagTable.{FlagTable}
-use Rattle.cy_table.specs.Calls.{seat_of, pass_number}
+use Rattle.cy_table.specs.Calls.{made_of, seat_of, pass_number}
 use Rattle.cy_run.specs.declared.crew.Worker.{Worker}
 use Rattle.cy_run.specs.Passes.{IsFree, IsMadeOf}
 use Rattle.cy_run.specs.Playing.{IsToBePlayed}
@@ -34,7 +35,9 @@ HaveWorked t contexts old new = (i : ℕ) (d : Worker) → i < length old
 
 -- All that a drive needs.
 pub record MayDrive (t : FlagTable) (plans : List Plan) (tokens : List Token)
-    (contexts : List (List ℕ)) (parkers : ℕ) (player : Pass) (crew : List Worker) : Type 0 where
+    (contexts : List (List ℕ)) (parkers : ℕ) (player : Pass) (crew : List Worker)
+    (stop : Option Stop) : Type 0 where
   pub made : IsMadeOf t plans
+  pub given : (made_of t).stop ≡ stop
   pub list : IsToBePlayed t tokens player
   pub crew_is : AreManned t contexts parkers crew

@@ -20,6 +20,7 @@ pub record IsSeated (t : FlagTable) (p : Pass) : Type 0 where
   pub here : (seat_of p).live ≡ 1
   pub routes : (seat_of p).routes ≡ (made_of t).routes
   pub counts : (seat_of p).counts ≡ (made_of t).counts
+  pub stop : (seat_of p).stop ≡ (made_of t).stop
   pub visit : (seat_of p).visit ≡ None
   pub tape : (seat_of p).tape ≡ None
 

@@ -57,3 +57,4 @@ pub record IsMustered (t : FlagTable) (p q : Pass) : Type 0 where
   pub alone : IsAlone t q
   pub played : (seat_of q).played ≡ (seat_of p).played
   pub clock : (seat_of q).clock ≡ (seat_of p).clock
+  pub raised : (seat_of q).raised ≡ (seat_of p).raised

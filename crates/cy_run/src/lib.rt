@@ -13,7 +13,7 @@
 //! them of files, and an opening world that was made for the wiring and for how many messages of
 //! the list stand on each channel:
 //!
-//!     let world = World::new(alloc, &wiring, counts)?;
+//!     let world = World::new(alloc, &wiring, counts, None)?;
 //!     let world = run_threads(rt, alloc, world, &wiring, &list, &placement, &OpenGate)?;
 //!     let trace = trace_text(alloc, &world, &wiring, list.shadowed)?;
 //!
@@ -23,6 +23,9 @@
 //!   returns.
 //! - **Time.** The clock is set to each message's time, in nanoseconds, before it is played. The
 //!   machine's own time decides nothing: a run is as fast as its components.
+//! - **Stop.** A world that is made with a stop plays with it: the player raises it when as many
+//!   messages were played as it says, and the component that it names ends at its next resume. The
+//!   player wakes nobody for that.
 //! - **Memory.** All of it is reserved before the first message. Between the making of the table
 //!   and its end nothing can fail.
 //! - **Waiting.** A run waits at doors that other threads have entered, where a processor has

@@ -1,21 +1,21 @@
 // The player: it plays the messages of a list at the table, and closes.
-ghost use Rattle.std.specs.Prelude.{◌≡◌, ◌≤◌};
+ghost use Rattle.std.specs.Prelude.{◌≡◌, ◌≤◌, ◌+◌, length};
 ghost use Rattle.wake_core.specs.Serial.{last_clock};
-ghost use Rattle.cy_table.specs.Calls.{seat_of, CanClose, Stays};
+ghost use Rattle.cy_table.specs.Calls.{made_of, seat_of, CanClose, Stays};
 ghost use Rattle.cy_run.specs.Passes.{IsMadeOf};
 ghost use Rattle.cy_run.specs.Playing.{IsFreePlayer, IsNextFor, IsToBePlayed, IsPlayed};
-ghost use Rattle.cy_run.specs.Playing.{after_play, after_end};
+ghost use Rattle.cy_run.specs.Playing.{after_play, after_end, IsRaisedBefore};
 
 use crate::Idle;
 use crate::deliver::{deliver, triggered_by};
 use cy_comp::Wiring;
-use cy_msg::{PlayList, Token};
+use cy_msg::{PlayList, Stop, Token};
 use cy_table::{FlagTable, Pass};
 use std::sync::Wait;
 use wake_core::laws;
 
 // Plays the messages of a list, one after another, when the processors came and at their pace, and
-// ends the play.
+// ends the play. The stop is raised on the way.
 pub(crate) fn play_all<R: Wait>(
     rt: &R,
     table: &FlagTable,
@@ -23,9 +23,11 @@ pub(crate) fn play_all<R: Wait>(
     idle: &Idle,
     wiring: &Wiring,
     list: &PlayList,
+    stop: Option<Stop>,
 )
     requires made { IsMadeOf table.now wiring.now.plans }
     requires list { IsToBePlayed table.now list.now.tokens player.old }
+    requires given { (made_of table.now).stop ≡ stop }
     ensures same { Stays table.now player.old player.new }
     ensures played { IsPlayed table.now list.now.tokens player.old player.new }
 {
@@ -33,11 +35,32 @@ pub(crate) fn play_all<R: Wait>(
     idle.await_all(rt);
     let lead = least_queue(wiring);
     let mut ahead = 0;
-    for token in list.tokens.as_slice() {
+    let tokens = list.tokens.as_slice();
+    for (played, token) in tokens.iter().enumerate() {
+        raise_after(table, player, stop, played);
         ahead = keep_pace(rt, token, idle, wiring, ahead, lead);
         play(rt, table, player, token, idle, wiring);
     }
+    raise_after(table, player, stop, tokens.len());
     end_play(rt, table, player, idle);
+}
+
+// Raises the stop, where so many messages are played before it.
+fn raise_after(table: &FlagTable, player: &mut Pass, stop: Option<Stop>, played: usize)
+    requires mine { IsFreePlayer table.now player.old }
+    requires given { (made_of table.now).stop ≡ stop }
+    requires all { length (seat_of player.old).played ≡ played }
+    requires before { IsRaisedBefore played (seat_of player.old) }
+    ensures same { Stays table.now player.old player.new }
+    ensures mine { IsFreePlayer table.now player.new }
+    ensures seat { seat_of player.new
+        ≡ record (seat_of player.old) { raised = (seat_of player.new).raised } }
+    ensures raised { IsRaisedBefore (played + 1) (seat_of player.new) }
+{
+    match stop {
+        Some(stop) if stop.after as usize == played => table.raise(player),
+        _ => {}
+    }
 }
 
 // Sets the clock to its greatest value, and then says that all was played.

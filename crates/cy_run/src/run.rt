@@ -30,9 +30,10 @@ use wake_core::{World, finish, laws, serial};
 /// set up a world of their own.
 pub fn run_serial(mut world: World, list: &PlayList, placement: &Placement) -> World
     requires { MayPlay (plain_of world) list.now.tokens (scan_of placement.now.contexts) }
-    ensures run { SerialRun (plain_of world).routes (scan_of placement.now.contexts)
-        list.now.tokens (run_shown (plain_of result)) }
-    ensures lawful { LawfulRun list.now.tokens (plain_of world).routes (plain_of result) }
+    ensures run { SerialRun (plain_of world).routes (plain_of world).stop
+        (scan_of placement.now.contexts) list.now.tokens (run_shown (plain_of result)) }
+    ensures lawful { LawfulRun list.now.tokens (plain_of world).routes (plain_of world).stop
+        (plain_of result) }
     ensures stays { StaysMade (plain_of world) (plain_of result) }
 {
     serial(&mut world, list, placement);
@@ -55,7 +56,7 @@ pub fn run_threads<G: Gate, R: Threads + Wait + Sync>(
     requires { MayRun (plain_of world) wiring.now.plans list.now.tokens
         (scan_of placement.now.contexts) }
     ensures lawful { IfOk result (λ w. LawfulRun list.now.tokens (routes_of wiring.now.plans)
-        (plain_of w)) }
+        (plain_of world).stop (plain_of w)) }
     ensures counts { IfOk result (λ w. (plain_of w).counts ≡ (plain_of world).counts) }
 {
     laws::put();
@@ -63,6 +64,7 @@ pub fn run_threads<G: Gate, R: Threads + Wait + Sync>(
     let processors = processors_in(placement);
     let idle = Idle::new(alloc, processors)?;
     let contexts = contexts_of(alloc, plans)?;
+    let stop = world.given();
     let Ok((table, mut player)) = FlagTable::new(alloc, world) else {
         return Err(RunError::Memory);
     };
@@ -77,6 +79,7 @@ pub fn run_threads<G: Gate, R: Threads + Wait + Sync>(
         wiring,
         list,
         gate,
+        stop,
     );
     muster(&table, &mut player, crew);
     let Ok(mut world) = table.close(alloc, player) else {

@@ -1,10 +1,11 @@
 // A call of a component by the processor that has it in hand, outside every lock and door.
 ghost use Rattle.std.specs.Prelude.{◌≡◌, Some};
 ghost use Rattle.cy_comp.specs.Calls.{last_outcome};
-ghost use Rattle.wake_core.specs.declared.phase.Phase.TheVariants.{Running, Done};
+ghost use Rattle.wake_core.specs.declared.phase.Phase.TheVariants.{Running, Stopping, Done};
 ghost use Rattle.cy_table.specs.Calls.{Stays, IsStepped, ShowsTheSame, routine_of, to_step};
 ghost use Rattle.cy_run.specs.Passes.{IsMadeOf, IsFree, IsInPhase};
-ghost use Rattle.cy_run.specs.private.Serving.{IsReady, HoldsNone, MaySendOut, IsSent, IsSentOut};
+ghost use Rattle.cy_run.specs.private.Serving.{IsReady, HoldsNone, MaySendOut, IsSent, IsEnding};
+ghost use Rattle.cy_run.specs.private.Serving.{IsSentOut};
 
 use crate::deliver::{deliver, triggered_by};
 use crate::{Gate, Idle};
@@ -34,7 +35,7 @@ pub(crate) fn serve<G: Gate, R: Wait>(
 }
 
 // Sends the output that was held back, where there is one; else calls the component on what a fetch
-// finds. Then it stores what the croutine is to do next.
+// finds, unless it is stopped. Then it stores what the croutine is to do next.
 fn resume<G: Gate, R: Wait>(
     rt: &R,
     table: &FlagTable,
@@ -49,6 +50,9 @@ fn resume<G: Gate, R: Wait>(
     ensures same { Stays table.now pass.old pass.new }
     ensures done { IsInPhase table.now Done pass.new hold.new }
 {
+    if table.resume(pass, hold) {
+        return end_stopped(rt, table, pass, hold, idle, wiring);
+    }
     match hold.token() {
         Some(_) => {
             idle.wake(hold.component());
@@ -56,6 +60,45 @@ fn resume<G: Gate, R: Wait>(
             table.yield_as(pass, hold, State::Ready);
         }
         None => call(rt, table, pass, hold, idle, wiring, gate),
+    }
+}
+
+// Ends a croutine that is stopped, once the output was sent that was held back. As one that ended of
+// itself, it sleeps for ever.
+fn end_stopped<R: Wait>(
+    rt: &R,
+    table: &FlagTable,
+    pass: &mut Pass,
+    hold: &mut Hold,
+    idle: &Idle,
+    wiring: &Wiring,
+)
+    requires made { IsMadeOf table.now wiring.now.plans }
+    requires stopping { IsInPhase table.now Stopping pass.old hold.old }
+    ensures same { Stays table.now pass.old pass.new }
+    ensures done { IsInPhase table.now Done pass.new hold.new }
+{
+    send_last(rt, table, pass, hold, idle, wiring);
+    idle.sleep(hold.component(), u64::MAX);
+    table.yield_as(pass, hold, State::Finished);
+}
+
+// Sends the output that was held back, where there is one.
+fn send_last<R: Wait>(
+    rt: &R,
+    table: &FlagTable,
+    pass: &mut Pass,
+    hold: &mut Hold,
+    idle: &Idle,
+    wiring: &Wiring,
+)
+    requires made { IsMadeOf table.now wiring.now.plans }
+    requires stopping { IsInPhase table.now Stopping pass.old hold.old }
+    ensures same { Stays table.now pass.old pass.new }
+    ensures ending { IsEnding table.now pass.new hold.new }
+{
+    if hold.token().is_some() {
+        send(rt, table, pass, hold, idle, wiring);
     }
 }
 

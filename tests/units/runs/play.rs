@@ -3,6 +3,7 @@
 
 mod messages;
 mod played;
+mod stops;
 mod threads;
 mod wired;
 mod worlds;

@@ -1,6 +1,7 @@
-use Rattle.cy_table.specs.Calls.{Stays}
-use Rattle.cy_run.specs.Playing.{PlaysOn}
+use Rattle.cy_table.specs.Calls.{Stays, seat_of}
+use Rattle.cy_run.specs.Playing.{PlaysOn, IsRaisedBefore}
 use Rattle.cy_run.proofs.play.play_all.Given as goal
 
-abbrev pub invariant-loop-token : goal.invariant-loop-token
-invariant-loop-token g l = Stays l.table l.initial.player l.player × PlaysOn l.table l.list.tokens l.token-index l.initial.player l.player
+abbrev pub invariant-loop-played : goal.invariant-loop-played
+invariant-loop-played g l = Stays l.table l.initial.player l.player × PlaysOn l.table l.list.tokens l.played l.initial.player l.player
+    × IsRaisedBefore l.played (seat_of l.player)

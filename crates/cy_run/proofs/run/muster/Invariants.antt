@@ -11,4 +11,5 @@ invariant-loop-worker l =
     × (into_iter_len l.worker-iterator ≡ length (into_iter_items l.worker-iterator))
     × IsFreePlayer l.table l.player × ((seat_of l.player).split ≡ length (into_iter_items l.worker-iterator))
     × ((seat_of l.player).played ≡ (seat_of l.initial.player).played) × ((seat_of l.player).clock ≡ (seat_of l.initial.player).clock)
+    × ((seat_of l.player).raised ≡ (seat_of l.initial.player).raised)
     × All (λ w. IsFree l.table w.pass) (into_iter_items l.worker-iterator)
