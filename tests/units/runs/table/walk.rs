@@ -68,7 +68,8 @@ fn follow<R: Wait>(
     }
 }
 
-/// Resumes component 0, which is READY: what it fetched, and what it sent. One that is stopped ends.
+/// Resumes component 0, which is READY: what it fetched, and what it sent. Where it is stopped it
+/// ends.
 pub(crate) fn resume<R: Wait>(
     rt: &R,
     table: &FlagTable,
