@@ -1,6 +1,7 @@
 -- The worlds of the worked runs, computed.
-use Rattle.std.proofs.Common.{ℕ, ◌≡◌, ◌≢◌, refl, sym, subst, inl, inr, arith, true, List, [], ◌∷◌, Some, None}
+use Rattle.std.proofs.Common.{ℕ, ◌≡◌, ◌≢◌, refl, sym, ap, subst, inl, inr, arith, true, false, List, [], ◌∷◌, Some, None}
 use Rattle.std.proofs.lemmas.Bool.Decides.{eqb_tells}
+use Rattle.std.proofs.lemmas.Option.{same_Some}
 use Rattle.cy_msg.specs.declared.token.Tuple.{Tuple}
 use Rattle.cy_msg.specs.declared.token.Tuple.TheVariants.{One}
 use Rattle.cy_fuse.specs.Fusion.{fused}
@@ -8,12 +9,12 @@ use Rattle.cy_fuse.specs.Fetch.{fetch}
 use Rattle.cy_comp.specs.Step.{outcome_after}
 use Rattle.cy_comp.specs.Calls.{outs, last_outcome}
 use Rattle.wake_core.specs.Run.{set_at}
-use Rattle.wake_core.specs.Plain.{Plain, opening_world}
-use Rattle.cy_comp.specs.declared.state.State.TheVariants.{DataWait}
-use Rattle.wake_core.specs.Events.{Closes}
-use Rattle.wake_core.specs.WorldCalls.{MayClose}
+use Rattle.wake_core.specs.Plain.{Plain, Stop, opening_world}
+use Rattle.cy_comp.specs.declared.state.State.TheVariants.{DataWait, Finished}
+use Rattle.wake_core.specs.Events.{Checks, Closes, after_check, after_stop}
+use Rattle.wake_core.specs.WorldCalls.{in_hand, MayCheck, MayStop, MayClose}
 use Rattle.wake_core_tests.specs.Groups.{MayCome, MayTell, MayTake, MayTakeWoken, MayAskAgain, MayGiveBack, MayTurn, after_message, after_news, after_take, after_wake, after_fetching, after_back, after_turn}
-use Rattle.wake_core_tests.specs.Runs.{passing, summing, message, passed_on, called_once, parked_too_late, four_came, parked_once, HadCalls}
+use Rattle.wake_core_tests.specs.Runs.{passing, summing, message, passed_on, called_once, parked_too_late, four_came, parked_once, stop_after_one, stopped_once, HadCalls}
 
 -- There is a writer.
 written : {X : Type 0} (x : X) → Some x ≢ None
@@ -262,6 +263,101 @@ sum_never_called = record { calls = refl; cursor = refl }
 pub sum_waits : (after_back DataWait (after_fetching sum_again)).states 0 ≡ DataWait
 unfolding parked_once set_at fused fetch
 sum_waits = refl
+
+-- A stop behind the first of two messages.
+abbrev pub stop_opened : Plain
+stop_opened = opening_world (passing 1 ∷ []) (2 ∷ 0 ∷ []) (Some stop_after_one)
+
+abbrev pub stop_came : Plain
+stop_came = after_message (message 1) stop_opened
+
+abbrev pub stop_passed_on : Plain
+stop_passed_on = after_turn (passed_on 1) stop_came
+
+-- It is raised when one message was played, and not before.
+not_yet : (s : Stop) → Some stop_after_one ≡ Some s → 0 ≡ s.after → false ≡ true
+not_yet s given now = absurd (let one : 1 ≡ s.after = ap (λ (x : Stop). x.after) (same_Some stop_after_one s given) in omega (arith, now, one))
+
+pub stop_first : MayCome (message 1) stop_opened
+stop_first = record {
+  owes = record { filled = refl; looked = refl; cleared = refl };
+  later = omega arith;
+  raised = not_yet;
+  next = record { unwritten = refl; next = refl; within = omega arith };
+  read = refl;
+}
+
+pub stop_turn : MayTurn (passed_on 1) stop_came
+unfolding set_at fused fetch outs last_outcome outcome_after
+stop_turn = record {
+  takes = record { known = omega arith; nobody = λ p. refl; not_due = λ d. d };
+  asks = record { held = refl; ready = refl; none_held = refl; unstopped = refl };
+  sends = record {
+    owes = record { filled = refl; looked = refl; cleared = refl };
+    held = refl;
+    at_once = refl;
+    unsent = refl;
+    written = written 0;
+    unread = refl;
+    yields = refl;
+    all = refl;
+  };
+}
+
+pub stops_now : MayStop stop_passed_on
+unfolding set_at fused fetch outs last_outcome outcome_after
+stops_now = record {
+  owes = record { filled = refl; looked = refl; cleared = refl };
+  given = stop_after_one;
+  there = refl;
+  unraised = refl;
+  played = refl;
+  effect = refl;
+}
+
+pub stop_second : MayCome (message 2) (after_stop stop_passed_on)
+unfolding set_at fused fetch outs last_outcome outcome_after
+stop_second = record {
+  owes = record { filled = refl; looked = refl; cleared = refl };
+  later = omega arith;
+  raised = λ s given now. refl;
+  next = record { unwritten = refl; next = refl; within = omega arith };
+  read = refl;
+}
+
+-- The component hears of it, and ends.
+pub stop_taken : MayTake stopped_once
+unfolding stopped_once set_at fused fetch outs last_outcome outcome_after
+stop_taken = record {
+  known = omega arith;
+  nobody = λ p. elim (eqb_tells p 1) [ inl h ↦ rw h.0 | inr h ↦ rw h.0 ];
+  not_due = λ d. d;
+}
+
+pub hears : MayCheck 1 (after_take stopped_once)
+unfolding stopped_once set_at fused fetch outs last_outcome outcome_after
+hears = record { held = refl; ready = refl; effect = refl }
+
+abbrev pub stop_heard : Plain
+stop_heard = after_check 1 0 (after_take stopped_once)
+
+pub heard : (w v : Plain) → w ≡ after_take stopped_once → Checks 1 (in_hand 1 w) w v → v ≡ stop_heard
+unfolding set_at
+heard w v is checks =
+    let taken = after_take stopped_once in
+    let h : Checks 1 (in_hand 1 taken) taken v = subst (λ (x : Plain). Checks 1 (in_hand 1 x) x v) is checks in h.effect
+
+pub ends_then : MayGiveBack Finished stop_heard
+unfolding stopped_once set_at fused fetch outs last_outcome outcome_after
+ends_then = record { owes = record { filled = refl; looked = refl; cleared = refl }; held = inr (inr (inr (inl refl, refl, refl))) }
+
+pub called_before : HadCalls ((1, 1, One (message 1)) ∷ []) 2 (after_back Finished stop_heard)
+unfolding stopped_once set_at fused fetch outs last_outcome outcome_after
+called_before = record { calls = refl; cursor = refl }
+
+pub stop_ended : (after_back Finished stop_heard).states 0 ≡ Finished
+unfolding set_at
+stop_ended = refl
 
 -- Closing changes no call.
 pub closed_on : {told : List (ℕ × ℕ × Tuple)} {next : ℕ} (w v : Plain) → Closes w v → HadCalls told next w → HadCalls told next v

@@ -1,9 +1,10 @@
 -- The worlds of worked runs, and what the runs come to.
-use Rattle.std.specs.Prelude.{ℕ, ◌≡◌, ◌∷◌, [], List, map, None}
+use Rattle.std.specs.Prelude.{ℕ, ◌≡◌, ◌∷◌, [], List, map, Some, None}
 use Rattle.cy_msg.specs.declared.token.Token.{Token}
 use Rattle.cy_msg.specs.declared.token.Tuple.{Tuple}
 use Rattle.cy_comp.specs.declared.kind.Kind.TheVariants.{Pass, Sum}
-use Rattle.wake_core.specs.Plain.{Plain, opening_world}
+use Rattle.wake_core.specs.Plain.{Plain, Stop, opening_world}
+use Rattle.wake_core.specs.Events.{after_stop}
 use Rattle.wake_core.specs.declared.route.Route.{Route}
 use Rattle.cy_comp.specs.declared.state.State.TheVariants.{DataWait}
 use Rattle.wake_core_tests.specs.Groups.{after_message, after_news, after_take}
@@ -43,6 +44,16 @@ four_came = after_message (message 4) (after_message (message 3) (after_message 
 unfoldable pub parked_once : Plain
 parked_once = after_back DataWait (after_fetching (after_take
     (after_message (message 1) (opening_world (summing ∷ []) (2 ∷ 0 ∷ 0 ∷ []) None))))
+
+-- The first of two messages was played and passed on. Then the component was stopped, and the
+-- second message came.
+abbrev pub stop_after_one : Stop
+stop_after_one = record { component = 0; after = 1 }
+
+unfoldable pub stopped_once : Plain
+stopped_once = after_message (message 2) (after_stop (after_turn (passed_on 1)
+    (after_message (message 1)
+    (opening_world (passing 1 ∷ []) (2 ∷ 0 ∷ []) (Some stop_after_one)))))
 
 -- Component 0 had these calls, each told by its position, its tail and its tuple, and its next
 -- fetch begins at this number.

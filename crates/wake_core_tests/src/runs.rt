@@ -2,14 +2,14 @@
 ghost use Rattle.std.specs.Prelude.{◌≡◌, ◌∷◌, [], true, IfOk, IfErr};
 ghost use Rattle.cy_msg.specs.declared.token.Tuple.TheVariants.{One};
 ghost use Rattle.wake_core.specs.declared.error.CoreError.TheVariants as CoreError;
-ghost use Rattle.cy_comp.specs.declared.state.State.TheVariants.{DataWait};
+ghost use Rattle.cy_comp.specs.declared.state.State.TheVariants.{DataWait, Finished};
 ghost use Rattle.wake_core.specs.WorldOf.{plain_of};
 ghost use Rattle.wake_core_tests.specs.Groups.{Shows};
 ghost use Rattle.wake_core_tests.specs.Runs.{message, called_once, parked_too_late, four_came};
-ghost use Rattle.wake_core_tests.specs.Runs.{parked_once, HadCalls};
+ghost use Rattle.wake_core_tests.specs.Runs.{parked_once, stopped_once, HadCalls};
 
 use crate::groups::{call, give_back, play, take, take_woken, tell, turn};
-use crate::wired::{passing, summing};
+use crate::wired::{passing, stopping, summing};
 use cy_comp::State;
 use cy_msg::Token;
 use std::alloc::Global;
@@ -169,6 +169,32 @@ fn sum_never_fuses(alloc: Global) -> Result<World, CoreError>
     Ok(world)
 }
 
+// The component is called on a message and stopped, and then another message comes.
+fn stop_once(alloc: Global) -> Result<World, CoreError>
+    ensures shown { IfOk result (Shows stopped_once) }
+    ensures memory { IfErr result (λ e. e ≡ CoreError.Memory) }
+{
+    let mut world = stopping(alloc)?;
+    play(&mut world, FIRST);
+    turn(&mut world, FIRST_PASSED);
+    world.stop(0);
+    play(&mut world, SECOND);
+    Ok(world)
+}
+
+// Where it is resumed next it hears of the stop, and ends without a call.
+fn end_stopped(alloc: Global) -> Result<World, CoreError>
+    ensures called { IfOk result (λ w. HadCalls ((1, 1, One (message 1)) ∷ []) 2 (plain_of w)) }
+    ensures ended { IfOk result (λ w. (plain_of w).states 0 ≡ Finished) }
+    ensures memory { IfErr result (λ e. e ≡ CoreError.Memory) }
+{
+    let mut world = stop_once(alloc)?;
+    take(&mut world);
+    world.check(1);
+    give_back(&mut world, State::Finished);
+    Ok(world)
+}
+
 #[test]
 fn wakes_a_component_that_parks_while_a_message_comes(rt: HostRuntime) -> Result<(), Fail> {
     park_race(rt.alloc())?;
@@ -190,5 +216,11 @@ fn skips_to_the_newest_of_four(rt: HostRuntime) -> Result<(), Fail> {
 #[test]
 fn wakes_and_parks_where_nothing_is_joined(rt: HostRuntime) -> Result<(), Fail> {
     sum_never_fuses(rt.alloc())?;
+    Ok(())
+}
+
+#[test]
+fn ends_a_stopped_component_without_a_call(rt: HostRuntime) -> Result<(), Fail> {
+    end_stopped(rt.alloc())?;
     Ok(())
 }

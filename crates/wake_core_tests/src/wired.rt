@@ -1,5 +1,6 @@
 // Worlds of one component, before anything happens.
-ghost use Rattle.std.specs.Prelude.{◌≡◌, ◌≤◌, ◌++◌, ◌∷◌, [], None, IfOk, IfErr, length};
+ghost use Rattle.std.specs.Prelude.{◌≡◌, ◌≤◌, ◌++◌, ◌∷◌, [], Some, None, IfOk, IfErr};
+ghost use Rattle.std.specs.Prelude.{length};
 ghost use Rattle.std.specs.List.{Contains};
 ghost use Rattle.cy_comp.specs.Wiring.{IsWiring};
 ghost use Rattle.wake_core.specs.declared.error.CoreError.TheVariants as CoreError;
@@ -7,9 +8,10 @@ ghost use Rattle.wake_core.specs.Run.{routes_of};
 ghost use Rattle.wake_core.specs.Plain.{opening_world};
 ghost use Rattle.wake_core_tests.specs.Groups.{Shows};
 ghost use Rattle.wake_core_tests.specs.Runs.{passing as passing_route, summing as summing_route};
+ghost use Rattle.wake_core_tests.specs.Runs.{stop_after_one};
 
 use cy_comp::{Kind, Plan, Wiring};
-use cy_msg::{Items, Names, Text};
+use cy_msg::{Items, Names, Stop, Text};
 use std::alloc::Global;
 use wake_core::{CoreError, World};
 
@@ -25,6 +27,21 @@ pub(crate) fn passing(alloc: Global, queue: u32, count: u32) -> Result<World, Co
     let plan = plan(alloc, Kind::Pass, &[0], queue, 1)?;
     let wiring = wired(alloc, two_names(alloc)?, plan)?;
     World::new(alloc, &wiring, &[count, 0], None)
+}
+
+/// The same for two messages, with a stop of the component behind the first one.
+pub(crate) fn stopping(alloc: Global) -> Result<World, CoreError>
+    ensures opening { IfOk result (Shows (opening_world (passing_route 1 ∷ []) (2 ∷ 0 ∷ [])
+        (Some stop_after_one))) }
+    ensures memory { IfErr result (λ e. e ≡ CoreError.Memory) }
+{
+    let plan = plan(alloc, Kind::Pass, &[0], 1, 1)?;
+    let wiring = wired(alloc, two_names(alloc)?, plan)?;
+    let stop = Stop {
+        component: 0,
+        after: 1,
+    };
+    World::new(alloc, &wiring, &[2, 0], Some(stop))
 }
 
 /// The world of a component that sums the values of /a and /b and writes /o, for two messages of
