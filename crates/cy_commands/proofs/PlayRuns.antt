@@ -1,5 +1,5 @@
 -- A replay that was played, and what is told of it.
-use Rattle.std.proofs.Common.{ℕ, Bool, true, false, ◌≡◌, ◌≤◌, List, length, ap, subst, ◌∙◌, arith}
+use Rattle.std.proofs.Common.{ℕ, Bool, true, false, ◌≡◌, ◌≤◌, List, length, None, ap, subst, ◌∙◌, arith}
 use Rattle.cy_msg.specs.Placement.{scan_of}
 use Rattle.cy_request.specs.declared.filter.Filter.{Filter}
 use Rattle.wake_core.specs.Bounds.{PlaceLaws}
@@ -30,13 +30,17 @@ not_too_many x counts n same few many =
     omega (arith, p, more, few)
 
 -- the serial run from the opening world is one that was asked for
-pub serial_run : (serial : Bool) (x : Replay) (first new : Plain) → first ≡ opening_world (routes_of x.wiring.plans) x.counts
-    → SerialRun first.routes (scan_of x.placement.contexts) x.list.tokens (run_shown new) → IsRunOf serial (routes_of x.wiring.plans) (scan_of x.placement.contexts) x.list.tokens new
-serial_run true x first new opens run = subst (λ (w : Plain). SerialRun w.routes (scan_of x.placement.contexts) x.list.tokens (run_shown new)) opens run
+pub serial_run : (serial : Bool) (x : Replay) (first new : Plain) → first ≡ opening_world (routes_of x.wiring.plans) x.counts None
+    → SerialRun first.routes first.stop (scan_of x.placement.contexts) x.list.tokens (run_shown new) → IsRunOf serial (routes_of x.wiring.plans) (scan_of x.placement.contexts) x.list.tokens new
+serial_run true x first new opens run = subst (λ (w : Plain). SerialRun w.routes w.stop (scan_of x.placement.contexts) x.list.tokens (run_shown new)) opens run
 serial_run false x first new opens run = tt
 
-pub lawful_run : (x : Replay) (first new : Plain) → first ≡ opening_world (routes_of x.wiring.plans) x.counts → LawfulRun x.list.tokens first.routes new → LawfulRun x.list.tokens (routes_of x.wiring.plans) new
-lawful_run x first new opens lawful = subst (λ (w : Plain). LawfulRun x.list.tokens w.routes new) opens lawful
+pub lawful_run : (x : Replay) (first new : Plain) → first ≡ opening_world (routes_of x.wiring.plans) x.counts None → LawfulRun x.list.tokens first.routes first.stop new → LawfulRun x.list.tokens (routes_of x.wiring.plans) None new
+lawful_run x first new opens lawful = subst (λ (w : Plain). LawfulRun x.list.tokens w.routes w.stop new) opens lawful
+
+-- on threads too, no stop is given
+pub threads_run : (x : Replay) (first new : Plain) → first ≡ opening_world (routes_of x.wiring.plans) x.counts None → LawfulRun x.list.tokens (routes_of x.wiring.plans) first.stop new → LawfulRun x.list.tokens (routes_of x.wiring.plans) None new
+threads_run x first new opens lawful = subst (λ (w : Plain). LawfulRun x.list.tokens (routes_of x.wiring.plans) w.stop new) opens lawful
 
 pub any_run : (serial : Bool) (x : Replay) (new : Plain) → serial ≡ false → IsRunOf serial (routes_of x.wiring.plans) (scan_of x.placement.contexts) x.list.tokens new
 any_run true x new e = cc
@@ -52,8 +56,8 @@ planned_as x w routes counts few =
     omega (arith, same, few)
 
 -- a lawful run from the opening world can be written, and its trace is read back
-pub has_run : (serial : Bool) (f : Filter) (x : Replay) (first new : Plain) → PlacesAreThere → PlaceLaws → IsSetUp f x → first ≡ opening_world (routes_of x.wiring.plans) x.counts
-    → IsRunOf serial (routes_of x.wiring.plans) (scan_of x.placement.contexts) x.list.tokens new → LawfulRun x.list.tokens (routes_of x.wiring.plans) new → new.counts ≡ first.counts → ReadsBack x new → HasRun serial x new
+pub has_run : (serial : Bool) (f : Filter) (x : Replay) (first new : Plain) → PlacesAreThere → PlaceLaws → IsSetUp f x → first ≡ opening_world (routes_of x.wiring.plans) x.counts None
+    → IsRunOf serial (routes_of x.wiring.plans) (scan_of x.placement.contexts) x.list.tokens new → LawfulRun x.list.tokens (routes_of x.wiring.plans) None new → new.counts ≡ first.counts → ReadsBack x new → HasRun serial x new
 has_run serial f x first new places stand s opens run lawful stays reads =
     let counts : new.counts ≡ x.counts = stays ∙ ap (λ (w : Plain). w.counts) opens in
     let many : length new.counts ≡ length x.wiring.names = ap length counts ∙ s.many in

@@ -69,7 +69,7 @@ module _ (stand : PlaceLaws) (Q : Option ℕ → Type 0) (none : Q None) (w : Pl
   tape_good zero i t less on = absurd (omega (arith, less))
   tape_good (suc k) i t less on = token_good i t on (λ j m sooner at. tape_good k j m (omega (arith, sooner, less)) at)
 
-pub lawful_origins : PlaceLaws → (whole : Contents) (choice : Choice) (list : PlayList) (routes : List Route) (w : Plain) → IsPlayList whole choice list → LawfulRun list.tokens routes w
+pub lawful_origins : PlaceLaws → (whole : Contents) (choice : Choice) (list : PlayList) (routes : List Route) (w : Plain) → IsPlayList whole choice list → LawfulRun list.tokens routes None w
     → (n o : ℕ) (t : Token) → slice_get w.tape n ≡ Some t → t.origin ≡ Some o → o < length list.places
 lawful_origins stand whole choice list routes w is lawful n o t at e =
     let Q : Option ℕ → Type 0 = IsAmong (length list.places) in

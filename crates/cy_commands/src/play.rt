@@ -1,5 +1,5 @@
 // The commands `play` and `pass` on one thread.
-ghost use Rattle.std.specs.Prelude.{◌≡◌, ◌≤◌, ◌<◌, ℕ, length, Ok, IfOk, OnOk, IsErrOf};
+ghost use Rattle.std.specs.Prelude.{◌≡◌, ◌≤◌, ◌<◌, ℕ, length, None, Ok, IfOk, OnOk, IsErrOf};
 ghost use Rattle.std.specs.Prelude.{IsOkUnless};
 ghost use Rattle.std.specs.Option.{option_map};
 ghost use Rattle.cy_store.specs.Store.{StoreView, WriteRose};
@@ -71,13 +71,13 @@ pub(crate) fn read_files<S: Store>(
     replay
 }
 
-/// The world of a replay, in which nothing has happened.
+/// The world of a replay, with no stop, in which nothing has happened.
 pub fn opening(alloc: Global, play: &Play, replay: &Replay) -> Result<World, AllocError>
     requires { IsSetUp (play_words_of play.now).request.filter replay.now }
     ensures opens { IfOk result (λ w. plain_of w
-        ≡ opening_world (routes_of replay.now.wiring.plans) replay.now.counts) }
+        ≡ opening_world (routes_of replay.now.wiring.plans) replay.now.counts None) }
 {
-    match World::new(alloc, &replay.wiring, replay.counts.as_slice()) {
+    match World::new(alloc, &replay.wiring, replay.counts.as_slice(), None) {
         Ok(world) => Ok(world),
         Err(CoreError::Memory) => Err(AllocError),
         Err(CoreError::TooMany { .. }) => unreachable!(),

@@ -1,7 +1,7 @@
 // Drives a world by its events: which events may happen, that each does, and what holds after it.
 use crate::{Phase, World, finish};
 use cy_comp::{Kind, Outcome, Plan, State, Wiring};
-use cy_msg::{ContextPlan, Items, Names, Placement, Text, Token, Tuple};
+use cy_msg::{ContextPlan, Items, Names, Placement, Stop, Text, Token, Tuple};
 use std::test::Fail;
 
 /// An event of a thread, or the step of the component in hand.
@@ -22,6 +22,7 @@ pub(crate) enum Event {
     Yield(State),
     Release,
     Tick(u64),
+    Stop,
     Close,
 }
 
@@ -61,12 +62,14 @@ fn wiring(rt: &HostRuntime, channels: &[&str], rows: &[Row]) -> Result<Wiring, F
 }
 
 impl Driven {
-    /// The opening world of some components, for messages given by channel, time and value.
+    /// The opening world of some components, with a stop or none, for messages given by channel,
+    /// time and value.
     pub(crate) fn new(
         rt: &HostRuntime,
         channels: &[&str],
         rows: &[Row],
         messages: &[(u32, u64, i64)],
+        stop: Option<Stop>,
     ) -> Result<Self, Fail> {
         let wiring = wiring(rt, channels, rows)?;
         let mut counts = vec![in rt.alloc(); 0; channels.len()]?;
@@ -82,7 +85,7 @@ impl Driven {
             })?;
         }
         Ok(Driven {
-            world: World::new(rt.alloc(), &wiring, &counts, None)?,
+            world: World::new(rt.alloc(), &wiring, &counts, stop)?,
             list,
             next: 0,
             tuples: vec![in rt.alloc(); None; rows.len()]?,
@@ -137,11 +140,10 @@ impl Driven {
                     events.push(Event::Check)?;
                 }
             }
-            Phase::Checked => match self.world.unsent(croutine) {
-                None => events.push(Event::Ask)?,
-                Some(token) if owes_nothing => events.push(Event::Send(token))?,
-                Some(_) => {}
-            },
+            Phase::Checked if self.world.unsent(croutine).is_none() => events.push(Event::Ask)?,
+            Phase::Checked if owes_nothing => events.push(self.send_or_end(croutine))?,
+            Phase::Stopping if owes_nothing => events.push(self.send_or_end(croutine))?,
+            Phase::LastSending if owes_nothing => events.push(self.send_or_end(croutine))?,
             Phase::Asked => events.push(Event::Fetch)?,
             Phase::Empty if owes_nothing => events.push(Event::Yield(State::DataWait))?,
             Phase::Running if self.tuples[croutine as usize].is_some() => {
@@ -153,6 +155,14 @@ impl Driven {
             _ => {}
         }
         Ok(())
+    }
+
+    // Its unsent output is sent; one that has none ends.
+    fn send_or_end(&self, croutine: u32) -> Event {
+        match self.world.unsent(croutine) {
+            Some(token) => Event::Send(token),
+            None => Event::Yield(State::Finished),
+        }
     }
 
     // What comes after a step, where nothing is owed.
@@ -210,8 +220,30 @@ impl Driven {
         Ok(())
     }
 
+    // Whether the stop is to be raised before anything more is played.
+    fn is_stop_due(&self) -> bool {
+        match self.world.given() {
+            Some(stop) => !self.world.raised && stop.after as usize == self.next,
+            None => false,
+        }
+    }
+
+    // Whether the raised stop names the croutine that a thread has in hand.
+    fn is_stopped(&self, thread: u32) -> bool {
+        match (self.world.given(), self.world.hands[thread as usize]) {
+            (Some(stop), Some(hand)) => self.world.raised && stop.component == hand.croutine,
+            _ => false,
+        }
+    }
+
     /// The events that the player may choose by itself.
     pub(crate) fn push_played(&self, events: &mut Vec<Event>) -> Result<(), Fail> {
+        if self.is_stop_due() {
+            if self.owes_nothing(0) {
+                events.push(Event::Stop)?;
+            }
+            return Ok(());
+        }
         match self.list.get(self.next) {
             Some(token) if self.world.clock < token.time => events.push(Event::Tick(token.time))?,
             Some(token) if self.owes_nothing(0) => events.push(Event::Tape(*token))?,
@@ -238,7 +270,10 @@ impl Driven {
                 self.world.spend(thread);
             }
             Event::Ready => self.world.ready(thread),
-            Event::Check => holds(!self.world.check(thread), "none is stopped without a stop")?,
+            Event::Check => {
+                let is_stopped = self.is_stopped(thread);
+                holds(self.world.check(thread) == is_stopped, "check hears the raised stop")?;
+            }
             Event::Ask => self.world.ask(thread),
             Event::Fetch => self.fetch(thread)?,
             Event::Step => self.step(thread),
@@ -256,6 +291,7 @@ impl Driven {
             Event::Yield(state) => self.world.yield_as(thread, state),
             Event::Release => self.world.release(thread),
             Event::Tick(time) => self.world.tick(thread, time),
+            Event::Stop => self.world.stop(thread),
             Event::Close => self.world.close(thread),
         }
         Ok(())
@@ -343,6 +379,9 @@ impl Driven {
             self.push_played(&mut events)?;
             self.happen(0, events[0])?;
             self.wind_up(rt, 1)?;
+        }
+        if self.is_stop_due() {
+            self.happen(0, Event::Stop)?;
         }
         self.world.tick(0, u64::MAX);
         let mut order = Vec::new(rt.alloc());

@@ -1,7 +1,7 @@
 // Worked lists of events, and random lists of those that may happen.
 use super::driven::{Driven, Event, Row, holds};
 use cy_comp::{Kind, State};
-use cy_msg::{Token, Tuple};
+use cy_msg::{Stop, Token, Tuple};
 use std::test::Fail;
 
 // How many random lists are driven, and how many events each has at most.
@@ -36,12 +36,23 @@ fn tell(driven: &mut Driven) -> Result<bool, Fail> {
 
 // A component that passes messages on, with so many of them at time 0; it keeps `queue` tuples.
 fn passing(rt: &HostRuntime, queue: u32, messages: usize) -> Result<Driven, Fail> {
+    passing_until(rt, queue, messages, None)
+}
+
+// The same with a stop or none.
+fn passing_until(
+    rt: &HostRuntime,
+    queue: u32,
+    messages: usize,
+    stop: Option<Stop>,
+) -> Result<Driven, Fail> {
     let list = [(0, 0, 1), (0, 0, 2), (0, 0, 3), (0, 0, 4)];
     Driven::new(
         rt,
         &["/a", "/o"],
         &[(Kind::Pass, &[0], queue, 1)],
         &list[..messages],
+        stop,
     )
 }
 
@@ -120,7 +131,7 @@ fn wakes_and_parks_where_nothing_is_joined(rt: HostRuntime) -> Result<(), Fail> 
     use Event::{Acquire, Ask, Check, Clear, Fetch, Ready, Release, Spend, Yield};
     let rows: [Row; 1] = [(Kind::Sum, &[0, 1], 1, 2)];
     let list = [(0, 0, 1), (0, 0, 2)];
-    let mut driven = Driven::new(&rt, &["/a", "/b", "/o"], &rows, &list)?;
+    let mut driven = Driven::new(&rt, &["/a", "/b", "/o"], &rows, &list, None)?;
     tape(&mut driven)?;
     assert!(rt; !tell(&mut driven)?);
     let parks = [Check, Ask, Fetch, Yield(State::DataWait), Release];
@@ -134,6 +145,53 @@ fn wakes_and_parks_where_nothing_is_joined(rt: HostRuntime) -> Result<(), Fail> 
     assert_eq!(rt; driven.state(0), State::DataWait);
     assert_eq!(rt; driven.world.routine(0).cursor().next(), 0);
     driven.end(&rt, 2)
+}
+
+// The stop comes between the first call and the second message, which wakes nobody by itself.
+#[test]
+fn ends_a_stopped_component_without_a_call(rt: HostRuntime) -> Result<(), Fail> {
+    use Event::{Acquire, Check, Release, Spend, Yield};
+    let stop = Stop {
+        component: 0,
+        after: 1,
+    };
+    let mut driven = passing_until(&rt, 1, 2, Some(stop))?;
+    tape(&mut driven)?;
+    tell(&mut driven)?;
+    call(&mut driven)?;
+    drive(&mut driven, 0, &[Event::Stop])?;
+    tape(&mut driven)?;
+    tell(&mut driven)?;
+    drive(&mut driven, 1, &[Acquire(0), Spend, Check, Yield(State::Finished), Release])?;
+    assert_eq!(rt; driven.state(0), State::Finished);
+    driven.end(&rt, 2)?;
+    assert_eq!(rt; driven.world.routine(0).calls().len(), 1);
+    Ok(())
+}
+
+// A held output of a stopped component is sent before it ends.
+#[test]
+fn sends_what_a_stopped_component_holds_back(rt: HostRuntime) -> Result<(), Fail> {
+    use Event::{Acquire, Ask, Check, Fetch, Ready, Release, Send, Spend, Step, Tick, Yield};
+    let rows: [Row; 1] = [(Kind::Hold { delay: 2 }, &[0], 1, 1)];
+    let stop = Stop {
+        component: 0,
+        after: 1,
+    };
+    let mut driven = Driven::new(&rt, &["/a", "/o"], &rows, &[(0, 0, 1)], Some(stop))?;
+    tape(&mut driven)?;
+    tell(&mut driven)?;
+    drive(&mut driven, 1, &[Acquire(0), Spend, Check, Ask, Fetch, Step])?;
+    drive(&mut driven, 1, &[Yield(State::Sleep { until: 2 }), Release])?;
+    drive(&mut driven, 0, &[Event::Stop, Tick(3)])?;
+    let Some(out) = driven.world.unsent(0) else {
+        return Err(Fail::from("no output"));
+    };
+    drive(&mut driven, 1, &[Acquire(0), Ready, Check, Send(out), Yield(State::Finished), Release])?;
+    assert_eq!(rt; driven.state(0), State::Finished);
+    driven.end(&rt, 2)?;
+    assert_eq!(rt; driven.world.tape_list().len(), 2);
+    Ok(())
 }
 
 // The next number of a sequence without a pattern, below a bound.
@@ -165,6 +223,17 @@ fn drive_one(
     driven.check()
 }
 
+// A stop of one of three components, behind any of twelve messages or before them; or none.
+fn draw_stop(seed: &mut u64) -> Option<Stop> {
+    if draw(seed, 2) == 0 {
+        return None;
+    }
+    Some(Stop {
+        component: draw(seed, 3) as u32,
+        after: draw(seed, 13) as u32,
+    })
+}
+
 // Drives a random list of events over three components, and ends the run.
 fn drive_list(rt: &HostRuntime, seed: &mut u64) -> Result<u64, Fail> {
     let rows: [Row; 3] = [
@@ -176,7 +245,9 @@ fn drive_list(rt: &HostRuntime, seed: &mut u64) -> Result<u64, Fail> {
     for (place, message) in messages.iter_mut().enumerate() {
         *message = (draw(seed, 2) as u32, place as u64 / 2, place as i64);
     }
-    let mut driven = Driven::new(rt, &["/a", "/b", "/h", "/s", "/t"], &rows, &messages)?;
+    let stop = draw_stop(seed);
+    let channels = ["/a", "/b", "/h", "/s", "/t"];
+    let mut driven = Driven::new(rt, &channels, &rows, &messages, stop)?;
     let mut events = Vec::new(rt.alloc());
     for _ in 0..EVENTS {
         drive_one(&mut driven, &mut events, seed)?;

@@ -1,5 +1,6 @@
 -- What `play` makes of its files.
 use Rattle.std.specs.Prelude.{ℕ, ◌≡◌, ⊤, Bool, true, false, List, [], ◌∷◌, ◌++◌, length, map}
+use Rattle.std.specs.Prelude.{None}
 use Rattle.std.specs.FinMap.{insert}
 use Rattle.cy_store.specs.Files.{Files}
 use Rattle.cy_store.specs.Reads.{Reads}
@@ -59,15 +60,17 @@ play_line s list run = summary_line (length list.tokens) list.shadowed (calls_fr
     (length run.tape)
 
 -- The run that a world shows is the serial one, where that is asked for; on threads it may be any.
+-- No component is stopped in either.
 abbrev pub IsRunOf : (serial : Bool) → List Route → List ℕ → List Token → Plain → Type 0
-IsRunOf true routes scan tokens w = SerialRun routes scan tokens (run_shown w)
+IsRunOf true routes scan tokens w = SerialRun routes None scan tokens (run_shown w)
 IsRunOf false routes scan tokens w = ⊤
 
--- A lawful run of the play list over the placed components: the serial one, where it is asked for.
+-- A lawful run of the play list over the placed components, with no stop: the serial one, where it
+-- is asked for.
 pub record IsPlayed (serial : Bool) (read : Replayed) (list : PlayList)
     (contexts : List ContextPlan) (w : Plain) : Type 0 where
   pub run : IsRunOf serial (routes_of read.wired.plans) (scan_of contexts) list.tokens w
-  pub lawful : LawfulRun list.tokens (routes_of read.wired.plans) w
+  pub lawful : LawfulRun list.tokens (routes_of read.wired.plans) None w
 
 -- What `play` makes of what was read: the record and the trace of one
 -- lawful run, each of the form that is read back, written in their order, after which both files

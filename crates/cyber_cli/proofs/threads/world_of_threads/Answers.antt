@@ -1,11 +1,12 @@
 use Rattle.cy_words.specs.PlayViews.{play_words_of}
-use Rattle.cy_commands.proofs.PlayRuns.{has_run, any_run}
+use Rattle.cy_commands.proofs.PlayRuns.{has_run, any_run, threads_run}
 use Rattle.cyber_cli.proofs.threads.world_of_threads.Goals as goal
 
 pub returns : goal.returns
 returns g c =
     let w = play_words_of c.args.play.now in
+    let opens = c.in_ok-world.ensures.opens in
     record {
-      run = has_run w.serial w.request.filter c.args.replay.now _ _ c.played_places_are_there.ensures c.places.ensures c.requires.set_up c.in_ok-world.ensures.opens (any_run w.serial c.args.replay.now _ c.requires.threads)
-          c.in-Ok.ensures.lawful c.in-Ok.ensures.counts c.trace_is_read_back.ensures;
+      run = has_run w.serial w.request.filter c.args.replay.now _ _ c.played_places_are_there.ensures c.places.ensures c.requires.set_up opens (any_run w.serial c.args.replay.now _ c.requires.threads)
+          (threads_run c.args.replay.now _ _ opens c.in-Ok.ensures.lawful) c.in-Ok.ensures.counts c.trace_is_read_back.ensures;
     }
