@@ -161,7 +161,7 @@ pub mod Messages
 P
 cat >specs/Messages.antt <<'P'
 -- The messages that are walked through.
-use Rattle.std.specs.Prelude.{ℕ, ◌+◌, ◌≡◌, ◌≤◌, ◌∷◌, [], List, length, slice_get, Some}
+use Rattle.std.specs.Prelude.{ℕ, ◌+◌, ◌≡◌, ◌≤◌, ◌∷◌, [], List, length, slice_get, Some, None}
 use Rattle.cy_msg.specs.declared.token.Token.{Token}
 use Rattle.cy_msg.specs.Tokens.{on_channel}
 use Rattle.cy_table.specs.declared.table.FlagTable.{FlagTable}
@@ -184,6 +184,7 @@ pub record HasPlayedAll (count k : ℕ) (t : FlagTable) (p : Pass) : Type 0 wher
   pub free : IsFree t p
   pub player : pass_number p ≡ 0
   pub one : IsOfOne t
+  pub stop : (seat_of p).stop ≡ None
   pub counts : (seat_of p).counts ≡ count ∷ 0 ∷ []
   pub played : length (on_channel 0 (seat_of p).played) ≡ k
   pub clock : (seat_of p).clock ≤ k
@@ -286,6 +287,7 @@ pub may_play : (count : ℕ) (w : Plain) (tokens : List Token) (scan : List ℕ)
 may_play count w tokens scan o are is = rw o.opens (record {
   opening = refl;
   made = record { counted = counted count tokens are; unwritten = λ n t e. ap (writes_from 0 (pass_route o.queue ∷ [])) (are.each n t e).channel };
+  within = record { component = λ s given. absurd cc; after = λ s given. absurd cc };
   scan = is;
 })
 
@@ -295,6 +297,7 @@ start count t p f = record {
   free = f.free;
   player = f.player;
   one = f.one;
+  stop = f.stop;
   counts = f.counts;
   played = ap (λ (l : List Token). length (on_channel 0 l)) f.played;
   clock = subst (λ n. n ≤ 0) (sym f.clock) (omega arith);
@@ -305,6 +308,7 @@ next_is count k t p m h is few = record {
   free = h.free;
   player = h.player;
   one = h.one;
+  stop = h.stop;
   channel = is.channel;
   next = is.seq ∙ ap (λ n. n + 1) (sym (ap (λ c. length (on_channel c (seat_of p).played)) is.channel ∙ h.played));
   within = subst (λ (l : List ℕ). m.seq ≤ slice_index l m.channel) (sym h.counts) (subst (λ c. m.seq ≤ slice_index (count ∷ 0 ∷ []) c) (sym is.channel) (omega (arith, is.seq, few)));
@@ -316,6 +320,7 @@ then_is count k t p q m h is free player played = record {
   free = free;
   player = player;
   one = h.one;
+  stop = played.stop ∙ h.stop;
   counts = played.counts ∙ h.counts;
   played = ap (λ (l : List Token). length (on_channel 0 l)) played.played ∙ (ap length (filter-append (λ (u : Token). u.channel == 0) (seat_of p).played (m ∷ []))
       ∙ (length-append (on_channel 0 (seat_of p).played) (on_channel 0 (m ∷ []))
@@ -329,6 +334,7 @@ first_still count t p q f free player same = record {
   free = free;
   player = player;
   one = f.one;
+  stop = same.stop ∙ f.stop;
   counts = same.counts ∙ f.counts;
   played = same.played ∙ f.played;
   clock = same.clock ∙ f.clock;
