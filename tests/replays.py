@@ -1,6 +1,6 @@
 #!/usr/bin/env python3
 """Plays random records through random components, and compares what the program writes with what replay.py makes of the files.
-One in five is played by `pass`.
+One in five is played by `pass`; of the others a third has a stop.
 
     replays.py PROGRAM COUNT SEED
 
@@ -77,9 +77,21 @@ def options(chance):
     return words
 
 
+def stop(count, times, chance):
+    """The words of a stop of one of so many components, or none: at the time of a message, or at another up to a bit above the last."""
+    if chance.random() >= 1 / 3:
+        return []
+    anywhere = chance.randint(0, max(times, default=0) + 3)
+    value = f"c{chance.randrange(count)}@{chance.choice(times) if times and chance.random() < 0.3 else anywhere}"
+    return chance.choice([["--stop", value], [f"--stop={value}"]])
+
+
 def write_record(chance, outs):
+    """Makes the record, and gives the times of its messages."""
+    found = messages(chance, outs)
     with open("in.rec", "wb") as file:
-        file.write(record(messages(chance, outs), {b"/a": (b"a.Type", b"described")}))
+        file.write(record(found, {b"/a": (b"a.Type", b"described")}))
+    return [time for _, time, _ in found]
 
 
 def write_files(chance):
@@ -98,8 +110,7 @@ def write_files(chance):
     for name, text in files.items():
         with open(name, "w", encoding="utf-8") as file:
             file.write(text)
-    write_record(chance, outs)
-    return words
+    return words + stop(count, write_record(chance, outs), chance)
 
 
 def write_pass(chance):
