@@ -77,13 +77,14 @@ def options(chance):
     return words
 
 
-def stop(count, times, chance):
-    """The words of a stop of one of so many components, or none: at the time of a message, or at another up to a bit above the last."""
+def stop(texts, times, chance):
+    """The words of a stop, or none: of any component, or of one with the fewest readers, which mostly has calls; at the time of a
+    message, or at any up to a bit above the last."""
     if chance.random() >= 1 / 3:
         return []
-    anywhere = chance.randint(0, max(times, default=0) + 3)
-    value = f"c{chance.randrange(count)}@{chance.choice(times) if times and chance.random() < 0.3 else anywhere}"
-    return chance.choice([["--stop", value], [f"--stop={value}"]])
+    number = chance.choice([chance.randrange(len(texts)), min(range(len(texts)), key=lambda k: texts[k].count("readers"))])
+    time = chance.choice(times) if times and chance.random() < 0.3 else chance.randint(0, max(times, default=0) + 3)
+    return chance.choice([["--stop", f"c{number}@{time}"], [f"--stop=c{number}@{time}"]])
 
 
 def write_record(chance, outs):
@@ -110,7 +111,7 @@ def write_files(chance):
     for name, text in files.items():
         with open(name, "w", encoding="utf-8") as file:
             file.write(text)
-    return words + stop(count, write_record(chance, outs), chance)
+    return words + stop([text for text, _ in parts], write_record(chance, outs), chance)
 
 
 def write_pass(chance):
