@@ -3,8 +3,8 @@
 
     tour.py PAGE FOLDER COMMAND...
 
-The lines of PAGE that call `./cyber` are run in FOLDER, with COMMAND in place of `./cyber`; a backslash continues a line. What a line prints
-has to stand on the page: one line in backquotes, more of them indented. Ends with status 1 at the first line that fails.
+The lines of PAGE that call `./cyber` are run in FOLDER, with COMMAND in place of `./cyber`; a backslash continues a line. What a line
+prints has to stand on the page: one line in backquotes, more of them indented. Ends with status 1 at the first line that fails.
 """
 import re
 import shlex
