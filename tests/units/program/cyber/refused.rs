@@ -119,7 +119,8 @@ fn ends_a_play(
         options[0], options[1],
     ];
     let ran = run(alloc, &words, MemStore::new(alloc))?;
-    let [option, value] = options;
+    let option = options[0];
+    let value = options[1];
     assert_eq!(rt; ran.status, status, "{option} {value}");
     Ok(())
 }
