@@ -50,7 +50,7 @@ impl Fault {
             Fault::Text(error) => error.push_to(to),
             Fault::Dag(error) => error.push_to(to),
             Fault::Sched(error) => error.push_to(to),
-            Fault::StopUnknown { name } => push_named(to, "StopUnknown", &[], name.as_str()),
+            Fault::StopUnknown { name } => push_named(to, "StopUnknown", &[], name),
             Fault::Record(error) => error.push_to(to),
             Fault::TooMany { count } => push_limit(to, "TooMany", *count),
         }
