@@ -209,7 +209,7 @@ is_scan size scan moved = record {
 }
 
 -- a stop names a component, and is raised at the latest behind the last message
-few_up_to : (time : ℕ) (tokens : List Token) → count_up_to time tokens ≤ length tokens
+pub few_up_to : (time : ℕ) (tokens : List Token) → count_up_to time tokens ≤ length tokens
 few_up_to time [] = omega arith
 few_up_to time (t ∷ rest) = by (nat_le t.time time) (few_up_to time rest)
   where

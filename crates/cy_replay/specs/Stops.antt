@@ -1,5 +1,5 @@
 -- The stop of a replay.
-use Rattle.std.specs.Prelude.{ℕ, ⊤, nat_le, List, length, filter, Option, Some, None, tt}
+use Rattle.std.specs.Prelude.{ℕ, ⊤, nat_le, List, length, filter, Option, Some, None}
 use Rattle.std.specs.List.{position}
 use Rattle.std.specs.Option.{option_map}
 use Rattle.std.specs.Str.{bytes_eq}
