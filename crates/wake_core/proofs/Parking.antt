@@ -50,7 +50,7 @@ unsent_none w c never = slice_get_past (outs_of w.routes w.calls c) (taped_of w.
 
 -- What a fetch finds is what the serial run says.
 pub finds_shown : (w : Plain) (c : ℕ) (x : Route) → slice_get w.routes c ≡ Some x → Consistent w → finds x (run_shown w) c ≡ found_by w c
-finds_shown w c x at s = rw at (ap (λ n. fetch n (tail_at x w c) x.queue) (sym (s.called.cursor c x at)))
+finds_shown w c x at s = rw at (ap (λ n. fetch n (tail_at x w c) x.queue x.overflow) (sym (s.called.cursor c x at)))
 
 runnable_at : (routes : List Route) (stop : Option Raised) (r : Run) (c : ℕ) (x : Route) → slice_get routes c ≡ Some x → is_runnable routes stop r c ≡ can_resume x stop r c
 runnable_at routes stop r c x at = rw at refl
