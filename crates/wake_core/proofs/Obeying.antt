@@ -5,7 +5,6 @@ use Rattle.std.proofs.lemmas.List.Elements.{filter-append}
 use Rattle.std.proofs.lemmas.Bool.Decides.{eqb_tells}
 use Rattle.std.proofs.lemmas.Option.{slice_get_within, slice_get_cases}
 use Rattle.cy_msg.specs.declared.token.Token.{Token}
-use Rattle.cy_msg.specs.declared.token.Tuple.{Tuple}
 use Rattle.cy_msg.specs.Tuple.{messages_of}
 use Rattle.cy_msg.specs.Tokens.{on_channel}
 use Rattle.cy_fuse.specs.Fusion.{fused}
@@ -16,7 +15,6 @@ use Rattle.wake_core.specs.Sound.{StandsOn, IsLate, HasLate, Obedient, Consisten
 use Rattle.wake_core.proofs.Places.{place, set_at_is, set_at_there, set_at_other}
 use Rattle.wake_core.proofs.Listing.{get_snoc, get_taken}
 use Rattle.wake_core.proofs.Standing.{item_stands}
-use Rattle.wake_core.proofs.Timing.{played-own, played-other}
 
 pub same_hand : (c k : ℕ) (f g : Phase) → hand c f ≡ hand k g → (c ≡ k) × (f ≡ g)
 same_hand c k f g e = (grind (arith, e), grind (arith, e))

@@ -10,7 +10,7 @@ use Rattle.cy_comp.specs.declared.call.Call.{Call}
 use Rattle.cy_comp.specs.declared.call.Outcome.{Outcome}
 use Rattle.cy_comp.specs.Calls.{cursor_after, last_outcome, is_last, held_until, outs}
 use Rattle.wake_core.specs.Run.{Route}
-use Rattle.wake_core.specs.Plain.{Plain, Stop, hand, Phase, Ready, DataWait, Sleep, Finished, stops, reads, last_of, made_of, taped_of, tail_at, found_by}
+use Rattle.wake_core.specs.Plain.{Plain, hand, Phase, Ready, DataWait, Sleep, Finished, stops, reads, last_of, made_of, taped_of, tail_at, found_by}
 use Rattle.wake_core.specs.Sound.{Held, Called, Delivered, Causal, Room, Wakes, Timely, Obedient, Sound, IsOutput, WasHeld}
 use Rattle.wake_core.specs.Laws.{AgreesWithin, SaysNothing}
 use Rattle.wake_core.proofs.Delivering.{owes_channel}

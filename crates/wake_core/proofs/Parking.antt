@@ -8,7 +8,7 @@ use Rattle.cy_comp.specs.declared.call.Outcome.{Outcome}
 use Rattle.cy_comp.specs.Calls.{held_until, last_outcome}
 use Rattle.wake_core.specs.Run.{Route, Run, finds}
 use Rattle.wake_core.specs.Serial.{Raised, is_past, is_roused, is_runnable, can_resume, can_go_on}
-use Rattle.wake_core.specs.Plain.{Plain, Hand, hand, State, Ready, DataWait, Sleep, Finished, Phase, Woken, Checked, Asked, Running, last_of, outs_of, taped_of, made_of, unsent_of, found_by, tail_at, lists}
+use Rattle.wake_core.specs.Plain.{Plain, Hand, hand, State, Ready, DataWait, Sleep, Finished, Phase, Woken, Asked, Running, last_of, outs_of, taped_of, made_of, unsent_of, found_by, tail_at, lists}
 use Rattle.wake_core.specs.Events.{is_finished}
 use Rattle.wake_core.specs.Sound.{Sound, Consistent, NotRunning}
 use Rattle.wake_core.specs.Rest.{IsAtRest, run_shown}

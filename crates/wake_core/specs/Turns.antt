@@ -15,7 +15,7 @@ use Rattle.wake_core.specs.Settle.{Settles}
 use Rattle.wake_core.specs.Serial.{Raised, heard_by, is_roused, is_runnable, resume, play, next}
 use Rattle.wake_core.specs.Serial.{Plays}
 use Rattle.wake_core.specs.Plain.{Plain, Stop, hand, State, Ready, DataWait, Sleep, Finished, Phase}
-use Rattle.wake_core.specs.Plain.{Known, Checked, Stopping, Running, stops, lists, lists_reader}
+use Rattle.wake_core.specs.Plain.{Known, Checked, Running, stops, lists, lists_reader}
 use Rattle.wake_core.specs.Plain.{last_of, unsent_of, found_by, played_count}
 use Rattle.wake_core.specs.Events.{OwesNothing, IsDue, Asks, Fetches, Sends, Yields, Releases}
 use Rattle.wake_core.specs.Events.{IsNext, next_call, after_send, after_yield, is_waiting}
