@@ -1,5 +1,6 @@
 // Wirings, written row by row.
 use cy_comp::{Kind, Plan, Wiring};
+use cy_fuse::Overflow;
 use cy_msg::{Items, Names, Text};
 use std::str;
 use std::test::Fail;
@@ -26,6 +27,7 @@ fn plan(rt: &HostRuntime, inputs: u32, row: u8, kind: Kind, readers: &[u32]) -> 
         kind,
         readers: Items::new(Vec::from_slice(rt.alloc(), readers)?),
         queue: 1,
+        overflow: Overflow::Newest,
         out: inputs + u32::from(row),
         out_type: Text::new(rt.alloc(), "")?,
     })
@@ -50,4 +52,14 @@ pub(crate) fn wiring(
     let names = names(rt, channels)?;
     let plans = plans(rt, (channels.len() - rows.len()) as u32, rows)?;
     Ok(Wiring::new(names, Items::new(plans)))
+}
+
+/// A wiring of one component, which holds the messages of `/a` back for 100, and keeps the last
+/// two.
+pub(crate) fn holding(rt: &HostRuntime, overflow: Overflow) -> Result<Wiring, Fail> {
+    let names = names(rt, &["/a", "/o"])?;
+    let mut plan = plan(rt, 1, 0, Kind::Hold { delay: 100 }, &[0])?;
+    plan.queue = 2;
+    plan.overflow = overflow;
+    Ok(Wiring::new(names, Items::new(vec![in rt.alloc(); plan]?)))
 }

@@ -1,7 +1,8 @@
 // Serial runs of components of any class, and the texts of their traces, as the rules give them.
 use super::played::{Message, counts, list, placed};
-use super::wired::wiring;
+use super::wired::{holding, wiring};
 use cy_comp::{Kind, Wiring};
+use cy_fuse::Overflow;
 use cy_msg::{Placement, PlayList};
 use cy_trace::trace_text;
 use std::str;
@@ -210,6 +211,34 @@ tape "/o" 2
     ] {
         let text = traced(&rt, run.channels, run.rows, run.messages, false)?;
         assert_eq!(rt; text.as_str(), run.trace);
+    }
+    Ok(())
+}
+
+// A burst, while the output that the first message makes is held back.
+const BURST: &[Message] = &[
+    (0, 10, Some(0)),
+    (0, 11, Some(1)),
+    (0, 12, Some(2)),
+    (0, 13, Some(3)),
+    (0, 14, Some(4)),
+    (0, 15, Some(5)),
+];
+
+#[test]
+fn goes_on_after_a_burst_as_the_component_asks(rt: HostRuntime) -> Result<(), Fail> {
+    let list = list(&rt, BURST)?;
+    for (overflow, want) in [
+        (Overflow::Newest, "1/1 6/6 "),
+        (Overflow::Oldest, "1/1 5/6 6/6 "),
+    ] {
+        let wiring = holding(&rt, overflow)?;
+        let world = played(&rt, &wiring, &list, &placed(&rt, 1, false)?)?;
+        let mut told = String::new(rt.alloc());
+        for call in world.routine(0).calls() {
+            told.push_str(&format!(in rt.alloc(); "{}/{} ", call.position, call.tail)?)?;
+        }
+        assert_eq!(rt; told.as_str(), want, "{overflow:?}");
     }
     Ok(())
 }
