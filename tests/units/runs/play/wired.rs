@@ -54,12 +54,16 @@ pub(crate) fn wiring(
     Ok(Wiring::new(names, Items::new(plans)))
 }
 
-/// A wiring of one component, which holds the messages of `/a` back for 100, and keeps the last
-/// two.
-pub(crate) fn holding(rt: &HostRuntime, overflow: Overflow) -> Result<Wiring, Fail> {
-    let names = names(rt, &["/a", "/o"])?;
-    let mut plan = plan(rt, 1, 0, Kind::Hold { delay: 100 }, &[0])?;
-    plan.queue = 2;
-    plan.overflow = overflow;
-    Ok(Wiring::new(names, Items::new(vec![in rt.alloc(); plan]?)))
+/// A wiring of one or two components, which hold the messages of `/a` back for 100, and keep the
+/// last two.
+pub(crate) fn holding(rt: &HostRuntime, overflows: &[Overflow]) -> Result<Wiring, Fail> {
+    let names = names(rt, &["/a", "/o", "/q"])?;
+    let mut plans = Vec::new(rt.alloc());
+    for (row, overflow) in overflows.iter().enumerate() {
+        let mut plan = plan(rt, 1, row as u8, Kind::Hold { delay: 100 }, &[0])?;
+        plan.queue = 2;
+        plan.overflow = *overflow;
+        plans.push(plan)?;
+    }
+    Ok(Wiring::new(names, Items::new(plans)))
 }

@@ -225,20 +225,45 @@ const BURST: &[Message] = &[
     (0, 15, Some(5)),
 ];
 
+// What a trace tells of a component behind its name that holds each of them: it goes on at the
+// newest tuple, or at the oldest one of the two that are kept.
+const NEWEST: &str = r#"
+roles 000000
+call 1/1 1 1@110=0
+call 6/6 6 2@115=5
+end DATA_WAIT next 7
+"#;
+
+const OLDEST: &str = r#" overflow OLDEST
+roles 000000
+call 1/1 1 1@110=0
+call 5/6 5 2@114=4
+call 6/6 6 3@115=5
+end DATA_WAIT next 7
+"#;
+
 #[test]
 fn goes_on_after_a_burst_as_the_component_asks(rt: HostRuntime) -> Result<(), Fail> {
     let list = list(&rt, BURST)?;
-    for (overflow, want) in [
-        (Overflow::Newest, "1/1 6/6 "),
-        (Overflow::Oldest, "1/1 5/6 6/6 "),
+    for (overflows, version, first, second) in [
+        (&[Overflow::Newest] as &[Overflow], 1, NEWEST, ""),
+        (&[Overflow::Oldest], 2, OLDEST, ""),
+        (&[Overflow::Newest, Overflow::Newest], 1, NEWEST, NEWEST),
+        (&[Overflow::Oldest, Overflow::Newest], 2, OLDEST, NEWEST),
     ] {
-        let wiring = holding(&rt, overflow)?;
-        let world = played(&rt, &wiring, &list, &placed(&rt, 1, false)?)?;
-        let mut told = String::new(rt.alloc());
-        for call in world.routine(0).calls() {
-            told.push_str(&format!(in rt.alloc(); "{}/{} ", call.position, call.tail)?)?;
+        let wiring = holding(&rt, overflows)?;
+        let size = overflows.len();
+        let world = played(&rt, &wiring, &list, &placed(&rt, size, false)?)?;
+        let text = trace_text(rt.alloc(), &world, &wiring, 0)?;
+        let newest = if version == 2 { " overflow NEWEST" } else { "" };
+        let mut want = format!(in rt.alloc();
+            "cyber-trace {version}\nplayed 6 shadowed 0\ncomponent \"a\"{first}"
+        )?;
+        if size == 2 {
+            want.push_str(&format!(in rt.alloc(); "component \"b\"{newest}{second}")?)?;
         }
-        assert_eq!(rt; told.as_str(), want, "{overflow:?}");
+        want.push_str("tape \"/a\" 1\n")?;
+        assert!(rt; str::from_utf8(text.as_slice())?.starts_with(want.as_str()), "{want}");
     }
     Ok(())
 }
