@@ -4,6 +4,8 @@ use Rattle.std.specs.Fmt.{decimal}
 use Rattle.std.specs.List.{flat_map, zip}
 use Rattle.cy_msg.specs.Quoted.{quoted}
 use Rattle.cy_msg.specs.declared.placement.ContextPlan.{ContextPlan}
+use Rattle.cy_fuse.specs.declared.overflow.Overflow.{Overflow}
+use Rattle.cy_fuse.specs.declared.overflow.Overflow.TheVariants.{Newest, Oldest}
 use Rattle.cy_dag.specs.Wiring.{queue_of_first}
 use Rattle.cy_dag.specs.declared.config.Config.{Config}
 use Rattle.cy_dag.specs.declared.dag.DagComponent.{DagComponent}
@@ -12,14 +14,19 @@ use Rattle.cy_dag.specs.declared.dag.DagComponent.{DagComponent}
 abbrev pub spaced : List ℕ → List ℕ
 spaced name = codes " " ++ quoted true name
 
--- A component: its name, its class, the channels that it reads, how many tuples wait for it, and
--- the channel that it writes.
+-- What is done where a tuple isn't kept any more: nothing is said of going on at the newest.
+unfoldable pub overflow_text : Overflow → List ℕ
+overflow_text Newest = []
+overflow_text Oldest = codes " overflow OLDEST"
+
+-- A component: its name, its class, the channels that it reads, how many tuples wait for it, the
+-- channel that it writes, and what it does where a tuple isn't kept any more.
 abbrev pub component_line : DagComponent → Config → List ℕ
 component_line c config =
     codes "component " ++ quoted true c.name ++ codes " class " ++ c.class_name ++ codes " reads"
     ++ flat_map (λ r. spaced r.channel) c.readers
     ++ codes " queue " ++ decimal (queue_of_first c.readers)
-    ++ codes " writes " ++ quoted true config.out ++ codes "\n"
+    ++ codes " writes " ++ quoted true config.out ++ overflow_text config.overflow ++ codes "\n"
 
 -- The name of the component with a number.
 abbrev pub name_in : List DagComponent → ℕ → List ℕ

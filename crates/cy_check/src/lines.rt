@@ -4,11 +4,11 @@ ghost use Rattle.std.specs.List.{flat_map};
 ghost use Rattle.cy_msg.specs.Quoted.{quoted};
 ghost use Rattle.cy_check.specs.CheckText.{component_line, component_lines, config_lines};
 ghost use Rattle.cy_check.specs.CheckText.{context_head, context_line, context_lines, name_in};
-ghost use Rattle.cy_check.specs.CheckText.{order_text};
-ghost use Rattle.cy_check.specs.CheckText.{spaced, unknown_lines};
+ghost use Rattle.cy_check.specs.CheckText.{order_text, overflow_text, spaced, unknown_lines};
 ghost use Rattle.cy_dag.specs.Wiring.{queue_of_first};
 
 use cy_dag::{Config, DagComponent, DagReader};
+use cy_fuse::Overflow;
 use cy_msg::{ContextPlan, Text, push_quoted};
 use std::io;
 use std::io::Write;
@@ -40,7 +40,19 @@ fn push_component(to: &mut Vec<u8>, component: &DagComponent, config: &Config) -
     push_readers(to, readers)?;
     write!(to, " queue {} writes ", queue_of_first(readers))?;
     push_name(to, config.out.as_str())?;
+    push_overflow(to, config.overflow)?;
     writeln!(to, "")
+}
+
+// What is done where a tuple isn't kept any more.
+#[tactic(auto, unfolding(crate::specs::CheckText::overflow_text))]
+fn push_overflow(to: &mut Vec<u8>, overflow: Overflow) -> io::Result<()>
+    ensures { OnOk result (to.new.items ≡ to.old.items ++ overflow_text overflow) }
+{
+    match overflow {
+        Overflow::Newest => Ok(()),
+        Overflow::Oldest => write!(to, " overflow OLDEST"),
+    }
 }
 
 // A name in quotes.

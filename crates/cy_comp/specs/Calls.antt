@@ -3,6 +3,7 @@ use Rattle.std.specs.Prelude.{ℕ, ◌+◌, ◌-◌, ◌≡◌, ◌≤◌, Bool,
 use Rattle.std.specs.Prelude.{take, map, slice_get, Option, Some, None}
 use Rattle.cy_msg.specs.declared.token.Token.{Token}
 use Rattle.cy_msg.specs.declared.token.Tuple.{Tuple}
+use Rattle.cy_fuse.specs.declared.overflow.Overflow.{Overflow}
 use Rattle.cy_fuse.specs.Fusion.{Arrival, fused}
 use Rattle.cy_fuse.specs.Fetch.{fetch}
 use Rattle.cy_comp.specs.declared.kind.Kind.{Kind}
@@ -79,14 +80,15 @@ outs_after channel before (x ∷ rest) =
 unfoldable pub outs : ℕ → List Call → List Token
 outs channel calls = outs_after channel 0 calls
 
--- The calls are lawful for a component of a class that keeps `queue` tuples of so many readers:
--- each takes the tuple that the fetch rule gives where the last one left off, with a tail that
--- never falls and is no more than what the arrivals fuse to, and puts out what the class answers,
--- at once or held back; and none follows the component's last outcome.
-pub record LawfulCalls (k : Kind) (arrivals : List Arrival) (readers queue : ℕ) (calls : List Call)
-    : Type 0 where
+-- The calls are lawful for a component of a class that keeps `queue` tuples of so many readers and
+-- goes on in this way where one isn't kept any more: each takes the tuple that the fetch rule gives
+-- where the last one left off, with a tail that never falls and is no more than what the arrivals
+-- fuse to, and puts out what the class answers, at once or held back; and none follows the
+-- component's last outcome.
+pub record LawfulCalls (k : Kind) (arrivals : List Arrival) (readers queue : ℕ)
+    (overflow : Overflow) (calls : List Call) : Type 0 where
   pub positions : (n : ℕ) (x : Call) → slice_get calls n ≡ Some x
-      → fetch (cursor_after (take n calls)) x.tail queue ≡ Some x.position
+      → fetch (cursor_after (take n calls)) x.tail queue overflow ≡ Some x.position
   pub tails_rise : (n : ℕ) (x : Call) → slice_get calls n ≡ Some x
       → tail_after (take n calls) ≤ x.tail
   pub tails_fused : (n : ℕ) (x : Call) → slice_get calls n ≡ Some x

@@ -1,5 +1,6 @@
 // A component's place in a wiring.
 use crate::Kind;
+use cy_fuse::Overflow;
 use cy_msg::{Items, Text};
 
 /// A component: what it is, and which channels it reads and writes.
@@ -13,6 +14,8 @@ pub struct Plan {
     pub readers: Items<u32>,
     /// How many tuples its buffer keeps.
     pub queue: u32,
+    /// Which tuple a fetch goes on with where its own isn't kept any more.
+    pub overflow: Overflow,
     /// The number of the channel that it writes.
     pub out: u32,
     /// The type of the messages on that channel.

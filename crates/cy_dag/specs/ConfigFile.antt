@@ -1,11 +1,14 @@
 -- What a component file says, and the first cause for which it is refused.
 use Rattle.std.specs.Prelude.{ℕ, ℤ, pos, ◌≡◌, not, List, [], ◌∷◌, map, codes, Option}
-use Rattle.std.specs.Prelude.{Some, None, is_none, unwrap_or, option_map}
-use Rattle.cy_text.specs.Fields.{Fields, Held}
+use Rattle.std.specs.Prelude.{Some, None, is_none, unwrap_or, option_map, if◌then◌else◌}
+use Rattle.std.specs.Str.{bytes_eq}
+use Rattle.cy_text.specs.Fields.{Fields, Held, Whole, Literal, Word, Quote, Message}
 use Rattle.cy_config.specs.Kinds.{whole_of, is_within}
 use Rattle.cy_config.specs.Lookups.{last_under, text_under, whole_under}
 use Rattle.cy_config.specs.Checks.{first_misfit, unknown_paths}
 use Rattle.cy_config.specs.Refusals.{first_of}
+use Rattle.cy_fuse.specs.declared.overflow.Overflow.{Overflow}
+use Rattle.cy_fuse.specs.declared.overflow.Overflow.TheVariants.{Newest, Oldest}
 use Rattle.cy_comp.specs.declared.kind.Kind.{Kind}
 use Rattle.cy_dag.specs.Classes.{kind_of, parameters_of}
 use Rattle.cy_dag.specs.Format.{config_field}
@@ -14,6 +17,33 @@ use Rattle.cy_dag.specs.declared.class.Class.{Class}
 use Rattle.cy_dag.specs.declared.config.Config.{Config}
 use Rattle.cy_dag.specs.declared.error.DagError.{DagError}
 use Rattle.cy_dag.specs.declared.error.DagError.TheVariants.{Shape, Missing, UnknownClass, NotWhole}
+use Rattle.cy_dag.specs.declared.error.DagError.TheVariants.{NotOverflow}
+
+-- The overflow that a word names, and that a value does: nothing with a sign does.
+abbrev pub overflow_word : List ℕ → Option Overflow
+overflow_word text =
+    if bytes_eq text (codes "NEWEST") then Some Newest
+    else (if bytes_eq text (codes "OLDEST") then Some Oldest else None)
+
+abbrev pub overflow_named : Held → Option Overflow
+overflow_named (Whole negative size) = None
+overflow_named (Literal text) = None
+overflow_named (Word negative text) = if negative then None else overflow_word text
+overflow_named (Quote bytes) = None
+overflow_named (Message fields) = None
+
+-- Where a component's fetch goes on whose tuple isn't kept any more: the last value of the field
+-- names it, and where there is none it is the newest.
+abbrev pub overflow_given : Option Held → Option Overflow
+overflow_given None = Some Newest
+overflow_given (Some held) = overflow_named held
+
+abbrev pub overflow_of : Fields → Option Overflow
+overflow_of file = overflow_given (last_under (codes "on_overflow") file)
+
+abbrev pub overflow_refusal : ℕ → Fields → Option DagError
+overflow_refusal component file =
+    refuse_if (is_none (overflow_of file)) (NotOverflow component)
 
 -- The value of a parameter.
 abbrev pub value_of : List ℕ → Fields → ℤ
@@ -43,6 +73,7 @@ kind_in c file = kind_of c (λ name. value_of name file)
 abbrev pub values_refusal : ℕ → Class → Fields → Option DagError
 values_refusal component c file = first_of (
     refuse_if (is_none (text_under (codes "out") file)) (Missing component (codes "out"))
+    ∷ overflow_refusal component file
     ∷ kind_refusal component c file
     ∷ [])
 
@@ -51,6 +82,7 @@ abbrev pub class_refusal : ℕ → Class → Fields → Option DagError
 class_refusal component c file = first_of (
     option_map (λ path. Shape path) (first_misfit config_field c [] file)
     ∷ refuse_if (is_none (text_under (codes "out") file)) (Missing component (codes "out"))
+    ∷ overflow_refusal component file
     ∷ kind_refusal component c file
     ∷ [])
 
@@ -62,6 +94,7 @@ config_refusal component (Some c) file = class_refusal component c file
 abbrev pub config_of : Class → Fields → Config
 config_of c file = record {
   kind = kind_in c file;
+  overflow = unwrap_or (overflow_of file) Newest;
   out = text_in (codes "out") file;
   out_type = text_in (codes "out_type") file;
   unknown = unknown_paths config_field c [] file;

@@ -20,6 +20,7 @@ dag_text (dag.ReaderTwice component channel) =
     named_text (codes "ReaderTwice") (component ∷ []) channel
 dag_text (dag.TooFewReaders component count) =
     numbers_text (codes "TooFewReaders") (component ∷ count ∷ [])
+dag_text (dag.NotOverflow component) = numbers_text (codes "NotOverflow") (component ∷ [])
 dag_text (dag.NotWhole component field) = named_text (codes "NotWhole") (component ∷ []) field
 dag_text (dag.TwoWriters first second) = numbers_text (codes "TwoWriters") (first ∷ second ∷ [])
 dag_text (dag.TriggerCycle components) = numbers_text (codes "TriggerCycle") components

@@ -77,8 +77,8 @@ rows_of TimerSettings = timer_settings_rows
 abbrev pub dag_field : DagMessage → List ℕ → Option (Field DagMessage)
 dag_field m name = field_in (rows_of m) name
 
--- A component file: its channel, the type of its messages, and the parameters of its class, which
--- are judged by themselves.
+-- A component file: its channel, the type of its messages, what is done where a tuple isn't kept
+-- any more, and the parameters of its class. The last two are judged by themselves.
 abbrev pub parameter_rows : Class → Rows Class
 parameter_rows c = map (λ p. (p.name, single kind.Anything)) (parameters_of c)
 
@@ -86,6 +86,7 @@ abbrev pub config_rows : Class → Rows Class
 config_rows c =
     (codes "out", single kind.Text)
     ∷ (codes "out_type", single kind.Text)
+    ∷ (codes "on_overflow", single kind.Anything)
     ∷ parameter_rows c
 
 abbrev pub config_field : Class → List ℕ → Option (Field Class)

@@ -74,6 +74,7 @@ plan_of names p = record {
   kind = p.1.kind;
   readers = map (λ r. number_in names r.channel) p.0.readers;
   queue = queue_of_first p.0.readers;
+  overflow = p.1.overflow;
   out = number_in names p.1.out;
   out_type = p.1.out_type;
 }

@@ -1,9 +1,10 @@
 // Reads a component file.
 ghost use Rattle.std.specs.Prelude.{◌≡◌, ◌≤ℤ◌, codes, IfOk, IfErr, Some, None};
+ghost use Rattle.cy_text.specs.Entries.{held_of};
 ghost use Rattle.cy_dag.specs.Classes.{class_named};
 ghost use Rattle.cy_dag.specs.ConfigFile.{IsConfig, class_refusal, config_of, config_refusal};
-ghost use Rattle.cy_dag.specs.ConfigFile.{kind_in, parameter_refusal, value_of};
-ghost use Rattle.cy_dag.specs.ConfigFile.{values_refusal};
+ghost use Rattle.cy_dag.specs.ConfigFile.{kind_in, overflow_named, overflow_of, overflow_refusal};
+ghost use Rattle.cy_dag.specs.ConfigFile.{parameter_refusal, value_of, values_refusal};
 ghost use Rattle.cy_dag.specs.DagFile.{text_in};
 ghost use Rattle.cy_dag.specs.Refusals.{IsDue};
 ghost use Rattle.cy_dag.specs.Wiring.{IsKindOf, IsOfClass};
@@ -14,8 +15,9 @@ use crate::class::Class;
 use crate::component::{missing, text};
 use cy_comp::Kind;
 use cy_config::{check, last_under, text_under};
+use cy_fuse::Overflow;
 use cy_msg::{Items, Text};
-use cy_text::Tree;
+use cy_text::{Tree, Value};
 use std::alloc::Global;
 
 /// What a component file says.
@@ -23,6 +25,8 @@ use std::alloc::Global;
 pub struct Config {
     /// The component's class, with its parameters.
     pub kind: Kind,
+    /// Which tuple a fetch goes on with where its own isn't kept any more.
+    pub overflow: Overflow,
     /// The channel that it writes.
     pub out: Text,
     /// The type of the messages on that channel, empty where the file has none.
@@ -32,8 +36,8 @@ pub struct Config {
 }
 
 /// What the file of the component with this number says, whose class has this name. Its errors are
-/// tested in an order: `UnknownClass`, `Shape`, `Missing` of `out`, and then of each parameter
-/// `Missing` or `NotWhole`, and the first one that is due is answered.
+/// tested in an order: `UnknownClass`, `Shape`, `Missing` of `out`, `NotOverflow`, and then of each
+/// parameter `Missing` or `NotWhole`, and the first one that is due is answered.
 pub fn read_component_config(
     alloc: Global,
     tree: &Tree,
@@ -62,8 +66,9 @@ fn read_config(alloc: Global, tree: &Tree, component: u32, class: Class) -> Resu
 {
     let unknown = check(alloc, class, tree)?;
     match values(alloc, tree, component, class) {
-        Ok((kind, out, out_type)) => Ok(Config {
+        Ok((kind, overflow, out, out_type)) => Ok(Config {
             kind,
+            overflow,
             out,
             out_type,
             unknown,
@@ -75,25 +80,59 @@ fn read_config(alloc: Global, tree: &Tree, component: u32, class: Class) -> Resu
     }
 }
 
-// What it says but for unknown fields: the class with its parameters, the channel and its type.
+// What it says but for unknown fields: the class with its parameters, what is done on overflow,
+// the channel and its type.
 fn values(
     alloc: Global,
     tree: &Tree,
     component: u32,
     class: Class,
-) -> Result<(Kind, Text, Text), DagError>
+) -> Result<(Kind, Overflow, Text, Text), DagError>
     ensures accepted { IfOk result (λ _. values_refusal component class tree.now ≡ None) }
     ensures values { IfOk result (λ v. (v.0 ≡ kind_in class tree.now)
-        × (v.1 ≡ text_in (codes "out") tree.now) × (v.2 ≡ text_in (codes "out_type") tree.now)) }
+        × (overflow_of tree.now ≡ Some v.1) × (v.2 ≡ text_in (codes "out") tree.now)
+        × (v.3 ≡ text_in (codes "out_type") tree.now)) }
     ensures of_class { IfOk result (λ v. IsKindOf class v.0) }
     ensures refused { IfErr result (IsDue (values_refusal component class tree.now)) }
 {
     if text_under(tree, "out").is_none() {
         return Err(missing(alloc, component, "out"));
     }
+    let overflow = overflow_of(tree, component)?;
     let kind = class.kind(alloc, tree, component)?;
     let out = text(alloc, tree, "out")?;
-    Ok((kind, out, text(alloc, tree, "out_type")?))
+    Ok((kind, overflow, out, text(alloc, tree, "out_type")?))
+}
+
+// What is done on overflow: a fetch goes on at the newest where the file doesn't say.
+fn overflow_of(tree: &Tree, component: u32) -> Result<Overflow, DagError>
+    ensures overflow { IfOk result (λ overflow. overflow_of tree.now ≡ Some overflow) }
+    ensures refused { IfErr result (λ e. overflow_refusal component tree.now ≡ Some e) }
+{
+    let Some(value) = last_under(tree, "on_overflow") else {
+        return Ok(Overflow::Newest);
+    };
+    match overflow_named(value) {
+        Some(overflow) => Ok(overflow),
+        None => Err(DagError::NotOverflow { component }),
+    }
+}
+
+// The overflow that a value names.
+fn overflow_named(value: &Value) -> Option<Overflow>
+    ensures { result ≡ overflow_named (held_of value.now) }
+{
+    match value {
+        Value::Word {
+            negative: false,
+            text,
+        } => match text.as_str() {
+            "NEWEST" => Some(Overflow::Newest),
+            "OLDEST" => Some(Overflow::Oldest),
+            _ => None,
+        },
+        _ => None,
+    }
 }
 
 // The value of a parameter, in a range.

@@ -77,6 +77,11 @@ pub enum DagError {
         /// How many.
         count: u32,
     },
+    /// What is to be done where a tuple isn't kept any more is neither `NEWEST` nor `OLDEST`.
+    NotOverflow {
+        /// The component.
+        component: u32,
+    },
     /// A parameter isn't a whole number in its range.
     NotWhole {
         /// The component.
@@ -128,6 +133,7 @@ impl DagError {
             Self::TooFewReaders { component, count } => {
                 push_two(to, "TooFewReaders", *component, *count)
             }
+            Self::NotOverflow { component } => push_one(to, "NotOverflow", *component),
             Self::NotWhole { component, field } => push_of(to, "NotWhole", *component, field),
             Self::TwoWriters { first, second } => push_two(to, "TwoWriters", *first, *second),
             Self::TriggerCycle { components } => {

@@ -125,6 +125,7 @@ impl Described for Class {
     fn field(self, name: &str) -> Option<Field<Class>> {
         match name {
             "out" | "out_type" => Some(Field::single(Kind::Text)),
+            "on_overflow" => Some(Field::single(Kind::Anything)),
             _ if self.has_parameter(name) => Some(Field::single(Kind::Anything)),
             _ => None,
         }

@@ -45,6 +45,7 @@ fn plan(
         kind: config.kind,
         readers: Items::new(numbers(alloc, names, readers)?),
         queue: queue_of_first(readers),
+        overflow: config.overflow,
         out: number_in(names, config.out.as_str()),
         out_type: Text::new(alloc, config.out_type.as_str())?,
     })

@@ -7,6 +7,7 @@ use Rattle.circular_buffer.proofs.Places.{slice_get-drop, slice_get-some}
 use Rattle.cy_msg.specs.declared.token.Token.{Token}
 use Rattle.cy_msg.specs.declared.token.Tuple.{Tuple}
 use Rattle.cy_msg.specs.declared.token.Tuple.TheVariants.{One}
+use Rattle.cy_fuse.specs.declared.overflow.Overflow.{Overflow}
 use Rattle.cy_fuse.specs.Fusion.{Arrival, fused, joined}
 use Rattle.cy_fuse.specs.Fetch.{fetch}
 use Rattle.cy_fuse.specs.Cache.{Cache, cache_of, item_at, fetched}
@@ -15,8 +16,8 @@ use Rattle.cy_fuse.specs.private.Visiting.{message_at, tuple_at, IsVisitor}
 use Rattle.cy_fuse.proofs.Fetched.{fetch_found}
 
 -- the places that a fetch found are those of a tuple, which is the one of the number
-pub record Found (roles : ℕ) (arrivals : List Arrival) (index tail queue : ℕ) (ps : List ℕ) (number : ℕ) : Type 0 where
-  pub fetches : fetch index tail queue ≡ Some number
+pub record Found (roles : ℕ) (arrivals : List Arrival) (index tail queue : ℕ) (o : Overflow) (ps : List ℕ) (number : ℕ) : Type 0 where
+  pub fetches : fetch index tail queue o ≡ Some number
   pub tuple : Tuple
   pub there : slice_get (fused arrivals roles) (number - 1) ≡ Some tuple
   pub named : tuple_at roles arrivals ps ≡ Some tuple
@@ -28,20 +29,20 @@ kept_item size number all ps is from within =
     sym (ap (slice_get all) place) ∙ sym (slice_get-drop (length all - size) all (number - (length all - size + 1)) _ refl)
     ∙ sym (ap (λ b. if b then None else slice_get (drop (length all - size) all) (number - (length all - size + 1))) tests) ∙ is
 
-pub found_at : (roles spare room : ℕ) (arrivals : List Arrival) (last : List (Option ℕ)) (tuples : Cache (List ℕ)) (index number : ℕ) (ps : List ℕ)
-    → IsVisitor roles spare room arrivals last tuples → fetched index tuples ≡ Some (ps, number) → Found roles arrivals index tuples.tail tuples.size ps number
-found_at roles spare room arrivals last tuples index number ps v is =
-    option_and_then_some (λ n. option_map {U = List ℕ × ℕ} (λ x. (x, n)) (item_at tuples n)) (fetch index tuples.tail tuples.size) (ps, number) is
+pub found_at : (roles spare room : ℕ) (arrivals : List Arrival) (last : List (Option ℕ)) (tuples : Cache (List ℕ)) (index : ℕ) (overflow : Overflow) (number : ℕ) (ps : List ℕ)
+    → IsVisitor roles spare room arrivals last tuples → fetched index tuples overflow ≡ Some (ps, number) → Found roles arrivals index tuples.tail tuples.size overflow ps number
+found_at roles spare room arrivals last tuples index overflow number ps v is =
+    option_and_then_some (λ n. option_map {U = List ℕ × ℕ} (λ x. (x, n)) (item_at tuples n)) (fetch index tuples.tail tuples.size overflow) (ps, number) is
     (λ n at rest. by_item n at (item_at tuples n) refl rest)
   where
-    by_item : (n : ℕ) → fetch index tuples.tail tuples.size ≡ Some n → (o : Option (List ℕ)) → item_at tuples n ≡ o → option_map {U = List ℕ × ℕ} (λ (x : List ℕ). (x, n)) o ≡ Some (ps, number)
-        → Found roles arrivals index tuples.tail tuples.size ps number
+    by_item : (n : ℕ) → fetch index tuples.tail tuples.size overflow ≡ Some n → (o : Option (List ℕ)) → item_at tuples n ≡ o → option_map {U = List ℕ × ℕ} (λ (x : List ℕ). (x, n)) o ≡ Some (ps, number)
+        → Found roles arrivals index tuples.tail tuples.size overflow ps number
     by_item n at None e bad = absurd (none-some (ps, number) bad)
     by_item n at (Some qs) e same =
         let pair : (qs, n) ≡ (ps, number) = same_Some (qs, n) (ps, number) same in
         let number_is : n ≡ number = ap (λ (p : List ℕ × ℕ). p.1) pair in
         let places_are : qs ≡ ps = ap (λ (p : List ℕ × ℕ). p.0) pair in
-        let f = fetch_found index tuples.tail tuples.size n v.some at in
+        let f = fetch_found index tuples.tail tuples.size overflow n v.some at in
         let tail_is : tuples.tail ≡ length v.all = ap (λ (b : Cache (List ℕ)). b.tail) v.kept in
         let item : slice_get v.all (n - 1) ≡ Some qs =
         kept_item tuples.size n v.all qs (sym (ap (λ b. item_at b n) v.kept) ∙ e) (omega (arith, f.kept, tail_is)) (omega (arith, f.within, tail_is)) in
@@ -54,12 +55,12 @@ found_at roles spare room arrivals last tuples index number ps v is =
         }
 
 -- so what the visitor answers is that tuple
-pub visited_is : (v : VisitorView) (index number tail said size : ℕ) (ps : List ℕ) (x : Tuple) → Found v.roles v.arrivals index tail size ps number
+pub visited_is : (v : VisitorView) (index number tail said size : ℕ) (ps : List ℕ) (x : Tuple) → Found v.roles v.arrivals index tail size v.overflow ps number
     → size ≡ v.queue → tail ≡ length (tuples_at v) → said ≡ tail → tuple_at v.roles v.arrivals ps ≡ Some x
     → Some (x, number, said) ≡ visited index v
 visited_is v index number tail said size ps x f sized counted told is =
     let same : x ≡ f.tuple = same_Some x f.tuple (sym is ∙ f.named) in
-    let at : fetch index (length (tuples_at v)) v.queue ≡ Some number = rw (← sized) (rw (← counted) f.fetches) in
+    let at : fetch index (length (tuples_at v)) v.queue v.overflow ≡ Some number = rw (← sized) (rw (← counted) f.fetches) in
     sym (ap (option_and_then (λ n. option_map (λ t. (t, n, length (tuples_at v))) (slice_get (tuples_at v) (n - 1)))) at
     ∙ ap (option_map (λ t. (t, number, length (tuples_at v)))) f.there
     ∙ ap (λ t. Some (t, number, length (tuples_at v))) (sym same)

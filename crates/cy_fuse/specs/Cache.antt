@@ -4,6 +4,7 @@ use Rattle.std.specs.Prelude.{◌++◌, length, slice_get, Option, Some, None, o
 use Rattle.std.specs.Prelude.{option_and_then, refl}
 use Rattle.std.specs.Coded.{Coded, code_by, coded×, coded_list, coded_ℕ}
 use Rattle.circular_buffer.specs.Buffer.{keep_last}
+use Rattle.cy_fuse.specs.declared.overflow.Overflow.{Overflow}
 use Rattle.cy_fuse.specs.Fetch.{fetch}
 
 -- A buffer: how many items it keeps, how many were filled, which is the number of the last one, and
@@ -43,9 +44,10 @@ module _ {X : Type 0} where
       else slice_get b.kept (number - oldest_of b)
 
   -- The item that a fetch at an index finds, with its number.
-  abbrev pub fetched : ℕ → Cache X → Option (X × ℕ)
-  fetched index b =
-      option_and_then (λ n. option_map (λ x. (x, n)) (item_at b n)) (fetch index b.tail b.size)
+  abbrev pub fetched : ℕ → Cache X → Overflow → Option (X × ℕ)
+  fetched index b overflow =
+      option_and_then (λ n. option_map (λ x. (x, n)) (item_at b n))
+      (fetch index b.tail b.size overflow)
 
 -- Where the next fetch begins after a fetch: behind what was found, and else where this one began.
 abbrev pub next_index : {X : Type 0} → ℕ → Option (X × ℕ) → ℕ

@@ -3,7 +3,7 @@ ghost use Rattle.std.specs.Prelude.{◌≡◌, ◌↔◌, IsNone};
 ghost use Rattle.cy_fuse.specs.Fetch.{fetch};
 ghost use Rattle.cy_fuse.specs.Cache.{fetched, next_index};
 
-use crate::{CacheBuffer, fetch_at};
+use crate::{CacheBuffer, Overflow, fetch_at};
 use std::marker::Model;
 
 /// The place in a buffer from which a reader fetches next. Contracts see it as its index.
@@ -52,15 +52,21 @@ impl Cursor {
         self.index
     }
 
-    /// Fetches an item by the fetch rule, and its number. The cursor is then behind it; where
-    /// nothing is found it stays.
+    /// Fetches an item by the fetch rule, and its number; `overflow` says which one where the item
+    /// of the index isn't kept any more. The cursor is then behind it; where nothing is found it
+    /// stays.
     #[tactic(auto, using(crate::proofs::Fetched::fetch_found))]
-    pub fn fetch<T: Copy>(&mut self, buffer: &CacheBuffer<T>) -> Option<(T, u64)>
-        ensures found { result ≡ fetched self.old buffer.now }
+    pub fn fetch<T: Copy>(
+        &mut self,
+        buffer: &CacheBuffer<T>,
+        overflow: Overflow,
+    ) -> Option<(T, u64)>
+        ensures found { result ≡ fetched self.old buffer.now overflow }
         ensures next { self.new ≡ next_index self.old result }
-        ensures none { IsNone result ↔ IsNone (fetch self.old buffer.now.tail buffer.now.size) }
+        ensures none { IsNone result
+            ↔ IsNone (fetch self.old buffer.now.tail buffer.now.size overflow) }
     {
-        let number = fetch_at(self.index, buffer.tail(), buffer.size())?;
+        let number = fetch_at(self.index, buffer.tail(), buffer.size(), overflow)?;
         self.index = number + 1;
         Some((buffer.kept(number), number))
     }

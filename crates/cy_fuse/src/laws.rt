@@ -16,7 +16,7 @@ pub fn caches_keep_the_last<T: Copy>()
 {}
 
 /// A fetch finds an item that is kept, from its index on: the newest at first, and then that of its
-/// index where it is kept. Where that isn't kept any more it is the newest.
+/// index where it is kept. Where that isn't kept any more it is the newest, or the oldest that is.
 #[inline(always)]
 pub fn fetches_find()
     ensures find { FetchesFind }

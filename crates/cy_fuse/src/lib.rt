@@ -3,7 +3,7 @@
 //!
 //! `specs/Fusion` has the tuples that arrivals make, `specs/Fetch` the fetch rule, `specs/Cache`
 //! what a buffer keeps of all that was filled, `specs/Visitor` what a visitor answers over its
-//! arrivals, `specs/Laws` how one more arrival changes a fusion, and what stays true of a fetch
+//! arrivals, `specs/Laws` how one more arrival changes a fusion, and what is true of a fetch
 //! whatever it finds in place of an item that isn't kept any more.
 #![tactic(auto)]
 
@@ -12,6 +12,7 @@ mod cursor;
 mod error;
 mod fetch;
 mod laws;
+mod overflow;
 mod visitor;
 
 pub use cache::CacheBuffer;
@@ -19,4 +20,5 @@ pub use cursor::Cursor;
 pub use error::FuseError;
 pub use fetch::fetch_at;
 pub use laws::{caches_keep_the_last, fetches_find, fusions_grow};
+pub use overflow::Overflow;
 pub use visitor::Visitor;

@@ -6,7 +6,7 @@ ghost use Rattle.cy_msg.specs.declared.token.Tuple.TheVariants.{One};
 ghost use Rattle.cy_fuse.specs.Visitor.{prepared, arrived, visited, position_at, index_after};
 ghost use Rattle.cy_fuse.specs.private.Visiting.{message_at, tuple_at, JoinsLast};
 
-use crate::{CacheBuffer, Cursor, FuseError, fetch_at};
+use crate::{CacheBuffer, Cursor, FuseError, Overflow, fetch_at};
 use cy_msg::{Token, Tuple};
 use std::alloc::Global;
 use std::marker::Model;
@@ -27,11 +27,12 @@ const BLANK: (u8, Token) = (
 );
 
 /// The arrivals at a component, and the last tuples that they make. Contracts see it as a
-/// `VisitorView`: how many tuples it keeps, how many readers it has, for how many more arrivals it
-/// has room, and all that arrived.
+/// `VisitorView`: how many tuples it keeps, how many readers it has, where a fetch goes on whose
+/// tuple isn't kept any more, for how many more arrivals it has room, and all that arrived.
 #[derive(Drop)]
 pub struct Visitor {
     roles: u8,
+    overflow: Overflow,
     spare: u32,
     arrivals: Vec<(u8, Token)>,
     // The place of each reader's last arrival.
@@ -51,6 +52,7 @@ impl Model for Visitor {
     ghost view = { λ v. record {
       queue = v.tuples.size;
       roles = v.roles;
+      overflow = v.overflow;
       spare = v.spare;
       arrivals = v.arrivals.items;
     } };
@@ -60,15 +62,23 @@ impl Model for Visitor {
 }
 
 impl Visitor {
-    /// A visitor of a component with so many readers, which keeps so many tuples. It takes the
-    /// memory for so many arrivals; its only error is `Memory`.
-    pub fn prepare(alloc: Global, queue: u32, roles: u8, spare: u32) -> Result<Self, FuseError>
+    /// A visitor of a component with so many readers, which keeps so many tuples; `overflow` says
+    /// where a fetch goes on whose tuple isn't kept any more. It takes the memory for so many
+    /// arrivals; its only error is `Memory`.
+    pub fn prepare(
+        alloc: Global,
+        queue: u32,
+        roles: u8,
+        overflow: Overflow,
+        spare: u32,
+    ) -> Result<Self, FuseError>
         requires queue { 1 ≤ queue }
         requires roles { (1 ≤ roles) × (roles ≤ 4) }
-        ensures { IfOk result (λ v. v ≡ prepared queue roles spare) }
+        ensures { IfOk result (λ v. v ≡ prepared queue roles overflow spare) }
     {
         Ok(Visitor {
             roles,
+            overflow,
             spare,
             arrivals: Vec::with_capacity(alloc, spare as usize)?,
             last: [None; MOST_ROLES],
@@ -117,7 +127,7 @@ impl Visitor {
         ensures next { cursor.new ≡ index_after cursor.old result }
         ensures none { IsNone result ↔ IsNone (position_at cursor.old self.now) }
     {
-        let (places, position) = cursor.fetch(&self.tuples)?;
+        let (places, position) = cursor.fetch(&self.tuples, self.overflow)?;
         let tuple = tuple_of(self.roles, self.arrivals.as_slice(), places);
         Some((tuple, position, self.tuples.tail()))
     }
@@ -131,7 +141,7 @@ impl Visitor {
             ≡ visited cursor.old self.now }
         ensures next { cursor.new ≡ index_after cursor.old (visited cursor.old self.now) }
     {
-        let (places, position) = cursor.fetch(&self.tuples)?;
+        let (places, position) = cursor.fetch(&self.tuples, self.overflow)?;
         let only = message(self.arrivals.as_slice(), places[0]);
         Some((only, position, self.tuples.tail()))
     }
@@ -147,7 +157,8 @@ impl Visitor {
     pub fn finds(&self, cursor: Cursor) -> bool
         ensures { result ≡ is_some (position_at cursor self.now) }
     {
-        fetch_at(cursor.next(), self.tuples.tail(), self.tuples.size()).is_some()
+        let (tail, queue) = (self.tuples.tail(), self.tuples.size());
+        fetch_at(cursor.next(), tail, queue, self.overflow).is_some()
     }
 }
 

@@ -2,6 +2,7 @@
 use Rattle.std.specs.Prelude.{ℕ, ◌≢◌, ◌≡◌, nat_lt, if◌then◌else◌, List, [], ◌∷◌, ◌++◌, length}
 use Rattle.std.specs.Prelude.{codes}
 use Rattle.cy_store.specs.Reads.{Reads, Accepts, Refuses}
+use Rattle.cy_fuse.specs.declared.overflow.Overflow.TheVariants.{Newest}
 use Rattle.cy_comp.specs.declared.kind.Kind.TheVariants.{Pass}
 use Rattle.cy_dag.specs.DagFile.{count_of}
 use Rattle.cy_dag.specs.Wiring.{named, number_in}
@@ -29,7 +30,7 @@ pass_component from = record {
 -- It writes the other channel, in messages of some type.
 abbrev pub pass_config : (to message_type : List ℕ) → Config
 pass_config to message_type =
-    record { kind = Pass; out = to; out_type = message_type; unknown = [] }
+    record { kind = Pass; overflow = Newest; out = to; out_type = message_type; unknown = [] }
 
 -- It alone, placed by the default scheduler.
 abbrev pub passing : (from to message_type : List ℕ) → Configured
@@ -52,6 +53,7 @@ pass_wired names from to message_type = record {
     kind = Pass;
     readers = number_in names from ∷ [];
     queue = 1;
+    overflow = Newest;
     out = number_in names to;
     out_type = message_type;
   } ∷ [];

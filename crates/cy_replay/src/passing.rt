@@ -9,6 +9,7 @@ use crate::read::default_scheduler;
 use crate::{Configuration, SetupError};
 use cy_comp::Kind;
 use cy_dag::{Config, Dag, DagComponent, DagReader};
+use cy_fuse::Overflow;
 use cy_msg::{Items, NamesError, Text};
 use cy_reader::Record;
 use std::alloc::Global;
@@ -59,6 +60,7 @@ fn pass_config(alloc: Global, to: &str, message_type: Text) -> Result<Config, Na
 {
     Ok(Config {
         kind: Kind::Pass,
+        overflow: Overflow::Newest,
         out: Text::new(alloc, to)?,
         out_type: message_type,
         unknown: Items::new(Vec::new(alloc)),

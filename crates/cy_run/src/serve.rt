@@ -63,8 +63,8 @@ fn resume<G: Gate, R: Wait>(
     }
 }
 
-// Ends a croutine that is stopped, once the output was sent that was held back. As one that ended of
-// itself, it sleeps for ever.
+// Ends a croutine that is stopped, once the output was sent that was held back. As one that ended
+// of itself, it sleeps for ever.
 fn end_stopped<R: Wait>(
     rt: &R,
     table: &FlagTable,

@@ -7,6 +7,7 @@ use mathlib.Core.Option.{some}
 use Rattle.atomic_table.specs.Table.{State as Table, stepped, gives}
 use Rattle.cy_msg.specs.declared.token.Token.{Token}
 use Rattle.cy_msg.specs.declared.token.Tuple.{Tuple}
+use Rattle.cy_fuse.specs.declared.overflow.Overflow.TheVariants.{Newest}
 use Rattle.cy_fuse.specs.Visitor.{VisitorView, visited}
 use Rattle.cy_comp.specs.declared.kind.Kind.TheVariants.{Pass}
 use Rattle.cy_comp.specs.declared.call.Call.{Call}
@@ -92,6 +93,7 @@ module _ (r : Rooms) (w : Plain) (s : Table Part Seat) (id : ℕ) (v : Seat) (si
         arrivals = ap (λ (x : VisitorView). x.arrivals) seen;
         roles = ap (λ (x : VisitorView). x.roles) seen ∙ ap (λ (o : Option Route). option_map_or (λ (y : Route). length y.readers) o 0) u.at;
         queue = ap (λ (x : VisitorView). x.queue) seen ∙ ap (λ (o : Option Route). option_map_or (queue_of w.routes w.counts) o 1) u.at;
+        overflow = ap (λ (x : VisitorView). x.overflow) seen ∙ ap (λ (o : Option Route). option_map_or (λ (y : Route). y.overflow) o Newest) u.at;
       } in
       finds.visitor w c u.route g.routine a.visitor shows u.at (sits.rules.fixed.buffered c u.route u.at) sits.rules.sound.consistent
       ∙ ap (λ (i : ℕ). option_map (call_of g.routine) (visited i a.visitor)) cursor

@@ -7,6 +7,8 @@ use mathlib.Core.Option as maybe
 use mathlib.Core.Option.{some, some-ne-none, some-injective}
 use lib.ListN.{get_elem?}
 use Rattle.atomic_table.specs.Table.{opening}
+use Rattle.cy_fuse.specs.declared.overflow.Overflow.{Overflow}
+use Rattle.cy_fuse.specs.declared.overflow.Overflow.TheVariants.{Newest}
 use Rattle.cy_fuse.specs.Fusion.{Arrival}
 use Rattle.cy_fuse.specs.Visitor.{VisitorView}
 use Rattle.cy_comp.specs.declared.kind.Kind.{Kind}
@@ -27,7 +29,7 @@ use Rattle.cy_table.specs.declared.part.Part.TheVariants as part
 use Rattle.cy_table.specs.Layout.{state_number, yes_or_no, stop_number}
 use Rattle.cy_table.specs.Seats.{Seat, TapeView}
 use Rattle.cy_table.specs.Seats.{AreSeen}
-use Rattle.cy_table.specs.Shown.{Rooms, AreRoomy, LiesOpen, kind_at, roles_at, queue_at, out_in, pending_at, routine_at, visitor_at, tape_at}
+use Rattle.cy_table.specs.Shown.{Rooms, AreRoomy, LiesOpen, kind_at, roles_at, queue_at, overflow_at, out_in, pending_at, routine_at, visitor_at, tape_at}
 use Rattle.cy_table.specs.Rule.{WereSo}
 use Rattle.cy_table.specs.Plays.{calls_from, rule_for, seat_for}
 use Rattle.cy_table.specs.Laws.{TableEnds}
@@ -163,6 +165,11 @@ laid_routine (r ∷ rs) [] c e l = absurd (omega (arith, e))
 laid_routine (r ∷ rs) (v ∷ vs) zero e l = refl
 laid_routine (r ∷ rs) (v ∷ vs) (suc c) e l = let next : 2 * suc c ≡ suc (suc (2 * c)) = omega arith in ap (get_elem? (laid (r ∷ rs) (v ∷ vs))) next ∙ laid_routine rs vs c (omega (arith, e)) (omega (arith, l))
 
+-- A visitor, by its parts.
+visitor_is : (v : VisitorView) {queue roles spare : ℕ} {overflow : Overflow} {arrivals : List Arrival} → v.queue ≡ queue → v.roles ≡ roles → v.overflow ≡ overflow → v.spare ≡ spare → v.arrivals ≡ arrivals
+    → v ≡ record { queue = queue; roles = roles; overflow = overflow; spare = spare; arrivals = arrivals }
+visitor_is v queue roles overflow spare arrivals = rw (← queue, ← roles, ← overflow, ← spare, ← arrivals) refl
+
 laid_visitor : (rs : List RoutineView) (vs : List VisitorView) (c : ℕ) → length vs ≡ length rs → c < length rs → get_elem? (laid rs vs) (2 * c + 1) ≡ some (part.Visitor (read (λ v. v) no_visitor vs c))
 unfolding read
 laid_visitor [] vs c e l = absurd (omega (arith, l))
@@ -242,17 +249,10 @@ module _ (p : Parts) (fit : AreFit p) (c : ℕ) (inside : c < length (routes_in 
       let v = read (λ v. v) no_visitor p.visitors c in
       let queue : v.queue ≡ queue_at (routes_in p.fixed) (counts_in p.fixed) c = fit.visited.queues c x.0 x.1 ∙ ap (λ (o : Option Route). option_map_or (queue_of (routes_in p.fixed) (counts_in p.fixed)) o 1) (sym x.1) in
       let roles : v.roles ≡ roles_at (routes_in p.fixed) c = fit.visited.roles c x.0 x.1 ∙ ap (λ (o : Option Route). option_map_or (λ (y : Route). length y.readers) o 0) (sym x.1) in
+      let overflow : v.overflow ≡ overflow_at (routes_in p.fixed) c = fit.visited.overflows c x.0 x.1 ∙ ap (λ (o : Option Route). option_map_or (λ (y : Route). y.overflow) o Newest) (sym x.1) in
       let arrivals : v.arrivals ≡ read (λ (y : VisitorView). y.arrivals) [] p.visitors c = sym (read_of (λ (y : VisitorView). y.arrivals) no_visitor p.visitors c) in
       let spare : v.spare ≡ (length v.arrivals + v.spare) - length (read (λ (y : VisitorView). y.arrivals) [] p.visitors c) = omega (arith, ap length arrivals) in
-      ap (λ (n : ℕ). record { queue = n; roles = v.roles; spare = v.spare; arrivals = v.arrivals }) queue
-      ∙ ap (λ (n : ℕ). record { queue = queue_at (routes_in p.fixed) (counts_in p.fixed) c; roles = n; spare = v.spare; arrivals = v.arrivals }) roles
-      ∙ ap (λ (n : ℕ). record { queue = queue_at (routes_in p.fixed) (counts_in p.fixed) c; roles = roles_at (routes_in p.fixed) c; spare = n; arrivals = v.arrivals }) spare
-      ∙ ap (λ (l : List Arrival). record {
-        queue = queue_at (routes_in p.fixed) (counts_in p.fixed) c;
-        roles = roles_at (routes_in p.fixed) c;
-        spare = (length v.arrivals + v.spare) - length (read (λ (y : VisitorView). y.arrivals) [] p.visitors c);
-        arrivals = l;
-      }) arrivals
+      visitor_is v queue roles overflow spare arrivals
 
 pub slots_are : (p : Parts) → AreFit p → (t : TapeView) → t ≡ record { messages = p.tape.items; room = vec_capacity p.tape } → AreSlots (rooms_of p) (shown_by p) (part.Tape t ∷ laid p.routines p.visitors)
 unfolding shown_by

@@ -8,6 +8,7 @@ use lib.ListN.{get_elem?}
 use Rattle.atomic_table.specs.Table.{Final, Seen}
 use Rattle.cy_msg.specs.declared.token.Token.{Token}
 use Rattle.cy_msg.specs.Tokens.{on_channel}
+use Rattle.cy_fuse.specs.declared.overflow.Overflow.TheVariants.{Newest}
 use Rattle.cy_fuse.specs.Visitor.{VisitorView}
 use Rattle.cy_comp.specs.declared.kind.Kind.TheVariants.{Pass}
 use Rattle.cy_comp.specs.declared.call.Call.{Call}
@@ -345,6 +346,7 @@ module _ {made : Plain} {v : Seat} {words : List ℕ} {slots : List Part} (e : E
   visited_as = record {
     queues = λ c x at. ap (λ (y : VisitorView). y.queue) (its_visitor c (within c x at)) ∙ ap (λ (o : Option Route). option_map_or (queue_of e.world.routes e.world.counts) o 1) at;
     roles = λ c x at. ap (λ (y : VisitorView). y.roles) (its_visitor c (within c x at)) ∙ ap (λ (o : Option Route). option_map_or (λ (y : Route). length y.readers) o 0) at;
+    overflows = λ c x at. ap (λ (y : VisitorView). y.overflow) (its_visitor c (within c x at)) ∙ ap (λ (o : Option Route). option_map_or (λ (y : Route). y.overflow) o Newest) at;
   }
     where
       within : (c : ℕ) (x : Route) → slice_get e.world.routes c ≡ Some x → c < length e.world.routes

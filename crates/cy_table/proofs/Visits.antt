@@ -16,7 +16,7 @@ use Rattle.cy_table.specs.declared.part.Part.{Part}
 use Rattle.cy_table.specs.declared.part.Part.TheVariants as part
 use Rattle.cy_table.specs.Seats.{Seat, Grip, Visit}
 use Rattle.cy_table.specs.Seats.Entry.{Saw}
-use Rattle.cy_table.specs.Shown.{Rooms, roles_at, queue_at, visitor_at}
+use Rattle.cy_table.specs.Shown.{Rooms, roles_at, queue_at, overflow_at, visitor_at}
 use Rattle.cy_table.specs.Rule.{Ruled, IsVisitorOf}
 use Rattle.cy_table.specs.Steps.{Sits, visiting, filling, called, fetching}
 use Rattle.cy_table.specs.Laws.{VisitorDoorSwaps, FillStores, FetchStores, RoomsLeft}
@@ -40,13 +40,14 @@ visits law rooms made slots id c m live bare less s k deep at bound =
           let known = (k.rules.knows id m.0 at).made live in
           let queue = ap (λ (y : VisitorView). y.queue) a.2 ∙ ap₂ (λ (l : List Route) (n : List ℕ). queue_at l n c) (sym known.0) (sym known.1) in
           let roles = ap (λ (y : VisitorView). y.roles) a.2 ∙ ap (λ (l : List Route). roles_at l c) (sym known.0) in
+          let overflow = ap (λ (y : VisitorView). y.overflow) a.2 ∙ ap (λ (l : List Route). overflow_at l c) (sym known.0) in
           let spare = ap (λ (y : VisitorView). y.spare) a.2 in (
             visiting m.0 c a.0,
             takes (2 * c + 2) (part.Visitor a.0),
             a.1,
             ruled_still k id (visiting m.0 c a.0) refl m.0 at a.3 refl,
             tell (slice_index s.words (4 * c + 7)) (visiting m.0 c a.0, (2 * c + 2, part.Visitor a.0) ∷ m.1) record {
-              open_door = λ z. (a.0, refl, queue, roles, λ j later e. room_left a.0.spare (k.rooms.arrivals c) (length (k.world.arrivals c)) spare (rooms.fill k.rooms k.world s id m.0 c j later sits e inside));
+              open_door = λ z. (a.0, refl, queue, roles, overflow, λ j later e. room_left a.0.spare (k.rooms.arrivals c) (length (k.world.arrivals c)) spare (rooms.fill k.rooms k.world s id m.0 c j later sits e inside));
               shut_door = λ ne. absurd (ne free);
             },
           )
@@ -102,7 +103,7 @@ fetches law rooms made slots id c x v more m live has same asked less is = subst
     let fits = λ (f : Tuple × ℕ × ℕ) (e : finding u ≡ Some f). rooms.fetch k.rooms k.world s id u g a f sits has asked refl (sym same) e in
     let calls = calls_in_hand k.rooms k.world s id u g sits rooms has in
     let is : x ≡ visitor_at k.rooms k.world g.croutine = visitor_known k.rooms k.world s id u sits a refl inside ∙ ap (visitor_at k.rooms k.world) (sym same) in
-    let saw : IsVisitorOf k.world g.croutine x = record { arrivals = ap (λ (y : VisitorView). y.arrivals) is; roles = ap (λ (y : VisitorView). y.roles) is; queue = ap (λ (y : VisitorView). y.queue) is } in (
+    let saw : IsVisitorOf k.world g.croutine x = record { arrivals = ap (λ (y : VisitorView). y.arrivals) is; roles = ap (λ (y : VisitorView). y.roles) is; queue = ap (λ (y : VisitorView). y.queue) is; overflow = ap (λ (y : VisitorView). y.overflow) is } in (
       fetching u g x (finding u),
       gives,
       tt,

@@ -21,7 +21,7 @@ use Rattle.cy_table.specs.declared.table.FlagTable.{FlagTable}
 use Rattle.cy_table.specs.Layout.{routine_slot, visitor_slot, tape_slot}
 use Rattle.cy_table.specs.Seats.{Seat, TapeView}
 use Rattle.cy_table.specs.Seats.{IsEmpty}
-use Rattle.cy_table.specs.Shown.{roles_at, queue_at}
+use Rattle.cy_table.specs.Shown.{roles_at, queue_at, overflow_at}
 use Rattle.cy_comp.specs.declared.state.State.{State}
 use Rattle.cy_table.specs.Steps.{visiting, entering, fetching, MayTape, MaySend, sending, out_at}
 use Rattle.cy_table.specs.Steps.{MayReady, readying, MaySpend, spending, seeing}
@@ -237,12 +237,14 @@ pub record CanFill (t : FlagTable) (p : Pass) (c role : ℕ) (token : Token) : T
   pub reader : role < roles_at (seat_of p).routes c
 
 -- A thread that took a visitor, which keeps as many tuples and has as many readers as its component
--- needs, and room where it is to be filled.
+-- needs, goes on as that does where a tuple isn't kept any more, and has room where it is to be
+-- filled.
 pub record Visiting (p : Pass) (c : ℕ) (x : VisitorView) (q : Pass) : Type 0 where
   pub thread : thread_of q
       ≡ (visiting (seat_of p) c x, (visitor_slot c, part.Away) ∷ (thread_of p).1)
   pub queue : x.queue ≡ queue_at (seat_of p).routes (seat_of p).counts c
   pub roles : x.roles ≡ roles_at (seat_of p).routes c
+  pub overflow : x.overflow ≡ overflow_at (seat_of p).routes c
   pub room : (j : ℕ) (later : List (ℕ × ℕ)) → (seat_of p).fills ≡ (c, j) ∷ later → 1 ≤ x.spare
 
 -- The event Fetch, of the croutine in hand, which asked. What it finds is what the fetch rule gives
@@ -262,9 +264,10 @@ pub record Fetched (t : FlagTable) (p : Pass) (h : Hold) (answer : Option Tuple)
   pub visitor : VisitorView
   pub queue : visitor.queue ≡ queue_at (seat_of p).routes (seat_of p).counts (component_of h)
   pub roles : visitor.roles ≡ roles_at (seat_of p).routes (component_of h)
+  pub overflow : visitor.overflow ≡ overflow_at (seat_of p).routes (component_of h)
   pub found : answer ≡ option_map (λ f. f.0) (fetched_at h visitor)
   pub none : IsNone answer ↔ IsNone (fetch (cursor_after (routine_of h).calls)
-      (length (tuples_at visitor)) visitor.queue)
+      (length (tuples_at visitor)) visitor.queue visitor.overflow)
   pub seat : seat_of q
       ≡ fetching (seat_of p) (in_hand (seat_of p)) visitor (fetched_at h visitor)
   pub holds : Holds t q k

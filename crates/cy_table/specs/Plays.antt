@@ -5,6 +5,7 @@ use Rattle.std.specs.Prelude.{length, take, Option, Some, None}
 use Rattle.atomic_table.specs.Table.{State as Table, Me, Step, rest}
 use Rattle.cy_msg.specs.declared.token.Token.{Token}
 use Rattle.cy_msg.specs.declared.token.Tuple.{Tuple}
+use Rattle.cy_fuse.specs.declared.overflow.Overflow.TheVariants.{Newest}
 use Rattle.cy_fuse.specs.Visitor.{VisitorView, prepared, visited as found_at}
 use Rattle.cy_comp.specs.declared.kind.Kind.TheVariants.{Pass}
 use Rattle.cy_comp.specs.declared.call.Call.{Call}
@@ -21,7 +22,7 @@ use Rattle.cy_table.specs.declared.part.Part.TheVariants as part
 use Rattle.cy_table.specs.Layout.{hold_word, routine_slot, visitor_door, visitor_slot}
 use Rattle.cy_table.specs.Layout.{tape_slot}
 use Rattle.cy_table.specs.Seats.{Seat, Seen, Grip, Visit, TapeView}
-use Rattle.cy_table.specs.Shown.{roles_at, queue_at}
+use Rattle.cy_table.specs.Shown.{roles_at, queue_at, overflow_at}
 use Rattle.cy_table.specs.Rule.{Ruled}
 use Rattle.cy_table.specs.Steps.{acquiring, failing, releasing, asking, yielding, first_seat}
 use Rattle.cy_table.specs.Steps.{visiting, filling, called, fetching, entering, MayTape, taping}
@@ -136,13 +137,14 @@ abbrev pub spent : Step Part → Thread → ℕ → Thread → Type 0
 spent step m found n = n ≡ (spending m.0 (in_hand m.0) (found == 1), m.1)
 
 -- The swap of a visitor's door: the visitor is in hand, which keeps as many tuples and has as many
--- readers as its component needs, and has room where it is to be filled; or another thread is
--- behind the door.
+-- readers as its component needs, goes on as that does where a tuple isn't kept any more, and has
+-- room where it is to be filled; or another thread is behind the door.
 pub record VisitTells (c : ℕ) (m : Thread) (found : ℕ) (n : Thread) : Type 0 where
   pub open_door : found ≡ 0 → (x : VisitorView)
       × (n ≡ (visiting m.0 c x, (visitor_slot c, part.Visitor x) ∷ m.1))
       × (x.queue ≡ queue_at m.0.routes m.0.counts c)
       × (x.roles ≡ roles_at m.0.routes c)
+      × (x.overflow ≡ overflow_at m.0.routes c)
       × ((j : ℕ) (later : List (ℕ × ℕ)) → m.0.fills ≡ (c, j) ∷ later → 1 ≤ x.spare)
   pub shut_door : found ≢ 0 → n ≡ m
 
@@ -166,7 +168,7 @@ filled step m found n = n ≡ (
 
 -- What a fetch by the croutine in hand finds at the visitor behind whose door the thread is.
 abbrev pub visit_or_none : Option Visit → Visit
-visit_or_none None = record { component = 0; visitor = prepared 1 1 0 }
+visit_or_none None = record { component = 0; visitor = prepared 1 1 Newest 0 }
 visit_or_none (Some a) = a
 
 abbrev pub visitor_of : Seat → VisitorView

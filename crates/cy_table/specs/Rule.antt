@@ -26,6 +26,7 @@ use Rattle.cy_table.specs.Seats.{Seat, Entry, TapeView, IsEmpty, AreSeen, total_
 use Rattle.cy_table.specs.Seats.Entry.{Busy, Found, Saw, Clock, Closing}
 use Rattle.cy_table.specs.Shown.{Spread, spread, routine_in, visitor_in, tape_in, routine_of}
 use Rattle.cy_table.specs.Shown.{visitor_of, hand_of, Kept, Rooms, AreRoomy, roles_at, queue_at}
+use Rattle.cy_table.specs.Shown.{overflow_at}
 use Rattle.cy_table.specs.Shown.{routine_at, visitor_at, tape_at}
 
 -- The slots and those that have what belongs there show the tape, the routines and the visitors of
@@ -90,11 +91,13 @@ pub record Rules (r : Rooms) (w : Plain) (s : Table Part Seat) : Type 0 where
   pub counted : (v : Seat) → get_elem? s.views 0 ≡ some v
       → (v.live ≡ 1) × (total_live s.views ≡ v.split + 1)
 
--- A visitor has what arrived at a component of a world, for its readers and with its queue.
+-- A visitor has what arrived at a component of a world, for its readers and with its queue, and
+-- goes on as the component does where a tuple isn't kept any more.
 pub record IsVisitorOf (w : Plain) (c : ℕ) (x : VisitorView) : Type 0 where
   pub arrivals : x.arrivals ≡ w.arrivals c
   pub roles : x.roles ≡ roles_at w.routes c
   pub queue : x.queue ≡ queue_at w.routes w.counts c
+  pub overflow : x.overflow ≡ overflow_at w.routes c
 
 -- What a thread noted is so in a world: some thread holds the croutine; it is in that state; the
 -- visitor is the component's; the clock, and whether the run is closing.

@@ -8,6 +8,8 @@ use mathlib.Core.Option as maybe
 use lib.ListN.{get_elem?}
 use Rattle.atomic_table.specs.Table.{State as Table}
 use Rattle.cy_msg.specs.declared.token.Token.{Token}
+use Rattle.cy_fuse.specs.declared.overflow.Overflow.{Overflow}
+use Rattle.cy_fuse.specs.declared.overflow.Overflow.TheVariants.{Newest}
 use Rattle.cy_fuse.specs.Visitor.{VisitorView}
 use Rattle.cy_comp.specs.declared.kind.Kind.{Kind}
 use Rattle.cy_comp.specs.declared.kind.Kind.TheVariants.{Pass}
@@ -109,6 +111,9 @@ roles_at routes c = option_map_or (λ (x : Route). length x.readers) (slice_get 
 abbrev pub queue_at : List Route → List ℕ → ℕ → ℕ
 queue_at routes counts c = option_map_or (queue_of routes counts) (slice_get routes c) 1
 
+abbrev pub overflow_at : List Route → ℕ → Overflow
+overflow_at routes c = option_map_or (λ (x : Route). x.overflow) (slice_get routes c) Newest
+
 abbrev pub out_in : Token → Out
 out_in t = record { time = t.time; whole = t.whole; origin = t.origin }
 
@@ -128,6 +133,7 @@ abbrev pub visitor_at : Rooms → Plain → ℕ → VisitorView
 visitor_at r w c = record {
   queue = queue_at w.routes w.counts c;
   roles = roles_at w.routes c;
+  overflow = overflow_at w.routes c;
   spare = r.arrivals c - length (w.arrivals c);
   arrivals = w.arrivals c;
 }

@@ -3,15 +3,17 @@ use Rattle.std.proofs.Common.{ℕ, suc, ℤ, pos, negsuc, ◌≡◌, ◌+◌, �
 use Rattle.std.proofs.lemmas.Bool.{and_from, eqb-false, ne_eqb}
 use Rattle.std.proofs.lemmas.Bool.Decides.{nat_tests}
 use Rattle.std.proofs.lemmas.List.{append-nil}
-use Rattle.std.proofs.lemmas.Option.{none-some, same_Some, option_and_then_some}
+use Rattle.std.proofs.lemmas.Option.{none-some, option_and_then_some}
 use Rattle.std.proofs.lemmas.Slice.Eq.{bytes_eq-Decides}
 use Rattle.std.specs.List.{flat_map}
 use Rattle.std.specs.Str.{IsUtf8, bytes_eq}
 use Rattle.std.specs.Fmt.{decimal}
+use Rattle.cy_fuse.specs.declared.overflow.Overflow.{Overflow}
+use Rattle.cy_fuse.specs.declared.overflow.Overflow.TheVariants.{Newest, Oldest}
 use Rattle.cy_msg.specs.Quoted.{quoted, escaped, octal}
 use Rattle.cy_trace.specs.Cuts.{lacks, cut}
-use Rattle.cy_trace.specs.LineReading.{short, long, pair, after, call, call_of, name, roles, state, title, played, ended, taped, entry_of, line_by, line_of}
-use Rattle.cy_trace.specs.TraceText.{value_text}
+use Rattle.cy_trace.specs.LineReading.{short, long, pair, after, call, call_of, name, roles, state, version, title, told, named, component, played, ended, taped, entry_of, line_by, line_of}
+use Rattle.cy_trace.specs.TraceText.{value_text, overflow_word}
 use Rattle.cy_trace.specs.TraceForm.{IsShort, IsLong, IsValue, IsOutput, IsSeqs, Each, IsLine, output_text, numbers_text, digits_text, state_text, line_text}
 use Rattle.cy_trace.specs.declared.trace.TraceOutput.{TraceOutput}
 use Rattle.cy_trace.specs.declared.trace.TraceCall.{TraceCall}
@@ -21,7 +23,7 @@ use Rattle.cy_trace.specs.declared.line.Line.TheVariants.{Title, Played, Compone
 use Rattle.cy_trace.proofs.CutLaws.{cut_finds, cut_parts, mapped_some, lacks-append}
 use Rattle.cy_trace.proofs.NumeralLaws.{lacks_decimal}
 use Rattle.cy_trace.proofs.NameLaws.{name_reader}
-use Rattle.cy_trace.proofs.PartLaws.{short_reader, long_reader, place_reader, output_reader, seqs_reader, roles_reader, state_reader, words_text}
+use Rattle.cy_trace.proofs.PartLaws.{short_reader, long_reader, place_reader, output_reader, seqs_reader, roles_reader, state_reader, words_text, version_reader, version_short, told_reader}
 use Rattle.cy_trace.proofs.Readers.{IsReader, pair_reader, pair_last_reader, after_reader, made_reader}
 
 -- what marks below a dash are lacking in
@@ -80,20 +82,52 @@ lacks_state false h = refl
 ended_reader : IsReader (λ (p : Bool × ℕ). state_text p.0 ++ 32 ∷ (codes "next " ++ decimal p.1)) (λ p. Unit {0} × IsLong p.1) (pair 32 state (after (codes "next ") long))
 ended_reader = pair_reader state_reader (after_reader long_reader (codes "next ")) 32 lacks_state
 
+-- nothing is told behind a name in quotes
+last_of : List ℕ → ℕ
+last_of [] = 0
+last_of (x ∷ []) = x
+last_of (x ∷ y ∷ ys) = last_of (y ∷ ys)
+
+last_is : (xs : List ℕ) (b : ℕ) → last_of (xs ++ b ∷ []) ≡ b
+unfolding last_of
+last_is [] b = refl
+last_is (x ∷ []) b = refl
+last_is (x ∷ y ∷ ys) b = last_is (y ∷ ys) b
+
+quote_last : (n : List ℕ) → last_of (quoted true n) ≡ 34
+unfolding quoted
+quote_last n = last_is (34 ∷ flat_map (escaped true) n) 34
+
+word_last : (xs : List ℕ) (o : Overflow) → last_of (xs ++ 32 ∷ overflow_word o) ≡ 84
+word_last xs Newest = ap last_of (sym (append_assoc xs (codes " NEWES") (84 ∷ []))) ∙ last_is (xs ++ codes " NEWES") 84
+word_last xs Oldest = ap last_of (sym (append_assoc xs (codes " OLDES") (84 ∷ []))) ∙ last_is (xs ++ codes " OLDES") 84
+
+told_by : (o : Option (List ℕ × Overflow)) → ((p : List ℕ × Overflow) → o ≡ Some p → ⊥) → o ≡ None
+told_by None h = refl
+told_by (Some p) h = absurd (h p refl)
+
+none_told : (n : List ℕ) → told (quoted true n) ≡ None
+none_told n = told_by (told (quoted true n)) (λ p found.
+    let s = told_reader.sound (quoted true n) p found in
+    let quote : last_of (quoted true n) ≡ 34 = quote_last n in
+    let word : last_of (quoted true n) ≡ 84 = ap last_of s.1 ∙ word_last (p.0 ++ 32 ∷ codes "overflow") p.1 in
+    omega arith)
+
 -- a line's first word, and what follows
 abbrev word_of : Line → List ℕ
-word_of Title = codes "cyber-trace"
+word_of (Title v) = codes "cyber-trace"
 word_of (Played p s) = codes "played"
-word_of (Component n) = codes "component"
+word_of (Component n o) = codes "component"
 word_of (Roles rs) = codes "roles"
 word_of (Call x) = codes "call"
 word_of (End f n) = codes "end"
 word_of (Tape e) = codes "tape"
 
 abbrev rest_of : Line → List ℕ
-rest_of Title = codes "1"
+rest_of (Title v) = decimal v
 rest_of (Played p s) = decimal p ++ 32 ∷ (codes "shadowed " ++ decimal s)
-rest_of (Component n) = quoted true n
+rest_of (Component n None) = quoted true n
+rest_of (Component n (Some o)) = (quoted true n ++ 32 ∷ codes "overflow") ++ 32 ∷ overflow_word o
 rest_of (Roles rs) = digits_text rs
 rest_of (Call x) = (decimal x.position ++ 47 ∷ decimal x.tail) ++ 32 ∷ (words_text x.seqs ++ 32 ∷ output_text x.out)
 rest_of (End f n) = state_text f ++ 32 ∷ (codes "next " ++ decimal n)
@@ -116,28 +150,32 @@ call_regroup p t (n ∷ ns) o some =
 
 regroup : (l : Line) → IsLine l → word_of l ++ 32 ∷ rest_of l ≡ line_text l
 unfolding line_text
-regroup Title fits = refl
+regroup (Title v) fits = refl
 regroup (Played p s) fits = simp append_assoc
-regroup (Component n) fits = refl
+regroup (Component n None) fits = ap (λ (xs : List ℕ). codes "component " ++ xs) (sym (append-nil (quoted true n)))
+regroup (Component n (Some o)) fits = simp append_assoc
 regroup (Roles rs) fits = refl
 regroup (Call x) fits = call_regroup x.position x.tail x.seqs (output_text x.out) fits.1.0.1
 regroup (End f n) fits = simp append_assoc
 regroup (Tape e) fits = simp append_assoc
 
 lacks_word : (l : Line) → lacks 32 (word_of l) ≡ true
-lacks_word Title = refl
+lacks_word (Title v) = refl
 lacks_word (Played p s) = refl
-lacks_word (Component n) = refl
+lacks_word (Component n o) = refl
 lacks_word (Roles rs) = refl
 lacks_word (Call x) = refl
 lacks_word (End f n) = refl
 lacks_word (Tape e) = refl
 
 rest_read : (l : Line) → IsLine l → line_by (word_of l) (rest_of l) ≡ Some l
-unfolding line_by title played ended call_text
-rest_read Title fits = refl
+unfolding line_by title component played ended call_text
+rest_read (Title v) fits = ap (option_map Title) (version_reader.complete v fits)
 rest_read (Played p s) fits = ap (option_map (λ (v : ℕ × ℕ). Played v.0 v.1)) (played_reader.complete (p, s) fits)
-rest_read (Component n) fits = ap (option_map Component) (name_reader.complete n fits)
+rest_read (Component n None) fits = ap (named (quoted true n)) (none_told n) ∙ ap (option_map (λ m. Component m None)) (name_reader.complete n fits)
+rest_read (Component n (Some o)) fits =
+    ap (named ((quoted true n ++ 32 ∷ codes "overflow") ++ 32 ∷ overflow_word o)) (told_reader.complete (quoted true n, o) (tt, tt))
+    ∙ ap (option_map (λ m. Component m (Some o))) (name_reader.complete n fits)
 rest_read (Roles rs) fits = ap (option_map Roles) (roles_reader.complete rs fits)
 rest_read (Call x) fits = ap (option_map Call) (call_reader.complete x fits)
 rest_read (End f n) fits = ap (option_map (λ (v : Bool × ℕ). End v.0 v.1)) (ended_reader.complete (f, n) (tt, fits))
@@ -163,8 +201,19 @@ module _ (word rest : List ℕ) (l : Line) where
   on_tape : word ≡ codes "tape" → option_map Tape (taped rest) ≡ Some l → Spelled word rest l
   on_tape is h = let m = mapped_some Tape (taped rest) l h in let s = taped_reader.sound rest m.0 m.1 in rw (← m.2) (s.0, is, s.1)
 
-  named : word ≡ codes "component" → option_map Component (name rest) ≡ Some l → Spelled word rest l
-  named is h = let m = mapped_some Component (name rest) l h in let s = name_reader.sound rest m.0 m.1 in rw (← m.2) (s.0, is, s.1)
+  named_by : (found : Option (List ℕ × Overflow)) → told rest ≡ found → word ≡ codes "component" → named rest found ≡ Some l → Spelled word rest l
+  named_by None finds is h =
+      let m = mapped_some (λ (n : List ℕ). Component n None) (name rest) l h in
+      let s = name_reader.sound rest m.0 m.1 in rw (← m.2) (s.0, is, s.1)
+  named_by (Some p) finds is h =
+      let m = mapped_some (λ (n : List ℕ). Component n (Some p.1)) (name p.0) l h in
+      let s = name_reader.sound p.0 m.0 m.1 in
+      let t = told_reader.sound rest p finds in
+      rw (← m.2) (s.0, is, t.1 ∙ ap (λ (xs : List ℕ). (xs ++ 32 ∷ codes "overflow") ++ 32 ∷ overflow_word p.1) s.1)
+
+  of_component : word ≡ codes "component" → component rest ≡ Some l → Spelled word rest l
+  unfolding component
+  of_component is h = named_by (told rest) refl is h
 
   arrived : word ≡ codes "roles" → option_map Roles (roles rest) ≡ Some l → Spelled word rest l
   arrived is h = let m = mapped_some Roles (roles rest) l h in let s = roles_reader.sound rest m.0 m.1 in rw (← m.2) (s.0, is, s.1)
@@ -183,9 +232,7 @@ module _ (word rest : List ℕ) (l : Line) where
 
   at_title : word ≡ codes "cyber-trace" → title rest ≡ Some l → Spelled word rest l
   unfolding title
-  at_title is h =
-      by_word l (Spelled word rest l) (bytes_eq rest (codes "1")) (Some Title) None
-      (λ e f. let t = same_Some Title l f in rw (← t) (tt, is, (bytes_eq-Decides rest (codes "1")).0 e)) (λ f. absurd (none-some l f)) h
+  at_title is h = let m = mapped_some Title (version rest) l h in let s = version_reader.sound rest m.0 m.1 in rw (← m.2) (s.0, is, s.1)
 
   spelled : line_by word rest ≡ Some l → Spelled word rest l
   unfolding line_by
@@ -194,7 +241,7 @@ module _ (word rest : List ℕ) (l : Line) where
       let P = Spelled word rest l in
       by_word l P (bytes_eq word (codes "call")) _ _ (λ e. called (is (codes "call") e)) (
       by_word l P (bytes_eq word (codes "tape")) _ _ (λ e. on_tape (is (codes "tape") e)) (
-      by_word l P (bytes_eq word (codes "component")) _ _ (λ e. named (is (codes "component") e)) (
+      by_word l P (bytes_eq word (codes "component")) _ _ (λ e. of_component (is (codes "component") e)) (
       by_word l P (bytes_eq word (codes "roles")) _ _ (λ e. arrived (is (codes "roles") e)) (
       by_word l P (bytes_eq word (codes "end")) _ _ (λ e. at_end (is (codes "end") e)) (
       by_word l P (bytes_eq word (codes "played")) _ _ (λ e. in_head (is (codes "played") e)) (
@@ -265,10 +312,16 @@ words_lack [] fits = refl
 words_lack (n ∷ []) fits = short_line n fits.0
 words_lack (n ∷ m ∷ ns) fits = lacks-append 10 (decimal n) (32 ∷ words_text (m ∷ ns)) (short_line n fits.0) (words_lack (m ∷ ns) fits.1)
 
+overflow_lacks : (o : Overflow) → lacks 10 (32 ∷ overflow_word o) ≡ true
+overflow_lacks Newest = refl
+overflow_lacks Oldest = refl
+
 rest_lacks : (l : Line) → IsLine l → lacks 10 (rest_of l) ≡ true
-rest_lacks Title fits = refl
+rest_lacks (Title v) fits = short_line v (version_short v fits)
 rest_lacks (Played p s) fits = lacks-append 10 (decimal p) (32 ∷ (codes "shadowed " ++ decimal s)) (short_line p fits.0) (short_line s fits.1)
-rest_lacks (Component n) fits = name_lacks n
+rest_lacks (Component n None) fits = name_lacks n
+rest_lacks (Component n (Some o)) fits =
+    lacks-append 10 (quoted true n ++ 32 ∷ codes "overflow") (32 ∷ overflow_word o) (lacks-append 10 (quoted true n) (32 ∷ codes "overflow") (name_lacks n) refl) (overflow_lacks o)
 rest_lacks (Roles rs) fits = digits_lack rs
 rest_lacks (Call x) fits =
     lacks-append 10 (decimal x.position ++ 47 ∷ decimal x.tail) (32 ∷ (words_text x.seqs ++ 32 ∷ output_text x.out))
@@ -279,9 +332,9 @@ rest_lacks (End false n) fits = long_line n fits
 rest_lacks (Tape e) fits = lacks-append 10 (quoted true e.name) (32 ∷ decimal e.seq) (name_lacks e.name) (short_line e.seq fits.1)
 
 word_lacks : (l : Line) → lacks 10 (word_of l) ≡ true
-word_lacks Title = refl
+word_lacks (Title v) = refl
 word_lacks (Played p s) = refl
-word_lacks (Component n) = refl
+word_lacks (Component n o) = refl
 word_lacks (Roles rs) = refl
 word_lacks (Call x) = refl
 word_lacks (End f n) = refl

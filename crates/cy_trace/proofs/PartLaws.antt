@@ -1,6 +1,6 @@
 -- The numbers and parts of lines are read as they are written.
-use Rattle.std.proofs.Common.{ℕ, zero, suc, ℤ, pos, negsuc, ◌≡◌, ◌+◌, ◌-◌, ◌<◌, ◌≤◌, ◌==◌, not, nat_lt, Bool, true, false, cond, List, [], ◌∷◌, ◌++◌, length, map, get_or, codes, Option, Some, None, option_map, refl, ap, sym, ◌∙◌, arith, append_assoc}
-use Rattle.std.proofs.lemmas.Bool.{and_parts, not-true, eqb-true, ne_eqb, false_from_ne_true, lt-ltb, le-ltb, ltb-false, ltb-true}
+use Rattle.std.proofs.Common.{ℕ, zero, suc, ℤ, pos, negsuc, ◌≡◌, ◌+◌, ◌-◌, ◌<◌, ◌≤◌, ◌==◌, not, nat_lt, Bool, true, false, cond, List, [], ◌∷◌, ◌++◌, length, map, get_or, codes, Option, Some, None, option_map, refl, ap, sym, ◌∙◌, arith, append_assoc, inl, inr}
+use Rattle.std.proofs.lemmas.Bool.{and_parts, or_cases, not-true, eqb-true, ne_eqb, false_from_ne_true, lt-ltb, le-ltb, ltb-false, ltb-true}
 use Rattle.std.proofs.lemmas.Fmt.{decimal_nonempty}
 use Rattle.std.proofs.lemmas.List.{append-nil}
 use Rattle.std.proofs.lemmas.List.Splits.{join_with_byte-slice_split, length-slice_split}
@@ -10,16 +10,18 @@ use Rattle.std.specs.Option.{option_and_then}
 use Rattle.std.specs.List.{join_with_byte}
 use Rattle.std.specs.Str.{bytes_eq}
 use Rattle.std.specs.Fmt.{decimal, signed_decimal}
-use Rattle.cy_trace.specs.Cuts.{lacks, cut, both}
+use Rattle.cy_fuse.specs.declared.overflow.Overflow.{Overflow}
+use Rattle.cy_fuse.specs.declared.overflow.Overflow.TheVariants.{Newest, Oldest}
+use Rattle.cy_trace.specs.Cuts.{lacks, cut, cut_last, both}
 use Rattle.cy_trace.specs.Numerals.{number, signed, below_zero}
-use Rattle.cy_trace.specs.LineReading.{short, long, place, timed, timed_at, output, output_of, pair, numbers, seqs, words_left, role, digits, roles, state}
-use Rattle.cy_trace.specs.TraceText.{value_text}
-use Rattle.cy_trace.specs.TraceForm.{IsShort, IsLong, IsLongSigned, IsValue, IsOutput, IsSeqs, Each, output_text, digits_text, state_text}
+use Rattle.cy_trace.specs.LineReading.{short, long, place, timed, timed_at, output, output_of, pair, numbers, seqs, words_left, role, digits, roles, state, version, overflow, before_overflow, told}
+use Rattle.cy_trace.specs.TraceText.{value_text, overflow_word}
+use Rattle.cy_trace.specs.TraceForm.{IsShort, IsLong, IsLongSigned, IsValue, IsOutput, IsSeqs, Each, output_text, digits_text, state_text, is_version}
 use Rattle.cy_trace.specs.declared.trace.TraceOutput.{TraceOutput}
-use Rattle.cy_trace.proofs.CutLaws.{cut_none, cut_finds, cut_parts, mapped_some}
+use Rattle.cy_trace.proofs.CutLaws.{cut_none, cut_finds, cut_parts, cut_last_finds, cut_last_parts, mapped_some}
 use Rattle.cy_trace.proofs.NumeralLaws.{number_finds, number_spells, lacks_decimal}
 use Rattle.cy_trace.proofs.ReadingSteps.{one_word, split_found}
-use Rattle.cy_trace.proofs.Readers.{IsReader, pair_reader, both_some}
+use Rattle.cy_trace.proofs.Readers.{IsReader, pair_reader, pair_last_reader, both_some}
 
 pub short_reader : IsReader decimal IsShort short
 short_reader = record {
@@ -272,3 +274,63 @@ state_reader = record {
   sound = λ bs v h. state_by (bytes_eq bs (codes "FINISHED")) (bytes_eq bs (codes "DATA_WAIT")) bs v (bytes_eq-Decides bs (codes "FINISHED")).0 (bytes_eq-Decides bs (codes "DATA_WAIT")).0 h;
   complete = state_finds;
 }
+
+-- the version of the form
+pub version_short : (n : ℕ) → is_version n ≡ true → IsShort n
+version_short n h =
+    elim (or_cases (n == 1) (n == 2) h) [
+      | inl e ↦ let one : n ≡ 1 = eqb-true n 1 e in omega arith
+      | inr e ↦ let two : n ≡ 2 = eqb-true n 2 e in omega arith
+    ]
+
+version_by : (b : Bool) (n v : ℕ) → b ≡ is_version n → cond b (Some n) None ≡ Some v → (n ≡ v) × (is_version v ≡ true)
+version_by true n v is h = let e = same_Some n v h in (e, ap is_version (sym e) ∙ sym is)
+version_by false n v is h = absurd (none-some v h)
+
+pub version_reader : IsReader decimal (λ n. is_version n ≡ true) version
+version_reader = record {
+  sound = λ bs v h. option_and_then_some (λ (n : ℕ). cond (is_version n) (Some n) None) (short bs) v h (λ n found made.
+      let t = version_by (is_version n) n v refl made in
+      (t.1, (short_reader.sound bs n found).1 ∙ ap decimal t.0));
+  complete = λ n fits. rw (short_reader.complete n (version_short n fits), fits) refl;
+}
+
+-- where a component goes on
+overflow_from : (c d : Bool) (bs : List ℕ) (o : Overflow) → (c ≡ true → bs ≡ codes "NEWEST") → (d ≡ true → bs ≡ codes "OLDEST")
+    → cond c (Some Newest) (cond d (Some Oldest) None) ≡ Some o → Unit {0} × (bs ≡ overflow_word o)
+overflow_from true d bs o is other h = let e = same_Some Newest o h in rw (← e) (tt, is refl)
+overflow_from false true bs o is other h = let e = same_Some Oldest o h in rw (← e) (tt, other refl)
+overflow_from false false bs o is other h = absurd (none-some o h)
+
+overflow_finds : (o : Overflow) → Unit {0} → overflow (overflow_word o) ≡ Some o
+overflow_finds Newest fits = refl
+overflow_finds Oldest fits = refl
+
+overflow_reader : IsReader overflow_word (λ _. Unit {0}) overflow
+overflow_reader = record {
+  sound = λ bs o h. overflow_from (bytes_eq bs (codes "NEWEST")) (bytes_eq bs (codes "OLDEST")) bs o (bytes_eq-Decides bs (codes "NEWEST")).0 (bytes_eq-Decides bs (codes "OLDEST")).0 h;
+  complete = overflow_finds;
+}
+
+before_by : (b : Bool) (bs front word found : List ℕ) → (b ≡ true → word ≡ codes "overflow") → bs ≡ front ++ 32 ∷ word → cond b (Some front) None ≡ Some found
+    → Unit {0} × (bs ≡ found ++ 32 ∷ codes "overflow")
+before_by true bs front word found is whole h =
+    let e = same_Some front found h in
+    let same : word ≡ codes "overflow" = is refl in
+    (tt, whole ∙ ap (λ (w : List ℕ). front ++ 32 ∷ w) same ∙ ap (λ (f : List ℕ). f ++ 32 ∷ codes "overflow") e)
+before_by false bs front word found is whole h = absurd (none-some found h)
+
+before_reader : IsReader (λ (front : List ℕ). front ++ 32 ∷ codes "overflow") (λ _. Unit {0}) before_overflow
+before_reader = record {
+  sound = λ bs found h. option_and_then_some (λ (p : List ℕ × List ℕ). cond (bytes_eq p.1 (codes "overflow")) (Some p.0) None) (cut_last 32 bs) found h (λ p cuts made.
+      before_by (bytes_eq p.1 (codes "overflow")) bs p.0 p.1 found (bytes_eq-Decides p.1 (codes "overflow")).0 (cut_last_parts 32 bs p cuts) made);
+  complete = λ front fits. rw (cut_last_finds 32 front (codes "overflow") refl) refl;
+}
+
+overflow_lacks : (o : Overflow) → Unit {0} → lacks 32 (overflow_word o) ≡ true
+overflow_lacks Newest fits = refl
+overflow_lacks Oldest fits = refl
+
+pub told_reader : IsReader (λ (p : List ℕ × Overflow). (p.0 ++ 32 ∷ codes "overflow") ++ 32 ∷ overflow_word p.1) (λ p. Unit {0} × Unit {0}) told
+unfolding told
+told_reader = pair_last_reader before_reader overflow_reader 32 overflow_lacks

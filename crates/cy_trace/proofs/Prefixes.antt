@@ -13,14 +13,14 @@ use Rattle.cy_trace.specs.declared.error.TraceError.{TraceError}
 use Rattle.cy_trace.specs.declared.error.TraceError.TheVariants as trace_error
 use Rattle.cy_trace.specs.declared.fault.Fault.{Fault}
 use Rattle.cy_trace.specs.declared.fault.Fault.TheVariants as fault
-use Rattle.cy_trace.specs.TraceForm.{IsLine, AreLines, IsTrace, IsPrefix, IsFirstBad, ReadsTrace, line_text, whole_line, lines_of_trace, text_of_trace, cut_lines, onto_line}
+use Rattle.cy_trace.specs.TraceForm.{IsLine, AreLines, AreOfVersion, IsTrace, IsPrefix, IsFirstBad, ReadsTrace, line_text, whole_line, lines_of_trace, text_of_trace, cut_lines, onto_line}
 use Rattle.cy_trace.specs.declared.trace.Trace.{Trace}
 use Rattle.cy_trace.specs.declared.line.Line.{Line}
 use Rattle.cy_trace.specs.declared.building.Building.{Building}
 use Rattle.cy_trace.specs.declared.building.Building.TheVariants.{Start}
 use Rattle.cy_trace.proofs.CutLaws.{cut_parts, uncut}
 use Rattle.cy_trace.proofs.LineLaws.{line_back, line_spelled, line_lacks}
-use Rattle.cy_trace.proofs.Order.{lines_so_far, run, run-append, run_trace, built, finish_built, finished_lines, step_adds, are_lines-append, continues}
+use Rattle.cy_trace.proofs.Order.{lines_so_far, run, run-append, run_trace, built, finish_built, finished_lines, finished_suits, step_adds, step_suits, are_lines-append, continues, IsOfVersion}
 
 -- a line that ends with a newline is cut off
 pub whole_cut : (xs rest : List ℕ) → lacks 10 xs ≡ true → cut_lines (xs ++ 10 ∷ rest) ≡ (xs ++ 10 ∷ []) ∷ cut_lines rest
@@ -68,6 +68,7 @@ pub record Reached (bytes rest : List ℕ) (b : Building) (line : ℕ) : Type 0 
   pub text : bytes ≡ flat_map whole_line (lines_so_far b) ++ rest
   pub fits : AreLines (lines_so_far b)
   pub reached : run Start (lines_so_far b) ≡ Some b
+  pub suits : IsOfVersion b
   pub count : line ≡ length (lines_so_far b) + 1
   pub room : line + length rest ≤ length bytes + 1
 
@@ -87,11 +88,15 @@ more_cases (l ∷ ls) z zs fits h = (l, ls, refl, fits.0, (cons_parts (whole_lin
 
 lines_of_fitting : (t : Trace) → IsTrace t → AreLines (lines_of_trace t)
 unfolding IsTrace
-lines_of_fitting t h = h
+lines_of_fitting t h = h.0
 
-trace_fits : (t : Trace) → AreLines (lines_of_trace t) → IsTrace t
+suits_of_fitting : (t : Trace) → IsTrace t → AreOfVersion t.version t.components
 unfolding IsTrace
-trace_fits t h = h
+suits_of_fitting t h = h.1
+
+trace_fits : (t : Trace) → AreLines (lines_of_trace t) → AreOfVersion t.version t.components → IsTrace t
+unfolding IsTrace
+trace_fits t h suits = (h, suits)
 
 text_is : (t : Trace) → text_of_trace t ≡ flat_map whole_line (lines_of_trace t)
 unfolding text_of_trace
@@ -126,9 +131,9 @@ module _ (bytes rest : List ℕ) (b : Building) (line : ℕ) (at : Reached bytes
 
   is_prefix : IsPrefix (map whole_line (lines_so_far b))
   is_prefix =
-      let c = continues b in
+      let c = continues b at.suits in
       let fits : AreLines (lines_of_trace c.0) = subst AreLines (sym c.2) (are_lines-append (lines_so_far b) c.1 at.fits c.3) in
-      (c.0, map whole_line c.1, trace_fits c.0 fits, ap (map whole_line) c.2 ∙ map-append whole_line (lines_so_far b) c.1)
+      (c.0, map whole_line c.1, trace_fits c.0 fits c.4, ap (map whole_line) c.2 ∙ map-append whole_line (lines_so_far b) c.1)
 
   prefix_taken : IsPrefix (take (length (lines_so_far b)) (cut_lines bytes))
   prefix_taken =
@@ -138,7 +143,7 @@ module _ (bytes rest : List ℕ) (b : Building) (line : ℕ) (at : Reached bytes
 
   -- with the next line the lines so far are a prefix of no text
   bad_next : (z : List ℕ) (zs : List (List ℕ)) → cut_lines rest ≡ z ∷ zs
-      → ((t : Trace) (l : Line) (ls : List Line) → IsLine l → whole_line l ≡ z → lines_of_trace t ≡ lines_so_far b ++ l ∷ ls → ⊥) → IsFirstBad bytes (length (lines_so_far b))
+      → ((t : Trace) (l : Line) (ls : List Line) → IsTrace t → IsLine l → whole_line l ≡ z → lines_of_trace t ≡ lines_so_far b ++ l ∷ ls → ⊥) → IsFirstBad bytes (length (lines_so_far b))
   bad_next z zs next_line never =
       let whole : cut_lines bytes ≡ (map whole_line (lines_so_far b) ++ z ∷ []) ++ zs =
       cut_so_far ∙ ap (λ (xs : List (List ℕ)). map whole_line (lines_so_far b) ++ xs) next_line ∙ sym (append_assoc (map whole_line (lines_so_far b)) (z ∷ []) zs) in
@@ -156,7 +161,7 @@ module _ (bytes rest : List ℕ) (b : Building) (line : ℕ) (at : Reached bytes
             prefix.3 ∙ ap (λ (xs : List (List ℕ)). xs ++ prefix.1) taken ∙ append_assoc (map whole_line (lines_so_far b)) (z ∷ []) prefix.1 in
             let k = known_prefix (lines_of_trace prefix.0) (lines_so_far b) (z ∷ prefix.1) (lines_of_fitting prefix.0 prefix.2) at.fits same in
             let m = more_cases k.0 z prefix.1 k.3 k.2 in
-            never prefix.0 m.0 m.1 m.3 m.4 (k.1 ∙ ap (λ (ls : List Line). lines_so_far b ++ ls) m.2);
+            never prefix.0 m.0 m.1 prefix.2 m.3 m.4 (k.1 ∙ ap (λ (ls : List Line). lines_so_far b ++ ls) m.2);
         early = λ end. absurd (omega (arith, end, total));
       }
 
@@ -164,19 +169,19 @@ module _ (bytes rest : List ℕ) (b : Building) (line : ℕ) (at : Reached bytes
   pub no_newline : 0 < length rest → None ≡ cut 10 rest → IsFirstBad bytes (length (lines_so_far b))
   no_newline some none =
       let lacking = uncut 10 rest (sym none) in
-      bad_next rest [] (one_line rest some lacking) (λ t l ls fits is same. whole_has_newline (line_text l) (rw is lacking))
+      bad_next rest [] (one_line rest some lacking) (λ t l ls good fits is same. whole_has_newline (line_text l) (rw is lacking))
 
   -- the next line is no line that may come next
   pub not_next : (text more : List ℕ) → Some (text, more) ≡ cut 10 rest → next b text ≡ None → IsFirstBad bytes (length (lines_so_far b))
   unfolding next
   not_next text more cuts none =
       let p = cut_parts 10 rest (text, more) (sym cuts) in
-      bad_next (text ++ 10 ∷ []) (cut_lines more) (ap cut_lines p.0 ∙ whole_cut text more p.1) (λ t l ls fits is same.
+      bad_next (text ++ 10 ∷ []) (cut_lines more) (ap cut_lines p.0 ∙ whole_cut text more p.1) (λ t l ls good fits is same.
       let line_is : line_text l ≡ text = append_cancel_right (line_text l) text (10 ∷ []) is in
       let read : line_of text ≡ Some l = ap line_of (sym line_is) ∙ line_back l fits in
       let stuck : after_line b l ≡ None = rw read at none in
       let ran : run b (l ∷ ls) ≡ Some (built t) =
-      sym (ap (option_and_then (λ (c : Building). run c (l ∷ ls))) at.reached) ∙ sym (run-append Start (lines_so_far b) (l ∷ ls)) ∙ ap (run Start) (sym same) ∙ run_trace t in
+      sym (ap (option_and_then (λ (c : Building). run c (l ∷ ls))) at.reached) ∙ sym (run-append Start (lines_so_far b) (l ∷ ls)) ∙ ap (run Start) (sym same) ∙ run_trace t (suits_of_fitting t good) in
       none-some (built t) (rw stuck at ran))
 
   pub stepped : (text more : List ℕ) (c : Building) → Some (text, more) ≡ cut 10 rest → next b text ≡ Some c → Reached bytes more c (line + 1)
@@ -196,6 +201,7 @@ module _ (bytes rest : List ℕ) (b : Building) (line : ℕ) (at : Reached bytes
             ∙ ap (λ (xs : List ℕ). xs ++ more) (sym text_now) ∙ ap (λ (ls : List Line). flat_map whole_line ls ++ more) (sym adds);
         fits = rw adds (are_lines-append (lines_so_far b) (l ∷ []) at.fits (spelled.0, tt));
         reached = ap (run Start) adds ∙ run-append Start (lines_so_far b) (l ∷ []) ∙ ap (option_and_then (λ (d : Building). run d (l ∷ []))) at.reached ∙ ap (option_and_then (λ (d : Building). Some d)) s.2;
+        suits = step_suits b c l s.2 at.suits;
         count = rw adds (omega (arith, at.count, length-append (lines_so_far b) (l ∷ [])));
         room = omega (arith, at.room, long);
       }
@@ -214,7 +220,7 @@ module _ (bytes rest : List ℕ) (b : Building) (line : ℕ) (at : Reached bytes
         let same : map whole_line (lines_of_trace t) ≡ map whole_line (lines_so_far b) ++ [] = sym (text_cut t bytes fits is) ∙ cut_all ∙ sym (append-nil (map whole_line (lines_so_far b))) in
         let k = known_prefix (lines_of_trace t) (lines_so_far b) [] (lines_of_fitting t fits) at.fits same in
         let lines : lines_of_trace t ≡ lines_so_far b = k.1 ∙ ap (λ (ls : List Line). lines_so_far b ++ ls) (no_lines k.0 k.2) ∙ append-nil (lines_so_far b) in
-        let built_is : built t ≡ b = same_Some (built t) b (sym (run_trace t) ∙ ap (run Start) lines ∙ at.reached) in
+        let built_is : built t ≡ b = same_Some (built t) b (sym (run_trace t (suits_of_fitting t fits)) ∙ ap (run Start) lines ∙ at.reached) in
         ap finish (sym built_is) ∙ finish_built t
 
     -- the text ends too early
@@ -232,7 +238,7 @@ module _ (bytes rest : List ℕ) (b : Building) (line : ℕ) (at : Reached bytes
     finished t h =
         let lines = finished_lines b t h in
         let fits : AreLines (lines_of_trace t) = subst AreLines (sym lines) at.fits in (
-          trace_fits t fits,
+          trace_fits t fits (finished_suits b t h at.suits),
           at.text ∙ ap (λ (xs : List ℕ). flat_map whole_line (lines_so_far b) ++ xs) nothing ∙ append-nil (flat_map whole_line (lines_so_far b))
               ∙ ap (flat_map whole_line) (sym lines) ∙ sym (text_is t),
         )
@@ -263,7 +269,7 @@ texts_tell t u ft fu h =
     sym (text_cut t (text_of_trace t) ft refl) ∙ text_cut u (text_of_trace t) fu h ∙ sym (append-nil (map whole_line (lines_of_trace u))) in
     let k = known_prefix (lines_of_trace t) (lines_of_trace u) [] (lines_of_fitting t ft) (lines_of_fitting u fu) same in
     let lines : lines_of_trace t ≡ lines_of_trace u = k.1 ∙ ap (λ (ls : List Line). lines_of_trace u ++ ls) (no_lines k.0 k.2) ∙ append-nil (lines_of_trace u) in
-    let builds : built t ≡ built u = same_Some (built t) (built u) (sym (run_trace t) ∙ ap (run Start) lines ∙ run_trace u) in
+    let builds : built t ≡ built u = same_Some (built t) (built u) (sym (run_trace t (suits_of_fitting t ft)) ∙ ap (run Start) lines ∙ run_trace u (suits_of_fitting u fu)) in
     same_Some t u (sym (finish_built t) ∙ ap finish builds ∙ finish_built u)
 
 -- fewer lines of a prefix are a prefix

@@ -25,19 +25,19 @@ abbrev pub no_arrival : Arrival
 no_arrival = (0, record { channel = 0; seq = 0; time = 0; whole = None; origin = None })
 
 -- one component more
-pub component_added : (w : Run) (plans : List Plan) (n : ℕ) (p : Plan) (to new whole : List ℕ) → n < length plans → p ≡ get_or plans n p → to ++ components_text w n (drop n plans) ≡ whole → new ≡ to ++ component_text p (w.arrivals n) (w.calls n) (w.ended n)
-    → new ++ components_text w (n + 1) (drop (n + 1) plans) ≡ whole
-component_added w plans n p to new whole inside read so is =
+pub component_added : (version : ℕ) (w : Run) (plans : List Plan) (n : ℕ) (p : Plan) (to new whole : List ℕ) → n < length plans → p ≡ get_or plans n p → to ++ components_text version w n (drop n plans) ≡ whole → new ≡ to ++ component_text version p (w.arrivals n) (w.calls n) (w.ended n)
+    → new ++ components_text version w (n + 1) (drop (n + 1) plans) ≡ whole
+component_added version w plans n p to new whole inside read so is =
     let rest = drop (n + 1) plans in
-    ap (λ (l : List ℕ). l ++ components_text w (n + 1) rest) is
-    ∙ append_assoc to (component_text p (w.arrivals n) (w.calls n) (w.ended n)) (components_text w (n + 1) rest)
-    ∙ ap (λ (q : Plan). to ++ components_text w n (q ∷ rest)) read
-    ∙ ap (λ (l : List Plan). to ++ components_text w n l) (sym (drop_more plans n p inside))
+    ap (λ (l : List ℕ). l ++ components_text version w (n + 1) rest) is
+    ∙ append_assoc to (component_text version p (w.arrivals n) (w.calls n) (w.ended n)) (components_text version w (n + 1) rest)
+    ∙ ap (λ (q : Plan). to ++ components_text version w n (q ∷ rest)) read
+    ∙ ap (λ (l : List Plan). to ++ components_text version w n l) (sym (drop_more plans n p inside))
     ∙ so
 
 -- and none is left
-pub components_end : (w : Run) (plans : List Plan) (n : ℕ) (to whole : List ℕ) → length plans ≤ n → to ++ components_text w n (drop n plans) ≡ whole → to ≡ whole
-components_end w plans n to whole end so = sym (ap (λ (l : List Plan). to ++ components_text w n l) (drop_all n plans end) ∙ append-nil to) ∙ so
+pub components_end : (version : ℕ) (w : Run) (plans : List Plan) (n : ℕ) (to whole : List ℕ) → length plans ≤ n → to ++ components_text version w n (drop n plans) ≡ whole → to ≡ whole
+components_end version w plans n to whole end so = sym (ap (λ (l : List Plan). to ++ components_text version w n l) (drop_all n plans end) ∙ append-nil to) ∙ so
 
 -- a wiring's components are those of its world
 pub component_known : (plans : List Plan) (routes : List Route) (n : ℕ) → routes ≡ routes_of plans → n < length plans → n < length routes

@@ -1,8 +1,11 @@
 -- The numbers of a sound world fit those of a trace.
 use Rattle.std.proofs.Common.{ℕ, zero, suc, ◌≡◌, ◌+◌, ◌-◌, ◌≤◌, ◌<◌, ◌==◌, Bool, cond, is_some, List, [], ◌∷◌, length, map, get_or, slice_get, Option, Some, None, option_map, true, false, refl, sym, ap, subst, ◌∙◌, arith}
 use Rattle.std.specs.Prelude.{option_and_then, unwrap_or}
-use Rattle.std.specs.List.{flat_map}
+use Rattle.std.specs.List.{flat_map, list_any}
+use Rattle.cy_fuse.specs.declared.overflow.Overflow.{Overflow}
+use Rattle.cy_fuse.specs.declared.overflow.Overflow.TheVariants.{Newest, Oldest}
 use Rattle.std.specs.Str.{IsUtf8}
+use Rattle.std.proofs.lemmas.Bool.{or_parts}
 use Rattle.std.proofs.lemmas.List.Filters.{length-filter_both}
 use Rattle.std.proofs.lemmas.Option.{same_Some, none-some, slice_get_within, slice_get-map, slice_get-get_or}
 use Rattle.std.specs.Prelude.{not}
@@ -17,14 +20,15 @@ use Rattle.cy_comp.specs.declared.plan.Plan.{Plan}
 use Rattle.cy_comp.specs.Calls.{cursor_after}
 use Rattle.cy_comp.specs.Laws.{OutcomesAreAnswers}
 use Rattle.wake_core.specs.declared.route.Route.{Route}
-use Rattle.wake_core.specs.Run.{route_of, routes_of, played_of, writes_from}
+use Rattle.wake_core.specs.Run.{Run, route_of, routes_of, played_of, writes_from}
 use Rattle.wake_core.specs.Plain.{Plain}
 use Rattle.wake_core.specs.Events.{is_finished}
 use Rattle.wake_core.specs.Planned.{planned}
 use Rattle.wake_core.specs.Rest.{run_shown}
 use Rattle.wake_core.specs.Sound.{Sound, StandsOn}
 use Rattle.wake_core.specs.Bounds.{PlaceLaws, BoundLaws}
-use Rattle.cy_trace.specs.TraceForm.{Each, IsLine, IsLong, IsOutput, IsSeqs, IsShort, IsTrace, IsValue, AreLines, lines_of_component}
+use Rattle.cy_trace.specs.TraceText.{is_oldest, version_of}
+use Rattle.cy_trace.specs.TraceForm.{AreOfVersion, Each, is_version, IsLine, IsLong, IsOutput, IsSeqs, IsShort, IsTrace, IsValue, AreLines, lines_of_component}
 use Rattle.cy_trace.specs.TraceOfRun.{output_of_call, trace_call, trace_calls, trace_component, trace_components, tape_entry, trace_of_run}
 use Rattle.cy_trace.specs.Laws.{IsOf, AreTyped}
 use Rattle.cy_trace.specs.declared.line.Line.TheVariants as line
@@ -69,16 +73,35 @@ cursor_fits [] k all = omega arith
 cursor_fits (x ∷ []) k all = omega (arith, all 0 x refl)
 cursor_fits (x ∷ y ∷ rest) k all = cursor_fits (y ∷ rest) k (λ n. all (suc n))
 
-component_fits : (p : Plan) (arrivals : List Arrival) (calls : List Call) (ended : Bool) → IsUtf8 p.name → ((n : ℕ) (a : Arrival) → slice_get arrivals n ≡ Some a → a.0 < 10)
+component_fits : (version : ℕ) (p : Plan) (arrivals : List Arrival) (calls : List Call) (ended : Bool) → IsUtf8 p.name → ((n : ℕ) (a : Arrival) → slice_get arrivals n ≡ Some a → a.0 < 10)
     → length calls ≤ 4294967295 → ((n : ℕ) (x : Call) → slice_get calls n ≡ Some x → Fits x) → cursor_after calls ≤ 18446744073709551615
-    → AreLines (lines_of_component (trace_component p arrivals calls ended))
-component_fits p arrivals calls ended name roles few all next =
+    → AreLines (lines_of_component version (trace_component p arrivals calls ended))
+component_fits version p arrivals calls ended name roles few all next =
     (name, (mapped_each (λ r. r < 10) (λ (a : Arrival). a.0) arrivals roles, are_lines-append (map line.Call (trace_calls 0 calls)) (line.End ended (cursor_after calls) ∷ []) (calls_fit calls 0 (omega (arith, few)) all) (next, tt)))
 
 tape_fits : (names : List (List ℕ)) (tape : List Token) → ((n : ℕ) (t : Token) → slice_get tape n ≡ Some t → IsUtf8 (channel_name names t.channel) × IsShort t.seq)
     → AreLines (map line.Tape (map (tape_entry names) tape))
 tape_fits names [] all = tt
 tape_fits names (t ∷ tape) all = (all 0 t refl, tape_fits names tape (λ n. all (suc n)))
+
+-- Where some component goes on at the oldest the version isn't the first one.
+version_by : (b : Bool) → is_version (cond b 2 1) ≡ true
+version_by true = refl
+version_by false = refl
+
+first_by : (b : Bool) → cond {A = ℕ} b 2 1 ≡ 1 → b ≡ false
+first_by true h = absurd (omega (arith, h))
+first_by false h = refl
+
+newest : (o : Overflow) → is_oldest o ≡ false → o ≡ Newest
+newest Newest h = refl
+newest Oldest h = cc
+
+of_version : (version : ℕ) (w : Run) (c : ℕ) (plans : List Plan) → (version ≡ 1 → list_any (λ (p : Plan). is_oldest p.overflow) plans ≡ false) → AreOfVersion version (trace_components w c plans)
+of_version version w c [] first = tt
+of_version version w c (p ∷ rest) first =
+    let parts = λ (one : version ≡ 1). or_parts (is_oldest p.overflow) (list_any (λ (q : Plan). is_oldest q.overflow) rest) (first one) in
+    (λ one. newest p.overflow (parts one).0, of_version version w (c + 1) rest (λ one. (parts one).1))
 
 -- What stands on a channel stands on the tape.
 on_known : (k : ℕ) (tape : List Token) → ((n : ℕ) (t : Token) → slice_get tape n ≡ Some t → t.channel < k) → (channel i : ℕ) (m : Token) → slice_get (on_channel channel tape) i ≡ Some m → m.channel < k
@@ -144,19 +167,19 @@ module _ (answers : OutcomesAreAnswers) (places : PlaceLaws) (bounds : BoundLaws
       by None e = absurd (s.consistent.delivered.known c n a is (ap (option_and_then (λ (x : Route). slice_get x.readers a.0)) (route_at c p at) ∙ e))
       by (Some r) e = omega (arith, slice_get_within p.readers a.0 r e, of.wiring.few_readers c p at)
 
-  component_at : (c : ℕ) (p : Plan) → slice_get plans c ≡ Some p → AreLines (lines_of_component (trace_component p (w.arrivals c) (w.calls c) (is_finished (w.states c))))
-  component_at c p at =
+  component_at : (version c : ℕ) (p : Plan) → slice_get plans c ≡ Some p → AreLines (lines_of_component version (trace_component p (w.arrivals c) (w.calls c) (is_finished (w.states c))))
+  component_at version c p at =
       let next = cursor_fits (w.calls c) 16777217 (λ n x is. position_few c n p x at is) in
-      component_fits p (w.arrivals c) (w.calls c) (is_finished (w.states c)) (typed.components c p at) (λ n a is. role_at c n p a at is) (calls_few c p at) (λ n x is. call_at c n p x at is) (omega (arith, next))
+      component_fits version p (w.arrivals c) (w.calls c) (is_finished (w.states c)) (typed.components c p at) (λ n a is. role_at c n p a at is) (calls_few c p at) (λ n x is. call_at c n p x at is) (omega (arith, next))
 
-  components_fit : (rest : List Plan) (c : ℕ) → ((i : ℕ) (p : Plan) → slice_get rest i ≡ Some p → slice_get plans (c + i) ≡ Some p)
-      → AreLines (flat_map lines_of_component (trace_components (run_shown w) c rest))
-  components_fit [] c at = tt
-  components_fit (p ∷ rest) c at =
+  components_fit : (version : ℕ) (rest : List Plan) (c : ℕ) → ((i : ℕ) (p : Plan) → slice_get rest i ≡ Some p → slice_get plans (c + i) ≡ Some p)
+      → AreLines (flat_map (lines_of_component version) (trace_components (run_shown w) c rest))
+  components_fit version [] c at = tt
+  components_fit version (p ∷ rest) c at =
       let here : c + 0 ≡ c = omega arith in
-      are_lines-append (lines_of_component (trace_component p (w.arrivals c) (w.calls c) (is_finished (w.states c)))) (flat_map lines_of_component (trace_components (run_shown w) (c + 1) rest))
-      (component_at c p (subst (λ k. slice_get plans k ≡ Some p) here (at 0 p refl)))
-      (components_fit rest (c + 1) (λ i q on. let there : c + suc i ≡ c + 1 + i = omega arith in subst (λ k. slice_get plans k ≡ Some q) there (at (suc i) q on)))
+      are_lines-append (lines_of_component version (trace_component p (w.arrivals c) (w.calls c) (is_finished (w.states c)))) (flat_map (lines_of_component version) (trace_components (run_shown w) (c + 1) rest))
+      (component_at version c p (subst (λ k. slice_get plans k ≡ Some p) here (at 0 p refl)))
+      (components_fit version rest (c + 1) (λ i q on. let there : c + suc i ≡ c + 1 + i = omega arith in subst (λ k. slice_get plans k ≡ Some q) there (at (suc i) q on)))
 
   name_at : (channel : ℕ) → channel < length names → IsUtf8 (channel_name names channel)
   name_at channel inside =
@@ -179,10 +202,13 @@ pub run_fits : OutcomesAreAnswers → PlaceLaws → BoundLaws → (names : List 
     → IsTrace (trace_of_run names plans shadowed (run_shown w))
 unfolding IsTrace
 run_fits answers places bounds names plans shadowed w of typed short s = (
-  tt,
   (
-    (played_short answers places bounds names plans w of typed s, short),
-    are_lines-append (flat_map lines_of_component (trace_components (run_shown w) 0 plans)) (map line.Tape (map (tape_entry names) w.tape))
-        (components_fit answers places bounds names plans w of typed s plans 0 (λ i p at. let same : i ≡ 0 + i = omega arith in subst (λ k. slice_get plans k ≡ Some p) same at)) (tape_fits names w.tape (entry_at answers places bounds names plans w of typed s)),
+    version_by (list_any (λ (p : Plan). is_oldest p.overflow) plans),
+    (
+      (played_short answers places bounds names plans w of typed s, short),
+      are_lines-append (flat_map (lines_of_component (version_of plans)) (trace_components (run_shown w) 0 plans)) (map line.Tape (map (tape_entry names) w.tape))
+          (components_fit answers places bounds names plans w of typed s (version_of plans) plans 0 (λ i p at. let same : i ≡ 0 + i = omega arith in subst (λ k. slice_get plans k ≡ Some p) same at)) (tape_fits names w.tape (entry_at answers places bounds names plans w of typed s)),
+    ),
   ),
+  of_version (version_of plans) (run_shown w) 0 plans (first_by (list_any (λ (p : Plan). is_oldest p.overflow) plans)),
 )

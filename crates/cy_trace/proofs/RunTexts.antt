@@ -13,7 +13,7 @@ use Rattle.cy_comp.specs.declared.call.Out.{Out}
 use Rattle.cy_comp.specs.declared.plan.Plan.{Plan}
 use Rattle.cy_comp.specs.Calls.{cursor_after}
 use Rattle.wake_core.specs.Run.{Run, routes_of, played_of}
-use Rattle.cy_trace.specs.TraceText.{title, played_line, roles_text, out_text, call_line, call_lines, end_line, component_text, components_text, tape_line, trace_text}
+use Rattle.cy_trace.specs.TraceText.{title, played_line, version_of, told, told_text, roles_text, out_text, call_line, call_lines, end_line, component_text, components_text, tape_line, trace_text}
 use Rattle.cy_trace.specs.TraceForm.{line_text, whole_line, lines_of_component, text_of_trace, numbers_text, digits_text, output_text}
 use Rattle.cy_trace.specs.TraceOfRun.{output_of_call, trace_call, trace_calls, trace_component, trace_components, tape_entry, trace_of_run}
 use Rattle.cy_trace.specs.declared.line.Line.TheVariants as line
@@ -46,44 +46,48 @@ calls_same before (x ∷ rest) =
     ap (λ (xs : List ℕ). xs ++ call_lines (before + cond (is_some x.out) 1 0) rest) (call_same before x)
     ∙ ap (λ (xs : List ℕ). whole_line (line.Call (trace_call before x)) ++ xs) (calls_same (before + cond (is_some x.out) 1 0) rest)
 
-joined_component : (prefix name newline middle roles calls end : List ℕ)
-    → prefix ++ name ++ newline ++ middle ++ roles ++ newline ++ calls ++ end ≡ (prefix ++ name ++ newline) ++ ((middle ++ roles ++ newline) ++ (calls ++ end))
-joined_component prefix name newline middle roles calls end = simp append_assoc
+joined_component : (prefix name told newline middle roles calls end : List ℕ)
+    → prefix ++ name ++ told ++ newline ++ middle ++ roles ++ newline ++ calls ++ end ≡ ((prefix ++ name ++ told) ++ newline) ++ ((middle ++ roles ++ newline) ++ (calls ++ end))
+joined_component prefix name told newline middle roles calls end = simp append_assoc
 
-component_same : (p : Plan) (arrivals : List Arrival) (calls : List Call) (ended : Bool) → component_text p arrivals calls ended ≡ flat_map whole_line (lines_of_component (trace_component p arrivals calls ended))
+component_same : (version : ℕ) (p : Plan) (arrivals : List Arrival) (calls : List Call) (ended : Bool)
+    → component_text version p arrivals calls ended ≡ flat_map whole_line (lines_of_component version (trace_component p arrivals calls ended))
 unfolding line_text
-component_same p arrivals calls ended =
+component_same version p arrivals calls ended =
     let end = end_line ended (cursor_after calls) in
-    joined_component (codes "component ") (quoted true p.name) (codes "\n") (codes "roles ") (roles_text arrivals) (call_lines 0 calls) end
-    ∙ ap (λ (rs : List ℕ). (codes "component " ++ quoted true p.name ++ 10 ∷ []) ++ ((codes "roles " ++ rs ++ 10 ∷ []) ++ (call_lines 0 calls ++ end))) (roles_same arrivals)
-    ∙ ap (λ (xs : List ℕ). (codes "component " ++ quoted true p.name ++ 10 ∷ []) ++ ((codes "roles " ++ digits_text (map (λ (a : Arrival). a.0) arrivals) ++ 10 ∷ []) ++ xs)) (
+    let name = (codes "component " ++ quoted true p.name ++ told_text (told version p.overflow)) ++ 10 ∷ [] in
+    joined_component (codes "component ") (quoted true p.name) (told_text (told version p.overflow)) (codes "\n") (codes "roles ") (roles_text arrivals) (call_lines 0 calls) end
+    ∙ ap (λ (rs : List ℕ). name ++ ((codes "roles " ++ rs ++ 10 ∷ []) ++ (call_lines 0 calls ++ end))) (roles_same arrivals)
+    ∙ ap (λ (xs : List ℕ). name ++ ((codes "roles " ++ digits_text (map (λ (a : Arrival). a.0) arrivals) ++ 10 ∷ []) ++ xs)) (
     ap (λ (xs : List ℕ). xs ++ end) (calls_same 0 calls)
     ∙ ap (λ (xs : List ℕ). flat_map whole_line (map line.Call (trace_calls 0 calls)) ++ xs) (sym (append-nil end))
     ∙ sym (flat_map-append whole_line (map line.Call (trace_calls 0 calls)) (line.End ended (cursor_after calls) ∷ [])))
 
-components_same : (w : Run) (c : ℕ) (plans : List Plan) → components_text w c plans ≡ flat_map whole_line (flat_map lines_of_component (trace_components w c plans))
-components_same w c [] = refl
-components_same w c (p ∷ rest) =
-    ap (λ (xs : List ℕ). xs ++ components_text w (c + 1) rest) (component_same p (w.arrivals c) (w.calls c) (w.ended c))
-    ∙ ap (λ (xs : List ℕ). flat_map whole_line (lines_of_component (trace_component p (w.arrivals c) (w.calls c) (w.ended c))) ++ xs) (components_same w (c + 1) rest)
-    ∙ sym (flat_map-append whole_line (lines_of_component (trace_component p (w.arrivals c) (w.calls c) (w.ended c))) (flat_map lines_of_component (trace_components w (c + 1) rest)))
+components_same : (version : ℕ) (w : Run) (c : ℕ) (plans : List Plan) → components_text version w c plans ≡ flat_map whole_line (flat_map (lines_of_component version) (trace_components w c plans))
+components_same version w c [] = refl
+components_same version w c (p ∷ rest) =
+    let here = lines_of_component version (trace_component p (w.arrivals c) (w.calls c) (w.ended c)) in
+    ap (λ (xs : List ℕ). xs ++ components_text version w (c + 1) rest) (component_same version p (w.arrivals c) (w.calls c) (w.ended c))
+    ∙ ap (λ (xs : List ℕ). flat_map whole_line here ++ xs) (components_same version w (c + 1) rest)
+    ∙ sym (flat_map-append whole_line here (flat_map (lines_of_component version) (trace_components w (c + 1) rest)))
 
 tape_same : (names : List (List ℕ)) (tape : List Token) → flat_map (tape_line names) tape ≡ flat_map whole_line (map line.Tape (map (tape_entry names) tape))
 unfolding line_text
 tape_same names [] = refl
 tape_same names (t ∷ rest) = ap (λ (xs : List ℕ). tape_line names t ++ xs) (tape_same names rest)
 
-head_same : (played shadowed : ℕ) (rest : List ℕ) → title ++ played_line played shadowed ++ rest ≡ whole_line line.Title ++ (whole_line (line.Played played shadowed) ++ rest)
+head_same : (version played shadowed : ℕ) (rest : List ℕ) → title version ++ played_line played shadowed ++ rest ≡ whole_line (line.Title version) ++ (whole_line (line.Played played shadowed) ++ rest)
 unfolding line_text
-head_same played shadowed rest = append_assoc title (played_line played shadowed) rest
+head_same version played shadowed rest = append_assoc (title version) (played_line played shadowed) rest
 
 pub run_text : (names : List (List ℕ)) (plans : List Plan) (shadowed : ℕ) (w : Run) → trace_text names plans shadowed w ≡ text_of_trace (trace_of_run names plans shadowed w)
 unfolding trace_text text_of_trace
 run_text names plans shadowed w =
+    let version = version_of plans in
     let played = length (played_of (routes_of plans) w.tape) in
-    append_assoc (title ++ played_line played shadowed) (components_text w 0 plans) (flat_map (tape_line names) w.tape)
-    ∙ head_same played shadowed (components_text w 0 plans ++ flat_map (tape_line names) w.tape)
-    ∙ ap (λ (xs : List ℕ). whole_line line.Title ++ (whole_line (line.Played played shadowed) ++ xs)) (
-    ap (λ (xs : List ℕ). xs ++ flat_map (tape_line names) w.tape) (components_same w 0 plans)
-    ∙ ap (λ (xs : List ℕ). flat_map whole_line (flat_map lines_of_component (trace_components w 0 plans)) ++ xs) (tape_same names w.tape)
-    ∙ sym (flat_map-append whole_line (flat_map lines_of_component (trace_components w 0 plans)) (map line.Tape (map (tape_entry names) w.tape))))
+    append_assoc (title version ++ played_line played shadowed) (components_text version w 0 plans) (flat_map (tape_line names) w.tape)
+    ∙ head_same version played shadowed (components_text version w 0 plans ++ flat_map (tape_line names) w.tape)
+    ∙ ap (λ (xs : List ℕ). whole_line (line.Title version) ++ (whole_line (line.Played played shadowed) ++ xs)) (
+    ap (λ (xs : List ℕ). xs ++ flat_map (tape_line names) w.tape) (components_same version w 0 plans)
+    ∙ ap (λ (xs : List ℕ). flat_map whole_line (flat_map (lines_of_component version) (trace_components w 0 plans)) ++ xs) (tape_same names w.tape)
+    ∙ sym (flat_map-append whole_line (flat_map (lines_of_component version) (trace_components w 0 plans)) (map line.Tape (map (tape_entry names) w.tape))))

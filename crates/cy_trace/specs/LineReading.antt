@@ -6,8 +6,11 @@ use Rattle.std.specs.Option.{option_and_then}
 use Rattle.std.specs.List.{slice_split}
 use Rattle.std.specs.Str.{bytes_eq, is_utf8}
 use Rattle.cy_msg.specs.Quoted.{quoted}
+use Rattle.cy_fuse.specs.declared.overflow.Overflow.{Overflow}
+use Rattle.cy_fuse.specs.declared.overflow.Overflow.TheVariants.{Newest, Oldest}
 use Rattle.cy_trace.specs.Cuts.{cut, cut_last, behind, both}
 use Rattle.cy_trace.specs.Numerals.{number, signed}
+use Rattle.cy_trace.specs.TraceForm.{is_version}
 use Rattle.cy_trace.specs.declared.fault.Fault.{Fault}
 use Rattle.cy_trace.specs.declared.fault.Fault.TheVariants as fault
 use Rattle.cy_trace.specs.declared.name.Escape.{Escape}
@@ -137,8 +140,34 @@ unfoldable pub name : List ℕ → Option (List ℕ)
 name bytes = let text = unquoted bytes in if is_utf8 text && bytes_eq bytes
     (quoted true text) then Some text else None
 
+-- The version of the form.
+abbrev pub version : List ℕ → Option ℕ
+version bytes = option_and_then (λ n. if is_version n then Some n else None) (short bytes)
+
 unfoldable pub title : List ℕ → Option Line
-title bytes = if bytes_eq bytes (codes "1") then Some Title else None
+title bytes = option_map Title (version bytes)
+
+abbrev pub overflow : List ℕ → Option Overflow
+overflow bytes = if bytes_eq bytes (codes "NEWEST") then Some Newest else
+    (if bytes_eq bytes (codes "OLDEST") then Some Oldest else None)
+
+-- What stands before the last word, where that is `overflow`.
+abbrev pub before_overflow : List ℕ → Option (List ℕ)
+before_overflow bytes = option_and_then
+    (λ p. if bytes_eq p.1 (codes "overflow") then Some p.0 else None) (cut_last 32 bytes)
+
+-- The overflow that is told at the end, and what stands before it. A name in quotes has none at its
+-- end, which is a quote.
+unfoldable pub told : List ℕ → Option (List ℕ × Overflow)
+told bytes = pair_last 32 before_overflow overflow bytes
+
+abbrev pub named : List ℕ → Option (List ℕ × Overflow) → Option Line
+named bytes None = option_map (λ n. Component n None) (name bytes)
+named bytes (Some p) = option_map (λ n. Component n (Some p.1)) (name p.0)
+
+-- A component by its name, and what is told of its overflow.
+unfoldable pub component : List ℕ → Option Line
+component bytes = named bytes (told bytes)
 
 unfoldable pub played : List ℕ → Option Line
 played bytes = option_map (λ p. Played p.0 p.1)
@@ -158,7 +187,7 @@ unfoldable pub line_by : List ℕ → List ℕ → Option Line
 line_by word rest =
     if bytes_eq word (codes "call") then option_map Call (call rest)
     else (if bytes_eq word (codes "tape") then option_map Tape (taped rest)
-    else (if bytes_eq word (codes "component") then option_map Component (name rest)
+    else (if bytes_eq word (codes "component") then component rest
     else (if bytes_eq word (codes "roles") then option_map Roles (roles rest)
     else (if bytes_eq word (codes "end") then ended rest
     else (if bytes_eq word (codes "played") then played rest

@@ -1,12 +1,13 @@
 -- The text of a trace, line by line.
-use Rattle.std.specs.Prelude.{ℕ, ℤ, pos, negsuc, ◌≡◌, ◌+◌, ◌<◌, ◌≤◌, ◌==◌, Bool, true, List, []}
-use Rattle.std.specs.Prelude.{◌∷◌, ◌++◌, length, take, map, Option, Some, None, if◌then◌else◌}
-use Rattle.std.specs.Prelude.{codes, ◌⊎◌, Result, IfOk, IfErr}
+use Rattle.std.specs.Prelude.{ℕ, ℤ, pos, negsuc, ◌≡◌, ◌+◌, ◌<◌, ◌≤◌, ◌==◌, ◌||◌, Bool, true, List}
+use Rattle.std.specs.Prelude.{[], ◌∷◌, ◌++◌, length, take, map, Option, Some, None}
+use Rattle.std.specs.Prelude.{if◌then◌else◌, codes, ◌⊎◌, Result, IfOk, IfErr}
 use Rattle.std.specs.List.{flat_map}
 use Rattle.std.specs.Fmt.{decimal}
 use Rattle.std.specs.Str.{IsUtf8}
 use Rattle.cy_msg.specs.Quoted.{quoted}
-use Rattle.cy_trace.specs.TraceText.{value_text}
+use Rattle.cy_fuse.specs.declared.overflow.Overflow.TheVariants.{Newest}
+use Rattle.cy_trace.specs.TraceText.{value_text, told, told_text}
 use Rattle.cy_trace.specs.declared.error.TraceError.{TraceError}
 use Rattle.cy_trace.specs.declared.error.TraceError.TheVariants as trace_error
 use Rattle.cy_trace.specs.declared.trace.TraceOutput.{TraceOutput}
@@ -35,10 +36,10 @@ state_text finished = if finished then codes "FINISHED" else codes "DATA_WAIT"
 
 -- A line, without its newline.
 unfoldable pub line_text : Line → List ℕ
-line_text Title = codes "cyber-trace 1"
+line_text (Title version) = codes "cyber-trace " ++ decimal version
 line_text (Played played shadowed) = codes "played " ++ decimal played ++ codes " shadowed "
     ++ decimal shadowed
-line_text (Component name) = codes "component " ++ quoted true name
+line_text (Component name told) = codes "component " ++ quoted true name ++ told_text told
 line_text (Roles roles) = codes "roles " ++ digits_text roles
 line_text (Call x) = codes "call " ++ decimal x.position ++ codes "/" ++ decimal x.tail
     ++ numbers_text x.seqs ++ codes " " ++ output_text x.out
@@ -49,15 +50,15 @@ line_text (Tape entry) = codes "tape " ++ quoted true entry.name ++ codes " " ++
 abbrev pub whole_line : Line → List ℕ
 whole_line line = line_text line ++ 10 ∷ []
 
--- The lines of a component: its name, its arrivals, its calls, and its end.
-abbrev pub lines_of_component : TraceComponent → List Line
-lines_of_component c = Component c.name ∷ Roles c.roles ∷ map Call c.calls ++ End c.finished c.next
-    ∷ []
+-- The lines of a component: its name and its overflow, its arrivals, its calls, and its end.
+abbrev pub lines_of_component : (version : ℕ) → TraceComponent → List Line
+lines_of_component version c = Component c.name (told version c.overflow) ∷ Roles c.roles
+    ∷ map Call c.calls ++ End c.finished c.next ∷ []
 
 -- The lines of a trace: the title, the counts, the components, and the tape.
 abbrev pub lines_of_trace : Trace → List Line
-lines_of_trace t = Title ∷ Played t.played t.shadowed ∷ flat_map lines_of_component t.components
-    ++ map Tape t.tape
+lines_of_trace t = Title t.version ∷ Played t.played t.shadowed
+    ∷ flat_map (lines_of_component t.version) t.components ++ map Tape t.tape
 
 -- The text of a trace.
 unfoldable pub text_of_trace : Trace → List ℕ
@@ -89,12 +90,16 @@ IsOutput (Some out) = IsShort out.seq × (IsLong out.time × IsValue out.value)
 abbrev pub IsSeqs : List ℕ → Type 0
 IsSeqs seqs = Each IsShort seqs × (0 < length seqs) × (length seqs ≤ 4)
 
--- Every number of a line fits its type, a call has one to four messages, a role is one digit, and a
--- name is a text.
+-- The versions of the form.
+abbrev pub is_version : ℕ → Bool
+is_version version = version == 1 || version == 2
+
+-- The form has this version, every number of a line fits its type, a call has one to four messages,
+-- a role is one digit, and a name is a text.
 abbrev pub IsLine : Line → Type 0
-IsLine Title = Unit {0}
+IsLine (Title version) = is_version version ≡ true
 IsLine (Played played shadowed) = IsShort played × IsShort shadowed
-IsLine (Component name) = IsUtf8 name
+IsLine (Component name told) = IsUtf8 name
 IsLine (Roles roles) = Each (λ r. r < 10) roles
 IsLine (Call x) = (IsLong x.position × IsLong x.tail) × (IsSeqs x.seqs × IsOutput x.out)
 IsLine (End finished next) = IsLong next
@@ -104,9 +109,14 @@ abbrev pub AreLines : List Line → Type 0
 AreLines [] = Unit {0}
 AreLines (line ∷ lines) = IsLine line × AreLines lines
 
+-- Nothing is told of a component in the first version, so there it goes on at the newest tuple.
+abbrev pub AreOfVersion : (version : ℕ) → List TraceComponent → Type 0
+AreOfVersion version [] = Unit {0}
+AreOfVersion version (c ∷ cs) = (version ≡ 1 → c.overflow ≡ Newest) × AreOfVersion version cs
+
 -- The values that a trace may have.
 unfoldable pub IsTrace : Trace → Type 0
-IsTrace t = AreLines (lines_of_trace t)
+IsTrace t = AreLines (lines_of_trace t) × AreOfVersion t.version t.components
 
 -- A text of the form.
 abbrev pub IsTraceText : List ℕ → Type 0

@@ -15,6 +15,7 @@ use Rattle.cy_trace.specs.declared.trace.TraceCall.{TraceCall}
 use Rattle.cy_trace.specs.declared.trace.TraceComponent.{TraceComponent}
 use Rattle.cy_trace.specs.declared.trace.TapeEntry.{TapeEntry}
 use Rattle.cy_trace.specs.declared.trace.Trace.{Trace}
+use Rattle.cy_trace.specs.TraceText.{version_of}
 
 -- What a call put out, behind so many earlier outputs.
 abbrev pub output_of_call : ℕ → Option Out → Option TraceOutput
@@ -43,6 +44,7 @@ trace_calls before (x ∷ rest) = trace_call before x
 abbrev pub trace_component : Plan → List Arrival → List Call → (ended : Bool) → TraceComponent
 trace_component p arrivals calls ended = record {
   name = p.name;
+  overflow = p.overflow;
   roles = map (λ (a : Arrival). a.0) arrivals;
   calls = trace_calls 0 calls;
   finished = ended;
@@ -62,6 +64,7 @@ tape_entry names t = record { name = channel_name names t.channel; seq = t.seq }
 -- shadowed.
 abbrev pub trace_of_run : List (List ℕ) → List Plan → ℕ → Run → Trace
 trace_of_run names plans shadowed w = record {
+  version = version_of plans;
   played = length (played_of (routes_of plans) w.tape);
   shadowed = shadowed;
   components = trace_components w 0 plans;

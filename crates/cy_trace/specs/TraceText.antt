@@ -1,13 +1,15 @@
 -- The text of a trace: what was played, each component's arrivals and calls, and the tape.
-use Rattle.std.specs.Prelude.{ℕ, ℤ, ◌+◌, Bool, true, if◌then◌else◌, is_some, List, [], ◌∷◌, ◌++◌}
-use Rattle.std.specs.Prelude.{length, map, Option, Some, None, codes}
-use Rattle.std.specs.List.{flat_map}
+use Rattle.std.specs.Prelude.{ℕ, ℤ, ◌+◌, ◌==◌, Bool, true, false, if◌then◌else◌, is_some, List, []}
+use Rattle.std.specs.Prelude.{◌∷◌, ◌++◌, length, map, Option, Some, None, codes}
+use Rattle.std.specs.List.{flat_map, list_any}
 use Rattle.std.specs.Fmt.{decimal, signed_decimal}
 use Rattle.cy_msg.specs.Names.{channel_name}
 use Rattle.cy_msg.specs.Quoted.{quoted}
 use Rattle.cy_msg.specs.Tuple.{messages_of}
 use Rattle.cy_msg.specs.declared.token.Token.{Token}
 use Rattle.cy_msg.specs.declared.token.Tuple.{Tuple}
+use Rattle.cy_fuse.specs.declared.overflow.Overflow.{Overflow}
+use Rattle.cy_fuse.specs.declared.overflow.Overflow.TheVariants.{Newest, Oldest}
 use Rattle.cy_fuse.specs.Fusion.{Arrival}
 use Rattle.cy_comp.specs.declared.call.Call.{Call}
 use Rattle.cy_comp.specs.declared.call.Out.{Out}
@@ -15,13 +17,35 @@ use Rattle.cy_comp.specs.declared.plan.Plan.{Plan}
 use Rattle.cy_comp.specs.Calls.{cursor_after}
 use Rattle.wake_core.specs.Run.{Run, routes_of, played_of}
 
+-- Whether a component goes on at the oldest tuple that is kept.
+abbrev pub is_oldest : Overflow → Bool
+is_oldest Newest = false
+is_oldest Oldest = true
+
+-- The version of the form in which these components are told of: the first one where each goes on at
+-- the newest tuple, else the second one.
+abbrev pub version_of : List Plan → ℕ
+version_of plans = if list_any (λ p. is_oldest p.overflow) plans then 2 else 1
+
 -- The first line: the form's name and version.
-abbrev pub title : List ℕ
-title = codes "cyber-trace 1\n"
+abbrev pub title : (version : ℕ) → List ℕ
+title version = codes "cyber-trace " ++ decimal version ++ codes "\n"
 
 abbrev pub played_line : (played shadowed : ℕ) → List ℕ
 played_line played shadowed = codes "played " ++ decimal played ++ codes " shadowed "
     ++ decimal shadowed ++ codes "\n"
+
+-- What the line of a component tells of its overflow: nothing in the first version.
+abbrev pub told : (version : ℕ) → Overflow → Option Overflow
+told version overflow = if version == 1 then None else Some overflow
+
+abbrev pub overflow_word : Overflow → List ℕ
+overflow_word Newest = codes "NEWEST"
+overflow_word Oldest = codes "OLDEST"
+
+abbrev pub told_text : Option Overflow → List ℕ
+told_text None = []
+told_text (Some overflow) = codes " overflow " ++ overflow_word overflow
 
 -- A digit for each arrival, its role; a dash where there is none.
 abbrev pub roles_text : List Arrival → List ℕ
@@ -60,17 +84,19 @@ abbrev pub end_line : (ended : Bool) → (next : ℕ) → List ℕ
 end_line ended next = codes "end " ++ (if ended then codes "FINISHED" else codes "DATA_WAIT")
     ++ codes " next " ++ decimal next ++ codes "\n"
 
-abbrev pub component_text : Plan → List Arrival → List Call → (ended : Bool) → List ℕ
-component_text p arrivals calls ended =
-    codes "component " ++ quoted true p.name ++ codes "\n" ++ codes "roles " ++ roles_text arrivals
-    ++ codes "\n"
+abbrev pub component_text : (version : ℕ) → Plan → List Arrival → List Call → (ended : Bool)
+    → List ℕ
+component_text version p arrivals calls ended =
+    codes "component " ++ quoted true p.name ++ told_text (told version p.overflow) ++ codes "\n"
+    ++ codes "roles " ++ roles_text arrivals ++ codes "\n"
     ++ call_lines 0 calls ++ end_line ended (cursor_after calls)
 
 -- The components from a number on.
-abbrev pub components_text : Run → ℕ → List Plan → List ℕ
-components_text w c [] = []
-components_text w c (p ∷ rest) = component_text p (w.arrivals c) (w.calls c) (w.ended c)
-    ++ components_text w (c + 1) rest
+abbrev pub components_text : (version : ℕ) → Run → ℕ → List Plan → List ℕ
+components_text version w c [] = []
+components_text version w c (p ∷ rest) =
+    component_text version p (w.arrivals c) (w.calls c) (w.ended c)
+    ++ components_text version w (c + 1) rest
 
 abbrev pub tape_line : List (List ℕ) → Token → List ℕ
 tape_line names t = codes "tape " ++ quoted true (channel_name names t.channel) ++ codes " "
@@ -80,5 +106,5 @@ tape_line names t = codes "tape " ++ quoted true (channel_name names t.channel) 
 -- shadowed.
 unfoldable pub trace_text : List (List ℕ) → List Plan → ℕ → Run → List ℕ
 trace_text names plans shadowed w =
-    title ++ played_line (length (played_of (routes_of plans) w.tape)) shadowed
-    ++ components_text w 0 plans ++ flat_map (tape_line names) w.tape
+    title (version_of plans) ++ played_line (length (played_of (routes_of plans) w.tape)) shadowed
+    ++ components_text (version_of plans) w 0 plans ++ flat_map (tape_line names) w.tape

@@ -1,18 +1,21 @@
 // A trace while its lines are read.
-ghost use Rattle.std.specs.Prelude.{◌≡◌, ◌++◌, ◌∷◌, [], Some};
+ghost use Rattle.std.specs.Prelude.{◌≡◌, ◌++◌, ◌∷◌, [], Some, option_map};
 ghost use Rattle.cy_trace.specs.LineReading.{Gives};
-ghost use Rattle.cy_trace.specs.LineOrder.{finish, next, after_line, trace_with, with_components};
+ghost use Rattle.cy_trace.specs.LineOrder.{finish, next, after_line, overflow_by, trace_with};
+ghost use Rattle.cy_trace.specs.LineOrder.{with_components};
 ghost use Rattle.cy_trace.specs.declared.building.Building.TheVariants as building;
 
 use crate::fault::Fault;
 use crate::line::{Line, line_of};
 use crate::{TapeEntry, Trace, TraceCall, TraceComponent};
+use cy_fuse::Overflow;
 use cy_msg::{Items, Text};
 use std::alloc::Global;
 
 /// What the lines before a component or the tape say.
 #[derive(Drop)]
 pub(crate) struct Prefix {
+    pub(crate) version: u32,
     pub(crate) played: u32,
     pub(crate) shadowed: u32,
     pub(crate) components: Items<TraceComponent>,
@@ -23,14 +26,14 @@ pub(crate) struct Prefix {
 pub(crate) enum Building {
     /// None.
     Start,
-    /// The title.
-    Titled,
+    /// The title, with the version of the form.
+    Titled(u32),
     /// The counts, or the end of a component.
     Between(Prefix),
     /// The name of a component.
-    Named(Prefix, Text),
+    Named(Prefix, Text, Overflow),
     /// The roles or a call of a component.
-    Called(Prefix, Text, Items<u8>, Items<TraceCall>),
+    Called(Prefix, Text, Overflow, Items<u8>, Items<TraceCall>),
     /// A message of the tape.
     Taped(Prefix, Items<TapeEntry>),
 }
@@ -57,12 +60,14 @@ impl Prefix {
         ensures { Gives result (Some (with_components self (component ∷ []))) }
     {
         let Prefix {
+            version,
             played,
             shadowed,
             components,
         } = self;
         let components = with(components, component)?;
         Ok(Prefix {
+            version,
             played,
             shadowed,
             components,
@@ -86,14 +91,16 @@ impl Prefix {
     fn called(
         self,
         name: Text,
+        overflow: Overflow,
         roles: Items<u8>,
         calls: Items<TraceCall>,
         call: TraceCall,
     ) -> Result<Building, Fault>
-        ensures { Gives result (Some (building.Called self name roles (calls ++ call ∷ []))) }
+        ensures { Gives result (Some
+            (building.Called self name overflow roles (calls ++ call ∷ []))) }
     {
         match with(calls, call) {
-            Ok(calls) => Ok(Building::Called(self, name, roles, calls)),
+            Ok(calls) => Ok(Building::Called(self, name, overflow, roles, calls)),
             Err(fault) => {
                 drop(roles);
                 drop(name);
@@ -103,21 +110,49 @@ impl Prefix {
         }
     }
 
+    // The lines with the name of one more component, of which this is told.
+    fn named(self, name: Text, told: Option<Overflow>) -> Result<Building, Fault>
+        ensures { Gives result (option_map (λ overflow. building.Named self name overflow)
+            (overflow_by self.version told)) }
+    {
+        match overflow_by(self.version, told) {
+            Some(overflow) => Ok(Building::Named(self, name, overflow)),
+            None => {
+                drop(name);
+                drop(self);
+                Err(Fault::Bad)
+            }
+        }
+    }
+
     // The trace with this tape.
     fn finish(self, tape: Items<TapeEntry>) -> Trace
         ensures { result ≡ trace_with self tape }
     {
         let Prefix {
+            version,
             played,
             shadowed,
             components,
         } = self;
         Trace {
+            version,
             played,
             shadowed,
             components,
             tape,
         }
+    }
+}
+
+// The overflow of a component of whose line this is told, in a text of a version.
+fn overflow_by(version: u32, told: Option<Overflow>) -> Option<Overflow>
+    ensures { result ≡ overflow_by version told }
+{
+    match told {
+        None if version == 1 => Some(Overflow::Newest),
+        Some(overflow) if version != 1 => Some(overflow),
+        _ => None,
     }
 }
 
@@ -129,7 +164,7 @@ fn behind_none(line: Line) -> Result<Building, Fault>
     ensures { Gives result (after_line building.Start line) }
 {
     match line {
-        Line::Title => Ok(Building::Titled),
+        Line::Title(version) => Ok(Building::Titled(version)),
         line => {
             drop(line);
             Err(Fault::Bad)
@@ -138,11 +173,12 @@ fn behind_none(line: Line) -> Result<Building, Fault>
 }
 
 #[tactic(auto, unfolding(crate::specs::LineOrder::after_line))]
-fn behind_title(alloc: Global, line: Line) -> Result<Building, Fault>
-    ensures { Gives result (after_line building.Titled line) }
+fn behind_title(alloc: Global, version: u32, line: Line) -> Result<Building, Fault>
+    ensures { Gives result (after_line (building.Titled version) line) }
 {
     match line {
         Line::Played(played, shadowed) => Ok(Building::Between(Prefix {
+            version,
             played,
             shadowed,
             components: none(alloc),
@@ -159,7 +195,7 @@ fn behind_component(alloc: Global, prefix: Prefix, line: Line) -> Result<Buildin
     ensures { Gives result (after_line (building.Between prefix) line) }
 {
     match line {
-        Line::Component(name) => Ok(Building::Named(prefix, name)),
+        Line::Component(name, told) => prefix.named(name, told),
         Line::Tape(entry) => prefix.taped(none(alloc), entry),
         line => {
             drop(prefix);
@@ -170,11 +206,17 @@ fn behind_component(alloc: Global, prefix: Prefix, line: Line) -> Result<Buildin
 }
 
 #[tactic(auto, unfolding(crate::specs::LineOrder::after_line))]
-fn behind_name(alloc: Global, prefix: Prefix, name: Text, line: Line) -> Result<Building, Fault>
-    ensures { Gives result (after_line (building.Named prefix name) line) }
+fn behind_name(
+    alloc: Global,
+    prefix: Prefix,
+    name: Text,
+    overflow: Overflow,
+    line: Line,
+) -> Result<Building, Fault>
+    ensures { Gives result (after_line (building.Named prefix name overflow) line) }
 {
     match line {
-        Line::Roles(roles) => Ok(Building::Called(prefix, name, roles, none(alloc))),
+        Line::Roles(roles) => Ok(Building::Called(prefix, name, overflow, roles, none(alloc))),
         line => {
             drop(prefix);
             drop(name);
@@ -188,17 +230,19 @@ fn behind_name(alloc: Global, prefix: Prefix, name: Text, line: Line) -> Result<
 fn behind_call(
     prefix: Prefix,
     name: Text,
+    overflow: Overflow,
     roles: Items<u8>,
     calls: Items<TraceCall>,
     line: Line,
 ) -> Result<Building, Fault>
-    ensures { Gives result (after_line (building.Called prefix name roles calls) line) }
+    ensures { Gives result (after_line (building.Called prefix name overflow roles calls) line) }
 {
     match line {
-        Line::Call(call) => prefix.called(name, roles, calls, call),
+        Line::Call(call) => prefix.called(name, overflow, roles, calls, call),
         Line::End(finished, next) => {
             let component = TraceComponent {
                 name,
+                overflow,
                 roles,
                 calls,
                 finished,
@@ -239,11 +283,13 @@ impl Building {
     {
         match self {
             Building::Start => behind_none(line),
-            Building::Titled => behind_title(alloc, line),
+            Building::Titled(version) => behind_title(alloc, version, line),
             Building::Between(prefix) => behind_component(alloc, prefix, line),
-            Building::Named(prefix, name) => behind_name(alloc, prefix, name, line),
-            Building::Called(prefix, name, roles, calls) => {
-                behind_call(prefix, name, roles, calls, line)
+            Building::Named(prefix, name, overflow) => {
+                behind_name(alloc, prefix, name, overflow, line)
+            }
+            Building::Called(prefix, name, overflow, roles, calls) => {
+                behind_call(prefix, name, overflow, roles, calls, line)
             }
             Building::Taped(prefix, tape) => behind_message(prefix, tape, line),
         }

@@ -1,26 +1,27 @@
 // The lines of a trace, each as a value.
 ghost use Rattle.std.specs.Prelude.{◌≡◌, option_map};
 ghost use Rattle.std.specs.Str.{bytes_eq};
-ghost use Rattle.cy_trace.specs.LineReading.{Gives, call, ended, line_by, line_of, pair, pair_last};
-ghost use Rattle.cy_trace.specs.LineReading.{played, state, taped, title};
+ghost use Rattle.cy_trace.specs.LineReading.{Gives, call, component, ended, line_by, line_of, pair};
+ghost use Rattle.cy_trace.specs.LineReading.{overflow, pair_last, played, state, taped, title, told};
 
 use crate::call::{call, roles};
 use crate::fault::Fault;
 use crate::name::name;
 use crate::word::{behind, cut, cut_last, is_word, long, short};
 use crate::{TapeEntry, TraceCall};
+use cy_fuse::Overflow;
 use cy_msg::{Items, Text};
 use std::alloc::Global;
 
 /// A line of a trace.
 #[derive(Drop)]
 pub(crate) enum Line {
-    /// The first line.
-    Title,
+    /// The first line, with the version of the form.
+    Title(u32),
     /// How many messages were played, and how many were shadowed.
     Played(u32, u32),
-    /// A component by its name.
-    Component(Text),
+    /// A component by its name, and the overflow that is told of it.
+    Component(Text, Option<Overflow>),
     /// The role of each arrival.
     Roles(Items<u8>),
     /// A call.
@@ -36,8 +37,9 @@ pub(crate) enum Line {
 fn title(rest: &[u8]) -> Option<Line>
     ensures { result ≡ title rest.now }
 {
-    if is_word(rest, b"1") {
-        Some(Line::Title)
+    let version = short(rest)?;
+    if version == 1 || version == 2 {
+        Some(Line::Title(version))
     } else {
         None
     }
@@ -64,6 +66,45 @@ fn state(word: &[u8]) -> Option<bool>
         Some(false)
     } else {
         None
+    }
+}
+
+// Where a component goes on.
+fn overflow(word: &[u8]) -> Option<Overflow>
+    ensures { result ≡ overflow word.now }
+{
+    if is_word(word, b"NEWEST") {
+        Some(Overflow::Newest)
+    } else if is_word(word, b"OLDEST") {
+        Some(Overflow::Oldest)
+    } else {
+        None
+    }
+}
+
+// The overflow that is told at the end of a component's line, and what stands before it.
+#[tactic(auto, unfolding(crate::specs::LineReading::told))]
+fn told(rest: &[u8]) -> Option<(&[u8], Overflow)>
+    ensures { option_map (λ p. (p.0.now, p.1)) result ≡ told rest.now }
+{
+    let (front, word) = cut_last(rest, b' ')?;
+    let overflow = overflow(word)?;
+    let (name, word) = cut_last(front, b' ')?;
+    if is_word(word, b"overflow") {
+        Some((name, overflow))
+    } else {
+        None
+    }
+}
+
+// A component by its name, and what is told of its overflow.
+#[tactic(auto, unfolding(crate::specs::LineReading::component))]
+fn component(alloc: Global, rest: &[u8]) -> Result<Line, Fault>
+    ensures { Gives result (component rest.now) }
+{
+    match told(rest) {
+        Some((front, overflow)) => Ok(Line::Component(name(alloc, front)?, Some(overflow))),
+        None => Ok(Line::Component(name(alloc, rest)?, None)),
     }
 }
 
@@ -110,7 +151,7 @@ fn line_by(alloc: Global, word: &[u8], rest: &[u8]) -> Result<Line, Fault>
     } else if is_word(word, b"tape") {
         Ok(Line::Tape(taped(alloc, rest)?))
     } else if is_word(word, b"component") {
-        Ok(Line::Component(name(alloc, rest)?))
+        component(alloc, rest)
     } else if is_word(word, b"roles") {
         Ok(Line::Roles(roles(alloc, rest)?))
     } else if is_word(word, b"end") {

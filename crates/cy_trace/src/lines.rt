@@ -9,7 +9,7 @@ ghost use Rattle.cy_fuse.specs.Fusion.{Arrival};
 ghost use Rattle.cy_comp.specs.Calls.{cursor_after};
 ghost use Rattle.cy_trace.specs.TraceText.{title, played_line, roles_text, value_text, out_text};
 ghost use Rattle.cy_trace.specs.TraceText.{seqs_text, call_line, call_lines, end_line};
-ghost use Rattle.cy_trace.specs.TraceText.{component_text, tape_line};
+ghost use Rattle.cy_trace.specs.TraceText.{component_text, overflow_word, tape_line, told, told_text};
 ghost use Rattle.cy_trace.specs.private.TapeLines.{tape_start, started_line};
 ghost use Rattle.cy_trace.specs.private.OutsAfter.{outs_after};
 
@@ -17,6 +17,7 @@ use crate::numeral::{Numeral, put_kept};
 use crate::page::{ROOM, put_byte, put_number, put_signed, put_word};
 use crate::start::{LineStart, are_short, line_starts, put_start};
 use cy_comp::{Call, Out, Plan, next_cursor};
+use cy_fuse::Overflow;
 use cy_msg::{Names, Token, Tuple, push_quoted};
 use itoa::{Buffer, Integer};
 use std::alloc::{AllocError, Global};
@@ -32,11 +33,34 @@ fn push_number<I: Integer>(to: &mut Vec<u8>, number: I) -> Result<(), AllocError
     to.extend_from_slice(Buffer::new().format(number).as_bytes())
 }
 
-// The title, and how many messages were played and shadowed.
-pub(crate) fn push_head(to: &mut Vec<u8>, played: u32, shadowed: u32) -> Result<(), AllocError>
-    ensures { OnOk result (to.new.items ≡ to.old.items ++ (title ++ played_line played shadowed)) }
+// The title.
+fn push_title(to: &mut Vec<u8>, version: u32) -> Result<(), AllocError>
+    ensures { OnOk result (to.new.items ≡ to.old.items ++ title version) }
 {
-    to.extend_from_slice(b"cyber-trace 1\nplayed ")?;
+    to.extend_from_slice(b"cyber-trace ")?;
+    push_number(to, version)?;
+    to.extend_from_slice(b"\n")
+}
+
+// The title, and how many messages were played and shadowed.
+pub(crate) fn push_head(
+    to: &mut Vec<u8>,
+    version: u32,
+    played: u32,
+    shadowed: u32,
+) -> Result<(), AllocError>
+    ensures { OnOk result (to.new.items
+        ≡ to.old.items ++ (title version ++ played_line played shadowed)) }
+{
+    push_title(to, version)?;
+    push_played(to, played, shadowed)
+}
+
+// How many messages were played and shadowed.
+fn push_played(to: &mut Vec<u8>, played: u32, shadowed: u32) -> Result<(), AllocError>
+    ensures { OnOk result (to.new.items ≡ to.old.items ++ played_line played shadowed) }
+{
+    to.extend_from_slice(b"played ")?;
     push_number(to, played)?;
     to.extend_from_slice(b" shadowed ")?;
     push_number(to, shadowed)?;
@@ -236,9 +260,31 @@ fn push_end_line(to: &mut Vec<u8>, ended: bool, calls: &[Call]) -> Result<(), Al
     to.extend_from_slice(b"\n")
 }
 
-// A component: its name, what arrived, its calls, and its end.
+// The word for where a component goes on.
+fn overflow_word(overflow: Overflow) -> &'static str
+    ensures { result.now ≡ overflow_word overflow }
+{
+    match overflow {
+        Overflow::Newest => "NEWEST",
+        Overflow::Oldest => "OLDEST",
+    }
+}
+
+// What the line of a component tells of its overflow.
+fn push_told(to: &mut Vec<u8>, version: u32, overflow: Overflow) -> Result<(), AllocError>
+    ensures { OnOk result (to.new.items ≡ to.old.items ++ told_text (told version overflow)) }
+{
+    if version == 1 {
+        return Ok(());
+    }
+    to.extend_from_slice(b" overflow ")?;
+    to.extend_from_slice(overflow_word(overflow).as_bytes())
+}
+
+// A component: its name and its overflow, what arrived, its calls, and its end.
 pub(crate) fn push_component(
     to: &mut Vec<u8>,
+    version: u32,
     plan: &Plan,
     arrivals: &[(u8, Token)],
     calls: &[Call],
@@ -246,10 +292,11 @@ pub(crate) fn push_component(
 ) -> Result<(), AllocError>
     requires { (n : ℕ) (a : Arrival) → slice_get arrivals.now n ≡ Some a → a.0 < 10 }
     ensures { OnOk result (to.new.items ≡ to.old.items
-        ++ component_text plan.now arrivals.now calls.now ended) }
+        ++ component_text version plan.now arrivals.now calls.now ended) }
 {
     to.extend_from_slice(b"component ")?;
     push_quoted(to, plan.name.as_str().as_bytes(), true)?;
+    push_told(to, version, plan.overflow)?;
     to.extend_from_slice(b"\nroles ")?;
     push_roles(to, arrivals)?;
     to.extend_from_slice(b"\n")?;

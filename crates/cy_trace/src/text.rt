@@ -1,5 +1,6 @@
 // The text of a trace.
 ghost use Rattle.std.specs.Prelude.{◌≡◌, ◌<◌, ◌≤◌, ◌++◌, length, IfOk, IfErr, OnOk};
+ghost use Rattle.std.specs.List.{list_any};
 ghost use Rattle.wake_core.specs.Run.{routes_of};
 ghost use Rattle.wake_core.specs.WorldOf.{plain_of};
 ghost use Rattle.wake_core.specs.Events.{is_finished};
@@ -8,12 +9,14 @@ ghost use Rattle.wake_core.specs.Rest.{run_shown};
 ghost use Rattle.wake_core.specs.declared.entries.TheConstants.{MOST_PLANNED};
 ghost use Rattle.wake_core.specs.Planned.{planned};
 ghost use Rattle.cy_trace.specs.TraceForm.{IsTraceText};
-ghost use Rattle.cy_trace.specs.TraceText.{component_text, components_text, trace_text as text_of};
+ghost use Rattle.cy_trace.specs.TraceText.{component_text, components_text, is_oldest};
+ghost use Rattle.cy_trace.specs.TraceText.{trace_text as text_of, version_of};
 
 use crate::TraceError;
 use crate::lines::{push_component, push_head, push_tape_lines};
 use crate::typed::trace_is_read_back;
 use cy_comp::{Call, Plan, State, Wiring};
+use cy_fuse::Overflow;
 use cy_msg::Bytes;
 use std::alloc::{AllocError, Global};
 use wake_core::World;
@@ -63,21 +66,49 @@ fn push_trace(
     ensures { OnOk result (to.new.items ≡ to.old.items
         ++ text_of wiring.now.names wiring.now.plans shadowed (run_shown (plain_of world.now))) }
 {
-    push_head(to, world.played(), shadowed)?;
-    push_components(to, world, wiring.plans.as_slice())?;
+    let plans = wiring.plans.as_slice();
+    let version = version_of(plans);
+    push_head(to, version, world.played(), shadowed)?;
+    push_components(to, version, world, plans)?;
     push_tape_lines(alloc, to, &wiring.names, world.tape_list())
 }
 
+// The version of the form in which these components are told of.
+fn version_of(plans: &[Plan]) -> u32
+    ensures { result ≡ version_of plans.now }
+{
+    if some_oldest(plans) { 2 } else { 1 }
+}
+
+// Whether one of these components goes on at the oldest tuple that is kept.
+fn some_oldest(plans: &[Plan]) -> bool
+    ensures { result ≡ list_any (λ p. is_oldest p.overflow) plans.now }
+{
+    plans.iter().any(|plan| is_oldest(plan.overflow))
+}
+
+// Whether a component goes on at the oldest tuple that is kept.
+fn is_oldest(overflow: Overflow) -> bool
+    ensures { result ≡ is_oldest overflow }
+{
+    matches!(overflow, Overflow::Oldest)
+}
+
 // The components, from the first one on.
-fn push_components(to: &mut Vec<u8>, world: &World, plans: &[Plan]) -> Result<(), AllocError>
+fn push_components(
+    to: &mut Vec<u8>,
+    version: u32,
+    world: &World,
+    plans: &[Plan],
+) -> Result<(), AllocError>
     requires quiet { Quiet (plain_of world.now) }
     requires routes { (plain_of world.now).routes ≡ routes_of plans.now }
     requires few { length plans.now ≤ 64 }
-    ensures { OnOk result (to.new.items ≡ to.old.items ++ components_text
+    ensures { OnOk result (to.new.items ≡ to.old.items ++ components_text version
         (run_shown (plain_of world.now)) 0 plans.now) }
 {
     for (place, plan) in plans.iter().enumerate() {
-        push_numbered(to, world, plan, place as u32)?;
+        push_numbered(to, version, world, plan, place as u32)?;
     }
     Ok(())
 }
@@ -85,18 +116,20 @@ fn push_components(to: &mut Vec<u8>, world: &World, plans: &[Plan]) -> Result<()
 // The component of a number.
 fn push_numbered(
     to: &mut Vec<u8>,
+    version: u32,
     world: &World,
     plan: &Plan,
     component: u32,
 ) -> Result<(), AllocError>
     requires quiet { Quiet (plain_of world.now) }
     requires known { component < length (plain_of world.now).routes }
-    ensures { OnOk result (to.new.items ≡ to.old.items ++ component_text plan.now
+    ensures { OnOk result (to.new.items ≡ to.old.items ++ component_text version plan.now
         ((plain_of world.now).arrivals component) ((plain_of world.now).calls component)
         (is_finished ((plain_of world.now).states component))) }
 {
     push_component(
         to,
+        version,
         plan,
         world.arrivals(component),
         calls_of(world, component),

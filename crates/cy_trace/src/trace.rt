@@ -1,4 +1,5 @@
 // A trace, as its lines have it.
+use cy_fuse::Overflow;
 use cy_msg::{Items, Text};
 
 /// What a call put out.
@@ -29,6 +30,8 @@ pub struct TraceCall {
 #[derive(Drop)]
 pub struct TraceComponent {
     pub name: Text,
+    /// Which tuple a fetch goes on with where its own isn't kept any more.
+    pub overflow: Overflow,
     /// The role of each arrival, from 0 to 9.
     pub roles: Items<u8>,
     pub calls: Items<TraceCall>,
@@ -50,6 +53,9 @@ pub struct TapeEntry {
 /// A trace, line by line.
 #[derive(Drop)]
 pub struct Trace {
+    /// The version of its form: 1 where each component goes on at the newest tuple and no line tells
+    /// it, and 2 where the line of each component tells where it goes on.
+    pub version: u32,
     /// How many messages were played.
     pub played: u32,
     /// How many messages were shadowed: those stood on a channel that a component writes, and were

@@ -88,12 +88,12 @@ arrivals_limit routes counts c most x at limited = let part = sum_part (λ (x : 
 
 -- The visitor and the routine that are made for a component.
 pub visitor_is : (routes : List Route) (counts : List ℕ) (p : Plan) (readers : List ℕ) (queue triggers spare : ℕ) → readers ≡ p.readers → triggers ≡ planned_count routes counts (slice_index readers 0)
-    → queue ≡ max 1 (min p.queue triggers) → spare ≡ sum (map (planned_count routes counts) readers) → prepared queue (length readers) spare ≡ first_visitor routes counts (route_of p)
+    → queue ≡ max 1 (min p.queue triggers) → spare ≡ sum (map (planned_count routes counts) readers) → prepared queue (length readers) p.overflow spare ≡ first_visitor routes counts (route_of p)
 visitor_is routes counts p readers queue triggers spare r t q s =
     let queue_is : queue ≡ queue_of routes counts (route_of p) = q ∙ ap (λ n. max 1 (min p.queue n)) (t ∙ ap (λ (rs : List ℕ). planned_count routes counts (slice_index rs 0)) r) in
-    ap (λ n. prepared n (length readers) spare) queue_is
-    ∙ ap (λ (rs : List ℕ). prepared (queue_of routes counts (route_of p)) (length rs) spare) r
-    ∙ ap (λ n. prepared (queue_of routes counts (route_of p)) (length p.readers) n) (s ∙ ap (λ (rs : List ℕ). sum (map (planned_count routes counts) rs)) r)
+    ap (λ n. prepared n (length readers) p.overflow spare) queue_is
+    ∙ ap (λ (rs : List ℕ). prepared (queue_of routes counts (route_of p)) (length rs) p.overflow spare) r
+    ∙ ap (λ n. prepared (queue_of routes counts (route_of p)) (length p.readers) p.overflow n) (s ∙ ap (λ (rs : List ℕ). sum (map (planned_count routes counts) rs)) r)
 
 pub routine_is : (routes : List Route) (counts : List ℕ) (p : Plan) (readers : List ℕ) (spare : ℕ) → readers ≡ p.readers → spare ≡ planned_count routes counts (slice_index readers 0) → new_routine p.kind spare ≡ first_routine routes counts (route_of p)
 routine_is routes counts p readers spare r s = ap (new_routine p.kind) (s ∙ ap (λ (rs : List ℕ). planned_count routes counts (slice_index rs 0)) r)
@@ -161,6 +161,7 @@ pub visited_begins : (routes : List Route) (counts : List ℕ) → IsVisited rou
 visited_begins routes counts = record {
   queues = λ c x at. ap (λ (v : VisitorView). v.queue) (read_made (first_visitor routes counts) no_visitor routes c x at);
   roles = λ c x at. ap (λ (v : VisitorView). v.roles) (read_made (first_visitor routes counts) no_visitor routes c x at);
+  overflows = λ c x at. ap (λ (v : VisitorView). v.overflow) (read_made (first_visitor routes counts) no_visitor routes c x at);
 }
 
 pub roomy_begins : (routes : List Route) (counts : List ℕ) (tape : ℕ) → counts_from routes counts 0 (length counts) ≤ tape

@@ -30,7 +30,7 @@ use Rattle.wake_core.proofs.Playing.{run_is, idle_by}
 use Rattle.wake_core.proofs.Parking.{unsent_some, finds_shown, found_can}
 use Rattle.wake_core.proofs.Putting.{outs_none}
 use Rattle.wake_core.proofs.Resuming.{resume_at, resume_free, delivered_run, ends_same, ends_rest, stays_by, free_step, delivered_keeps, delivered_hears, same_hears, ends_keep, calls_less, tape_no_more}
-use Rattle.wake_core.proofs.Heeding.{sleeper_holds, SameAt, same_keeps, same_before}
+use Rattle.wake_core.proofs.Heeding.{sleeper_holds, same_keeps, same_before}
 use Rattle.wake_core.proofs.Making.{IsMade, call_made}
 use Rattle.wake_core.proofs.Consisting.{ask_consistent}
 

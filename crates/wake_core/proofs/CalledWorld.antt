@@ -145,6 +145,7 @@ module _ (s : World) (n : ℕ) (r : RoutineView) (t : IsToCall s n r) where
       (sym (read_is (λ v. v.arrivals) [] s.visitors.items n v fits visitor))
       (ap (λ (v : VisitorView). v.roles) (sym view) ∙ s.visited.roles n x.0 x.1)
       (ap (λ (v : VisitorView). v.queue) (sym view) ∙ s.visited.queues n x.0 x.1)
+      (ap (λ (v : VisitorView). v.overflow) (sym view) ∙ s.visited.overflows n x.0 x.1)
       (s.fixed.lawful.buffered n x.0 x.1)
       (cursor ∙ ap cursor_after its_calls)
       asked_sound.consistent
@@ -181,7 +182,7 @@ module _ (s : World) (n : ℕ) (r : RoutineView) (t : IsToCall s n r) where
     may_call asking is =
         let x = there s.fixed.routes.items n known in
         let lawful = made_sound.consistent.called.lawful n x.0 x.1 in
-        let bounds = t.law.bounds _ _ _ _ (lawful.positions (length r.calls) (call_of r (tuple, position, tail)) call_there) in
+        let bounds = t.law.bounds _ _ _ _ _ (lawful.positions (length r.calls) (call_of r (tuple, position, tail)) call_there) in
         let fused_tail = lawful.tails_fused (length r.calls) (call_of r (tuple, position, tail)) call_there in
         let few = le_trans (fused_planned made n x.0 x.1 made_sound.consistent) (planned_trigger s.fixed.routes.items s.fixed.counts.items n x.0 x.1) in
         let may : MayTake (record r { state = DataWait }) tuple position = record {

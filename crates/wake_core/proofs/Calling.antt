@@ -22,7 +22,7 @@ use Rattle.wake_core.proofs.Fetching.{cursor_push}
 
 -- A call fits behind others.
 pub record IsNextCall (x : Route) (arrivals : List Arrival) (calls : List Call) (call : Call) : Type 0 where
-  pub position : fetch (cursor_after calls) call.tail x.queue ≡ Some call.position
+  pub position : fetch (cursor_after calls) call.tail x.queue x.overflow ≡ Some call.position
   pub tail : call.tail ≡ length (fused arrivals (length x.readers))
   pub rises : tail_after calls ≤ call.tail
   pub tuple : slice_get (fused arrivals (length x.readers)) (call.position - 1) ≡ Some call.tuple
@@ -30,9 +30,9 @@ pub record IsNextCall (x : Route) (arrivals : List Arrival) (calls : List Call) 
   pub unfinished : is_last (last_outcome x.kind calls) ≡ false
 
 pub lawful_call : (x : Route) (arrivals : List Arrival) (calls : List Call) (call : Call) → IsNextCall x arrivals calls call
-    → LawfulCalls x.kind arrivals (length x.readers) x.queue calls → LawfulCalls x.kind arrivals (length x.readers) x.queue (calls ++ call ∷ [])
+    → LawfulCalls x.kind arrivals (length x.readers) x.queue x.overflow calls → LawfulCalls x.kind arrivals (length x.readers) x.queue x.overflow (calls ++ call ∷ [])
 lawful_call x arrivals calls call is l = record {
-  positions = snoc_at (λ before (y : Call). fetch (cursor_after before) y.tail x.queue ≡ Some y.position) calls call l.positions is.position;
+  positions = snoc_at (λ before (y : Call). fetch (cursor_after before) y.tail x.queue x.overflow ≡ Some y.position) calls call l.positions is.position;
   tails_rise = snoc_at (λ before (y : Call). tail_after before ≤ y.tail) calls call l.tails_rise is.rises;
   tails_fused = snoc_at (λ before (y : Call). y.tail ≤ length (fused arrivals (length x.readers))) calls call l.tails_fused (omega (arith, is.tail));
   tuples = snoc_at (λ before (y : Call). slice_get (fused arrivals (length x.readers)) (y.position - 1) ≡ Some y.tuple) calls call l.tuples is.tuple;
@@ -41,7 +41,7 @@ lawful_call x arrivals calls call is l = record {
 }
 
 lawful_arrival : (x : Route) (arrivals : List Arrival) (calls : List Call) (a : Arrival)
-    → LawfulCalls x.kind arrivals (length x.readers) x.queue calls → LawfulCalls x.kind (arrivals ++ a ∷ []) (length x.readers) x.queue calls
+    → LawfulCalls x.kind arrivals (length x.readers) x.queue x.overflow calls → LawfulCalls x.kind (arrivals ++ a ∷ []) (length x.readers) x.queue x.overflow calls
 lawful_arrival x arrivals calls a l = record {
   positions = l.positions;
   tails_rise = l.tails_rise;
@@ -138,7 +138,7 @@ module _ {routes : List Route} {arrivals : ℕ → List Arrival} {calls : ℕ �
     ];
   }
 
-  pub arrival_causal : (v : ℕ) (a : Arrival) → ((x : Route) → slice_get routes v ≡ Some x → LawfulCalls x.kind (arrivals v) (length x.readers) x.queue (calls v))
+  pub arrival_causal : (v : ℕ) (a : Arrival) → ((x : Route) → slice_get routes v ≡ Some x → LawfulCalls x.kind (arrivals v) (length x.readers) x.queue x.overflow (calls v))
       → Causal routes arrivals calls tape → Causal routes (set_at v (arrivals v ++ a ∷ []) arrivals) calls tape
   arrival_causal v a lawful h = record {
     before = λ k x n y t i at out on e tuple l item j m of. elim (place k v) [

@@ -28,9 +28,9 @@ some_there (x ∷ calls) zero l = (x, refl)
 some_there (x ∷ calls) (suc n) l = some_there calls n (omega arith)
 
 -- Positions rise with each call.
-pub position_rises : FetchesFind → (x : Route) (arrivals : List Arrival) (calls : List Call) → LawfulCalls x.kind arrivals (length x.readers) x.queue calls
+pub position_rises : FetchesFind → (x : Route) (arrivals : List Arrival) (calls : List Call) → LawfulCalls x.kind arrivals (length x.readers) x.queue x.overflow calls
     → (n : ℕ) (call : Call) → slice_get calls n ≡ Some call → n + 1 ≤ call.position
-position_rises law x arrivals calls l zero call e = (law.bounds (cursor_after (take 0 calls)) call.tail x.queue call.position (l.positions 0 call e)).from_one
+position_rises law x arrivals calls l zero call e = (law.bounds (cursor_after (take 0 calls)) call.tail x.queue x.overflow call.position (l.positions 0 call e)).from_one
 position_rises law x arrivals calls l (suc n) call e =
     let inside : n < length calls = omega (arith, slice_get_within calls (suc n) call e) in
     let y = some_there calls n inside in
@@ -38,11 +38,11 @@ position_rises law x arrivals calls l (suc n) call e =
     let more : suc n ≡ n + 1 = omega arith in
     let cursor : cursor_after (take (suc n) calls) ≡ y.0.position + 1 =
     ap (λ i. cursor_after (take i calls)) more ∙ ap cursor_after (take_next calls n y.0 y.1) ∙ cursor_push (take n calls) y.0 in
-    let bounds = (law.bounds (cursor_after (take (suc n) calls)) call.tail x.queue call.position (l.positions (suc n) call e)).from_index in
+    let bounds = (law.bounds (cursor_after (take (suc n) calls)) call.tail x.queue x.overflow call.position (l.positions (suc n) call e)).from_index in
     omega (arith, below, cursor, bounds)
 
 -- There are fewer calls than where the next fetch begins says.
-pub calls_below : FetchesFind → (x : Route) (arrivals : List Arrival) (calls : List Call) → LawfulCalls x.kind arrivals (length x.readers) x.queue calls
+pub calls_below : FetchesFind → (x : Route) (arrivals : List Arrival) (calls : List Call) → LawfulCalls x.kind arrivals (length x.readers) x.queue x.overflow calls
     → length calls ≤ cursor_after calls - 1
 calls_below law x arrivals calls l = by (length calls) refl
   where

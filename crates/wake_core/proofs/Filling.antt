@@ -134,7 +134,7 @@ filled_world w routes visitors owed p v j t o n old new lt within at there is se
 pub fills : {p v j : ℕ} {w u : Plain} (later : List (ℕ × ℕ)) → w.fills p ≡ (v, j) ∷ later → u ≡ after_fill p v j later w → Fills p v j w u
 fills later first effect = record { later = later; first = first; effect = effect }
 
--- A visitor keeps its queue and its readers, and has less room by what it has more.
+-- A visitor keeps its queue, its readers and where it goes on, and has less room by what it has more.
 pub filled_visited : {routes : List Route} {counts : List ℕ} {visitors : ℕ → VisitorView} (v j : ℕ) (t : Token) → IsVisited routes counts visitors → IsVisited routes counts (set_at v (arrived (visitors v) j t) visitors)
 filled_visited {visitors = visitors} v j t h = record {
   queues = λ k x at. elim (place k v) [
@@ -144,6 +144,10 @@ filled_visited {visitors = visitors} v j t h = record {
   roles = λ k x at. elim (place k v) [
     | inl e ↦ ap (λ (a : VisitorView). a.roles) (set_at_there v (arrived (visitors v) j t) visitors k e) ∙ ap (λ k. (visitors k).roles) (sym e) ∙ h.roles k x at
     | inr e ↦ ap (λ (a : VisitorView). a.roles) (set_at_other v (arrived (visitors v) j t) visitors k e) ∙ h.roles k x at
+  ];
+  overflows = λ k x at. elim (place k v) [
+    | inl e ↦ ap (λ (a : VisitorView). a.overflow) (set_at_there v (arrived (visitors v) j t) visitors k e) ∙ ap (λ k. (visitors k).overflow) (sym e) ∙ h.overflows k x at
+    | inr e ↦ ap (λ (a : VisitorView). a.overflow) (set_at_other v (arrived (visitors v) j t) visitors k e) ∙ h.overflows k x at
   ];
 }
 

@@ -28,7 +28,7 @@ pub found_position : FetchesFind → (w : Plain) (c : ℕ) (x : Route) (call : C
     → call.position ≤ planned_count w.routes w.counts (first_reader x)
 found_position law w c x call some at s =
     let m = call_made w c call some in
-    let to_tail = (law.bounds (w.cursors c) (tail_at m.route w c) m.route.queue call.position m.position).to_tail in
+    let to_tail = (law.bounds (w.cursors c) (tail_at m.route w c) m.route.queue m.route.overflow call.position m.position).to_tail in
     let few = fused_planned w c m.route m.at s in
     subst (λ (y : Route). call.position ≤ planned_count w.routes w.counts (first_reader y)) (same_route w c call m x at) (omega (arith, to_tail, few))
 

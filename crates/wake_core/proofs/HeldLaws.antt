@@ -4,7 +4,7 @@ use Rattle.cy_comp.specs.declared.call.Outcome.{Outcome}
 use Rattle.cy_comp.specs.declared.call.Outcome.TheVariants.{Emit, Hold, Last}
 use Rattle.cy_comp.specs.Calls.{is_last, held_until}
 use Rattle.wake_core.specs.Run.{set_at}
-use Rattle.wake_core.specs.Plain.{Hand, hand, State, Ready, DataWait, Sleep, Finished, Phase, Fresh, Woken, Known, Checked, Stopping, Asked, Empty, Running, Sending, LastSending, Done}
+use Rattle.wake_core.specs.Plain.{Hand, hand, State, Ready, DataWait, Sleep, Finished, Phase, Fresh, Known, Checked, Asked, Empty, Running, Sending, Done}
 use Rattle.wake_core.specs.Events.{IsFree, state_after}
 use Rattle.wake_core.specs.Sound.{Held, NotRunning, state_in, is_ending}
 use Rattle.wake_core.proofs.Places.{place, set_at_is, set_at_there, set_at_other}

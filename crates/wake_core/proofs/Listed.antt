@@ -1,24 +1,12 @@
 -- A list of messages that is played from the beginning to its end.
-use Rattle.std.proofs.Common.{ℕ, zero, suc, ◌+◌, ◌-◌, ◌≡◌, ◌≢◌, ◌≤◌, ◌<◌, ◌==◌, Bool, true, false, not, refl, sym, ◌∙◌, ap, subst, inl, inr, arith, List, [], ◌∷◌, ◌++◌, length, take, drop, filter, Option, Some, None, is_some, slice_get, slice_index, cond, get_or}
+use Rattle.std.proofs.Common.{ℕ, zero, suc, ◌+◌, ◌-◌, ◌≡◌, ◌≢◌, ◌≤◌, ◌==◌, Bool, true, false, not, refl, sym, ◌∙◌, ap, subst, inl, inr, arith, List, [], ◌∷◌, length, filter, Option, Some, None, is_some, slice_get, slice_index, cond}
 use Rattle.std.proofs.lemmas.Bool.Decides.{eqb_tells}
 use Rattle.std.proofs.lemmas.List.Filters.{length-filter_both}
-use Rattle.std.proofs.lemmas.Option.{slice_get-get_or}
-use Rattle.std.proofs.lemmas.List.{take_all, drop_all}
-use mathlib.Core.Path.{fun_ext}
 use Rattle.cy_msg.specs.declared.token.Token.{Token}
-use Rattle.cy_msg.specs.Tokens.{on_channel, IsNumbered, IsTimed}
-use Rattle.cy_msg.specs.declared.placement.ContextPlan.{ContextPlan}
-use Rattle.cy_msg.specs.Placement.{scan_of}
-use Rattle.cy_comp.specs.Calls.{outs}
-use Rattle.cy_comp.specs.Laws.{OutcomesAreAnswers}
-use Rattle.wake_core.specs.Run.{Route, Run, opening, writes_from, played_of}
-use Rattle.wake_core.specs.Settle.{Settles, Runs}
-use Rattle.wake_core.specs.Serial.{play, next, last_clock, SerialRun}
-use Rattle.wake_core.specs.Plain.{Plain, opening_world, to_play_from, to_play, played_count, unsent_of}
-use Rattle.wake_core.specs.Events.{IsNext, Ticks}
-use Rattle.wake_core.specs.Sound.{Sound}
-use Rattle.wake_core.specs.Rest.{IsAtRest, run_shown, IsOpening, IsToPlay, IsScanOf, StaysMade}
-use Rattle.wake_core.proofs.Listing.{take_next}
+use Rattle.cy_msg.specs.Tokens.{on_channel}
+use Rattle.wake_core.specs.Run.{Route, writes_from, played_of}
+use Rattle.wake_core.specs.Plain.{Plain, to_play_from, to_play}
+use Rattle.wake_core.specs.Rest.{IsToPlay}
 
 -- Messages of a channel that no component writes are all among the played ones.
 pub on_played : (routes : List Route) (channel : ℕ) (tape : List Token) → writes_from 0 routes channel ≡ None → on_channel channel (played_of routes tape) ≡ on_channel channel tape

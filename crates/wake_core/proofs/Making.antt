@@ -28,7 +28,7 @@ use Rattle.wake_core.proofs.Rooming.{call_room}
 pub record IsMade (w : Plain) (c : ℕ) (call : Call) : Type 0 where
   pub route : Route
   pub at : slice_get w.routes c ≡ Some route
-  pub position : fetch (w.cursors c) (tail_at route w c) route.queue ≡ Some call.position
+  pub position : fetch (w.cursors c) (tail_at route w c) route.queue route.overflow ≡ Some call.position
   pub tail : call.tail ≡ tail_at route w c
   pub tuple : slice_get (fused (w.arrivals c) (length route.readers)) (call.position - 1) ≡ Some call.tuple
   pub out : call.out ≡ out_of (outcome_after route.kind (tuples_of (w.calls c)) call.tuple)
@@ -36,7 +36,7 @@ pub record IsMade (w : Plain) (c : ℕ) (call : Call) : Type 0 where
 pub call_made : (w : Plain) (c : ℕ) (call : Call) → next_call w c ≡ Some call → IsMade w c call
 call_made w c call e = by_route (slice_get w.routes c) refl e
   where
-    by_tuple : (x : Route) → slice_get w.routes c ≡ Some x → (position : ℕ) → fetch (w.cursors c) (tail_at x w c) x.queue ≡ Some position
+    by_tuple : (x : Route) → slice_get w.routes c ≡ Some x → (position : ℕ) → fetch (w.cursors c) (tail_at x w c) x.queue x.overflow ≡ Some position
         → (o : Option Tuple) → slice_get (fused (w.arrivals c) (length x.readers)) (position - 1) ≡ o
         → option_map (call_on x w c position) o ≡ Some call → IsMade w c call
     by_tuple x at position finds None is e = cc
@@ -44,7 +44,7 @@ call_made w c call e = by_route (slice_get w.routes c) refl e
         let same : call_on x w c position tuple ≡ call = cc in
         subst (IsMade w c) same record { route = x; at = at; position = finds; tail = refl; tuple = is; out = refl }
 
-    by_position : (x : Route) → slice_get w.routes c ≡ Some x → (o : Option ℕ) → fetch (w.cursors c) (tail_at x w c) x.queue ≡ o
+    by_position : (x : Route) → slice_get w.routes c ≡ Some x → (o : Option ℕ) → fetch (w.cursors c) (tail_at x w c) x.queue x.overflow ≡ o
         → option_and_then (λ position. option_map (call_on x w c position) (slice_get (fused (w.arrivals c) (length x.readers)) (position - 1))) o ≡ Some call
         → IsMade w c call
     by_position x at None finds e = cc
@@ -53,9 +53,9 @@ call_made w c call e = by_route (slice_get w.routes c) refl e
     by_route : (o : Option Route) → slice_get w.routes c ≡ o
         → option_and_then (λ (x : Route). option_and_then (λ position.
         option_map (call_on x w c position) (slice_get (fused (w.arrivals c) (length x.readers)) (position - 1)))
-        (option_and_then (λ (y : Route). fetch (w.cursors c) (tail_at y w c) y.queue) o)) o ≡ Some call → IsMade w c call
+        (option_and_then (λ (y : Route). fetch (w.cursors c) (tail_at y w c) y.queue y.overflow) o)) o ≡ Some call → IsMade w c call
     by_route None at e = cc
-    by_route (Some x) at e = by_position x at (fetch (w.cursors c) (tail_at x w c) x.queue) refl e
+    by_route (Some x) at e = by_position x at (fetch (w.cursors c) (tail_at x w c) x.queue x.overflow) refl e
 
 -- Where no call comes of it, a fetch finds nothing.
 pub none_made : FetchesFind → (w : Plain) (c : ℕ) → next_call w c ≡ None → found_by w c ≡ None
@@ -74,19 +74,19 @@ none_made law w c e = by_route (slice_get w.routes c) e
     by_tuple x position None is some e = some refl
     by_tuple x position (Some tuple) is some e = cc
 
-    by_position : (x : Route) (o : Option ℕ) → fetch (w.cursors c) (tail_at x w c) x.queue ≡ o
+    by_position : (x : Route) (o : Option ℕ) → fetch (w.cursors c) (tail_at x w c) x.queue x.overflow ≡ o
         → option_and_then (λ position. option_map (call_on x w c position) (slice_get (fused (w.arrivals c) (length x.readers)) (position - 1))) o ≡ None → o ≡ None
     by_position x None finds e = refl
     by_position x (Some position) finds e =
-        let b = law.bounds (w.cursors c) (tail_at x w c) x.queue position finds in
+        let b = law.bounds (w.cursors c) (tail_at x w c) x.queue x.overflow position finds in
         absurd (by_tuple x position (slice_get (fused (w.arrivals c) (length x.readers)) (position - 1)) refl (inside (fused (w.arrivals c) (length x.readers)) position b.from_one b.to_tail) e)
 
     by_route : (o : Option Route)
         → option_and_then (λ (x : Route). option_and_then (λ position.
         option_map (call_on x w c position) (slice_get (fused (w.arrivals c) (length x.readers)) (position - 1)))
-        (option_and_then (λ (y : Route). fetch (w.cursors c) (tail_at y w c) y.queue) o)) o ≡ None → option_and_then (λ (y : Route). fetch (w.cursors c) (tail_at y w c) y.queue) o ≡ None
+        (option_and_then (λ (y : Route). fetch (w.cursors c) (tail_at y w c) y.queue y.overflow) o)) o ≡ None → option_and_then (λ (y : Route). fetch (w.cursors c) (tail_at y w c) y.queue y.overflow) o ≡ None
     by_route None e = refl
-    by_route (Some x) e = by_position x (fetch (w.cursors c) (tail_at x w c) x.queue) refl e
+    by_route (Some x) e = by_position x (fetch (w.cursors c) (tail_at x w c) x.queue x.overflow) refl e
 
 module _ (p c : ℕ) (w : Plain) (call : Call) (held : w.hands p ≡ hand c Asked) (m : IsMade w c call) where
   -- The component's own route is any that it has.
@@ -150,7 +150,7 @@ module _ (p c : ℕ) (w : Plain) (call : Call) (held : w.hands p ≡ hand c Aske
   fits law s x at =
       let next = next_is s x at in
       let few = calls_below law x (w.arrivals c) (w.calls c ++ call ∷ []) (lawful_call x (w.arrivals c) (w.calls c) call next (s.called.lawful c x at)) in
-      let bounds = law.bounds (cursor_after (w.calls c)) call.tail x.queue call.position next.position in
+      let bounds = law.bounds (cursor_after (w.calls c)) call.tail x.queue x.overflow call.position next.position in
       let begun = s.delivered.begins c 0 (first_reader x) (first_reads w.routes c x at (s.wired.some_reader c x at)) in
       let arrived : length (of_role 0 (w.arrivals c)) ≤ length (on_channel (first_reader x) w.tape) = omega (arith, ap length begun, length-take (length (of_role 0 (w.arrivals c))) (on_channel (first_reader x) w.tape)) in
       omega (arith, few, cursor_push (w.calls c) call, bounds.to_tail, next.tail, fused_few (length x.readers) (w.arrivals c), arrived, s.room.taped (first_reader x))

@@ -5,7 +5,6 @@ use Rattle.std.proofs.lemmas.List.Elements.{filter-append}
 use Rattle.std.proofs.lemmas.Bool.Decides.{eqb_tells}
 use Rattle.std.proofs.lemmas.Option.{slice_get_within, slice_get_cases}
 use Rattle.cy_msg.specs.declared.token.Token.{Token}
-use Rattle.cy_msg.specs.declared.token.Tuple.{Tuple}
 use Rattle.cy_msg.specs.Tuple.{messages_of}
 use Rattle.cy_msg.specs.Tokens.{on_channel}
 use Rattle.cy_fuse.specs.Fusion.{fused}
@@ -16,7 +15,6 @@ use Rattle.wake_core.specs.Sound.{StandsOn, IsLate, HasLate, Obedient, Consisten
 use Rattle.wake_core.proofs.Places.{place, set_at_is, set_at_there, set_at_other}
 use Rattle.wake_core.proofs.Listing.{get_snoc, get_taken}
 use Rattle.wake_core.proofs.Standing.{item_stands}
-use Rattle.wake_core.proofs.Timing.{played-own, played-other}
 
 pub same_hand : (c k : ℕ) (f g : Phase) → hand c f ≡ hand k g → (c ≡ k) × (f ≡ g)
 same_hand c k f g e = (grind (arith, e), grind (arith, e))
@@ -50,6 +48,7 @@ module _ {routes : List Route} {stop : Option Stop} {raised : Bool} {hands : ℕ
   pub calm_obedient : (p : ℕ) (new : Option Hand) → ((k : ℕ) (f : Phase) → new ≡ hand k f → is_asking f ≡ false)
       → Obedient routes stop raised hands calls tape → Obedient routes stop raised (set_at p new hands) calls tape
   calm_obedient p new calm o = record {
+    given = o.given;
     few = o.few;
     one = o.one;
     none_yet = λ s given up q n f x e asks at late. elim (set_at_is p new hands q (hand s.component f) e) [
@@ -71,6 +70,7 @@ module _ {routes : List Route} {stop : Option Stop} {raised : Bool} {hands : ℕ
   pub check_obedient : (p c : ℕ) → Obedient routes stop raised hands calls tape
       → Obedient routes stop raised (set_at p (hand c (if stops stop raised c then Stopping else Checked)) hands) calls tape
   check_obedient p c o = record {
+    given = o.given;
     few = o.few;
     one = o.one;
     none_yet = λ s given up q n f x e asks at late. elim (set_at_is p (hand c (if stops stop raised c then Stopping else Checked)) hands q (hand s.component f) e) [
@@ -87,6 +87,7 @@ module _ {routes : List Route} {stop : Option Stop} {raised : Bool} {hands : ℕ
 
   pub ask_obedient : (p c : ℕ) → hands p ≡ hand c Checked → Obedient routes stop raised hands calls tape → Obedient routes stop raised (set_at p (hand c Asked) hands) calls tape
   ask_obedient p c held o = record {
+    given = o.given;
     few = o.few;
     one = o.one;
     none_yet = λ s given up q n f x e asks at late. elim (set_at_is p (hand c Asked) hands q (hand s.component f) e) [
@@ -99,6 +100,7 @@ module _ {routes : List Route} {stop : Option Stop} {raised : Bool} {hands : ℕ
   pub call_obedient : (p c : ℕ) (call : Call) → hands p ≡ hand c Asked → ((c p q : ℕ) (f g : Phase) → hands p ≡ hand c f → hands q ≡ hand c g → p ≡ q)
       → Obedient routes stop raised hands calls tape → Obedient routes stop raised (set_at p (hand c Running) hands) (set_at c (calls c ++ call ∷ []) calls) tape
   call_obedient p c call held alone o = record {
+    given = o.given;
     few = o.few;
     one = λ s given up known m n x y at_m at_n late_x late_y. elim (place s.component c) [
       | inr i ↦ o.one s given up known m n x y (other s i m x at_m) (other s i n y at_n) late_x late_y
@@ -131,6 +133,7 @@ module _ {routes : List Route} {stop : Option Stop} {raised : Bool} {hands : ℕ
       → ((s : Stop) → stop ≡ Some s → raised ≡ false → length (played_of routes (tape ++ t ∷ [])) ≤ s.after)
       → Obedient routes stop raised hands calls tape → Obedient routes stop raised hands calls (tape ++ t ∷ [])
   tape_obedient t next stands known few o = record {
+    given = o.given;
     few = few;
     one = λ s given up within m n x y at_m at_n late_x late_y. o.one s given up within m n x y at_m at_n (before s within m x at_m late_x) (before s within n y at_n late_y);
     none_yet = λ s given up q n f x e asks at late. o.none_yet s given up q n f x e asks at (before s (known q s.component f e) n x at late);
@@ -147,11 +150,15 @@ module _ {routes : List Route} {stop : Option Stop} {raised : Bool} {hands : ℕ
   -- When the stop is raised nothing is late yet.
   pub stop_obedient : (s : Stop) → stop ≡ Some s → length (played_of routes tape) ≡ s.after → Obedient routes stop raised hands calls tape → Obedient routes stop true hands calls tape
   stop_obedient s given all o = record {
+    given = λ up none. no_stop (sym none ∙ given);
     few = λ r is up. absurd (true≢false up);
     one = λ r is up within m n x y at_m at_n late_x late_y. absurd (none r is x late_x);
     none_yet = λ r is up q n f x e asks at late. none r is x late;
   }
     where
+      no_stop : None ≡ Some s → ⊥
+      no_stop e = cc
+
       none : (r : Stop) → stop ≡ Some r → (x : Call) → HasLate routes r.after tape x → ⊥
       none r is x l = let same : s ≡ r = one_of (sym given ∙ is) in past (l.late.late) (few_played routes (l.late.place + 1) tape) (all ∙ ap (λ (q : Stop). q.after) same)
         where

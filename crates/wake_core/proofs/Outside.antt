@@ -10,7 +10,7 @@ use Rattle.cy_comp.specs.declared.call.Call.{Call}
 use Rattle.cy_comp.specs.declared.call.Outcome.{Outcome}
 use Rattle.cy_comp.specs.Calls.{cursor_after, last_outcome, is_last, held_until, outs}
 use Rattle.wake_core.specs.Run.{Route}
-use Rattle.wake_core.specs.Plain.{Plain, Stop, hand, Phase, Ready, DataWait, Sleep, Finished, stops, reads, last_of, made_of, taped_of, tail_at, found_by}
+use Rattle.wake_core.specs.Plain.{Plain, hand, Phase, Ready, DataWait, Sleep, Finished, stops, reads, last_of, made_of, taped_of, tail_at, found_by}
 use Rattle.wake_core.specs.Sound.{Held, Called, Delivered, Causal, Room, Wakes, Timely, Obedient, Sound, IsOutput, WasHeld}
 use Rattle.wake_core.specs.Laws.{AgreesWithin, SaysNothing}
 use Rattle.wake_core.proofs.Delivering.{owes_channel}
@@ -53,13 +53,13 @@ module _ (w v : Plain) (a : AgreesWithin w v) where
       by c None at = refl
       by c (Some x) at = ap (outs x.out) (a.calls c (in_range c x at))
 
-  found_same : (λ c. option_and_then (λ (x : Route). fetch (v.cursors c) (length (fused (v.arrivals c) (length x.readers))) x.queue) (slice_get w.routes c)) ≡ found_by w
+  found_same : (λ c. option_and_then (λ (x : Route). fetch (v.cursors c) (length (fused (v.arrivals c) (length x.readers))) x.queue x.overflow) (slice_get w.routes c)) ≡ found_by w
   found_same = fun_ext (λ c. by c (slice_get w.routes c) refl)
     where
-      by : (c : ℕ) (o : Option Route) → slice_get w.routes c ≡ o → option_and_then (λ (x : Route). fetch (v.cursors c) (length (fused (v.arrivals c) (length x.readers))) x.queue) o
-          ≡ option_and_then (λ (x : Route). fetch (w.cursors c) (length (fused (w.arrivals c) (length x.readers))) x.queue) o
+      by : (c : ℕ) (o : Option Route) → slice_get w.routes c ≡ o → option_and_then (λ (x : Route). fetch (v.cursors c) (length (fused (v.arrivals c) (length x.readers))) x.queue x.overflow) o
+          ≡ option_and_then (λ (x : Route). fetch (w.cursors c) (length (fused (w.arrivals c) (length x.readers))) x.queue x.overflow) o
       by c None at = refl
-      by c (Some x) at = ap₂ (λ (n : ℕ) (l : List Arrival). fetch n (length (fused l (length x.readers))) x.queue) (a.cursors c (in_range c x at)) (a.arrivals c (in_range c x at))
+      by c (Some x) at = ap₂ (λ (n : ℕ) (l : List Arrival). fetch n (length (fused l (length x.readers))) x.queue x.overflow) (a.cursors c (in_range c x at)) (a.arrivals c (in_range c x at))
 
   none_last : (c : ℕ) → length w.routes ≤ c → last_of w.routes w.calls c ≡ None
   none_last c out = ap (λ (o : Option Route). option_and_then (λ (x : Route). last_outcome x.kind (w.calls c)) o) (slice_get_past w.routes c out)
@@ -68,7 +68,7 @@ module _ (w v : Plain) (a : AgreesWithin w v) where
   none_made c out = ap (λ (o : Option Route). length (option_map_or (λ (x : Route). outs x.out (w.calls c)) o [])) (slice_get_past w.routes c out)
 
   none_found : (c : ℕ) → length w.routes ≤ c → found_by w c ≡ None
-  none_found c out = ap (λ (o : Option Route). option_and_then (λ (x : Route). fetch (w.cursors c) (tail_at x w c) x.queue) o) (slice_get_past w.routes c out)
+  none_found c out = ap (λ (o : Option Route). option_and_then (λ (x : Route). fetch (w.cursors c) (tail_at x w c) x.queue x.overflow) o) (slice_get_past w.routes c out)
 
   module _ (bare : SaysNothing (length w.routes) v) where
     false_true : false ≡ true → ⊥
@@ -179,6 +179,7 @@ module _ (w v : Plain) (a : AgreesWithin w v) where
 
     obedient : ((p c : ℕ) (f : Phase) → w.hands p ≡ hand c f → c < length w.routes) → Obedient w.routes w.stop w.raised w.hands w.calls w.tape → Obedient w.routes w.stop w.raised w.hands v.calls w.tape
     obedient known o = record {
+      given = o.given;
       few = o.few;
       one = λ s given up l m n x y at_m at_n. o.one s given up l m n x y (called_in s.component l m x at_m) (called_in s.component l n y at_n);
       none_yet = λ s given up p n f x e asks at. o.none_yet s given up p n f x e asks (called_in s.component (known p s.component f e) n x at);

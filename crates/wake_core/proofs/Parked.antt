@@ -10,7 +10,7 @@ use Rattle.wake_core.specs.Sound.{Sound}
 use Rattle.wake_core.specs.Rest.{IsAtRest}
 use Rattle.wake_core.specs.Turns.{Resumes, Rests, IsUnstopped, Parks, is_ready, is_due, is_woken, finds_nothing, parked_world}
 use Rattle.wake_core.proofs.Places.{set_at_same, set_at_other, set_at_again, set_at_itself}
-use Rattle.wake_core.proofs.Heeding.{SameAt, same_then}
+use Rattle.wake_core.proofs.Heeding.{same_then}
 use Rattle.wake_core.proofs.Playing.{idle_by, shown_stored}
 use Rattle.wake_core.proofs.Storing.{with_parts}
 use Rattle.wake_core.proofs.Taken.{taken_world, taken_by}

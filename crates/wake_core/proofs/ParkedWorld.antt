@@ -70,6 +70,7 @@ module _ (s : World) (n : ℕ) (r : RoutineView) (t : IsToPark s n r) where
       (sym (read_is (λ v. v.arrivals) [] s.visitors.items n v fits visitor))
       (ap (λ (v : VisitorView). v.roles) (sym view) ∙ s.visited.roles n x.0 x.1)
       (ap (λ (v : VisitorView). v.queue) (sym view) ∙ s.visited.queues n x.0 x.1)
+      (ap (λ (v : VisitorView). v.overflow) (sym view) ∙ s.visited.overflows n x.0 x.1)
       (s.fixed.lawful.buffered n x.0 x.1)
       (cursor ∙ ap cursor_after its_calls)
       s.sound.consistent)

@@ -8,7 +8,7 @@ use Rattle.cy_comp.specs.declared.call.Outcome.{Outcome}
 use Rattle.cy_comp.specs.Calls.{held_until, last_outcome}
 use Rattle.wake_core.specs.Run.{Route, Run, finds}
 use Rattle.wake_core.specs.Serial.{Raised, is_past, is_roused, is_runnable, can_resume, can_go_on}
-use Rattle.wake_core.specs.Plain.{Plain, Hand, hand, State, Ready, DataWait, Sleep, Finished, Phase, Woken, Checked, Asked, Running, last_of, outs_of, taped_of, made_of, unsent_of, found_by, tail_at, lists}
+use Rattle.wake_core.specs.Plain.{Plain, Hand, hand, State, Ready, DataWait, Sleep, Finished, Phase, Woken, Asked, Running, last_of, outs_of, taped_of, made_of, unsent_of, found_by, tail_at, lists}
 use Rattle.wake_core.specs.Events.{is_finished}
 use Rattle.wake_core.specs.Sound.{Sound, Consistent, NotRunning}
 use Rattle.wake_core.specs.Rest.{IsAtRest, run_shown}
@@ -50,7 +50,7 @@ unsent_none w c never = slice_get_past (outs_of w.routes w.calls c) (taped_of w.
 
 -- What a fetch finds is what the serial run says.
 pub finds_shown : (w : Plain) (c : ℕ) (x : Route) → slice_get w.routes c ≡ Some x → Consistent w → finds x (run_shown w) c ≡ found_by w c
-finds_shown w c x at s = rw at (ap (λ n. fetch n (tail_at x w c) x.queue) (sym (s.called.cursor c x at)))
+finds_shown w c x at s = rw at (ap (λ n. fetch n (tail_at x w c) x.queue x.overflow) (sym (s.called.cursor c x at)))
 
 runnable_at : (routes : List Route) (stop : Option Raised) (r : Run) (c : ℕ) (x : Route) → slice_get routes c ≡ Some x → is_runnable routes stop r c ≡ can_resume x stop r c
 runnable_at routes stop r c x at = rw at refl

@@ -1,5 +1,5 @@
 -- A list of messages that is played in two parts, with the stop between them where there is one.
-use Rattle.std.proofs.Common.{ℕ, zero, suc, ◌+◌, ◌-◌, ◌≡◌, ◌≢◌, ◌≤◌, ◌<◌, ◌⊎◌, ◌==◌, ◌||◌, ◌&&◌, Bool, true, false, true≢false, not, nat_lt, cond, refl, sym, ◌∙◌, ap, subst, inl, inr, arith, List, [], ◌∷◌, ◌++◌, length, take, drop, Option, Some, None, is_some, slice_get, slice_index, get_or, length-append}
+use Rattle.std.proofs.Common.{ℕ, zero, suc, ◌+◌, ◌-◌, ◌≡◌, ◌≢◌, ◌≤◌, ◌<◌, ◌⊎◌, ◌==◌, ◌||◌, Bool, true, false, true≢false, not, nat_lt, cond, refl, sym, ◌∙◌, ap, subst, inl, inr, arith, List, [], ◌∷◌, ◌++◌, length, take, drop, Option, Some, None, is_some, slice_get, slice_index, get_or}
 use Rattle.std.proofs.lemmas.Bool.Decides.{nat_tests, eqb_tells}
 use Rattle.std.proofs.lemmas.Option.{slice_get_within, slice_get-get_or}
 use Rattle.std.proofs.lemmas.List.{take_all, length-take, length-drop}
@@ -13,13 +13,13 @@ use Rattle.cy_comp.specs.Laws.{OutcomesAreAnswers}
 use Rattle.wake_core.specs.Run.{Route, Run, opening, readers_of, writes_from, played_of}
 use Rattle.wake_core.specs.Settle.{Settles, Runs}
 use Rattle.wake_core.specs.Serial.{Raised, raised_in, heard_by, is_roused, play, next, last_clock, Plays, SerialRun}
-use Rattle.wake_core.specs.Plain.{Plain, Stop, State, Ready, DataWait, Sleep, Finished, opening_world, lists, stops, to_play_from, to_play, played_count, unsent_of}
-use Rattle.wake_core.specs.Events.{IsNext, Ticks, Stops, IsRaised, after_stop, is_finished}
+use Rattle.wake_core.specs.Plain.{Plain, Stop, State, Ready, DataWait, Sleep, Finished, opening_world, stops, to_play_from, to_play, played_count, unsent_of}
+use Rattle.wake_core.specs.Events.{Ticks, IsRaised, after_stop}
 use Rattle.wake_core.specs.Sound.{Sound}
 use Rattle.wake_core.specs.LawfulRun.{Quiet, LawfulRun}
-use Rattle.wake_core.specs.Rest.{IsAtRest, run_shown, IsOpening, IsToPlay, IsScanOf, MayPlay, StaysMade, StaysFixed, HeedsStop, Heeds, is_loose}
+use Rattle.wake_core.specs.Rest.{IsAtRest, run_shown, IsOpening, IsToPlay, IsScanOf, MayPlay, StaysMade, HeedsStop, Heeds, is_loose}
 use Rattle.wake_core.specs.WorldCalls.{MayStop}
-use Rattle.wake_core.specs.Turns.{PlaysOne, MayPut, IsParked, IsSettled, IsPlayedTo, MayPlayOn, PlaysOn, place_of}
+use Rattle.wake_core.specs.Turns.{PlaysOne, MayPut, IsSettled, IsPlayedTo, MayPlayOn, PlaysOn, place_of}
 use Rattle.wake_core.proofs.Listing.{take_next}
 use Rattle.wake_core.proofs.Listed.{on_played, to_play_total}
 use Rattle.wake_core.proofs.Heeding.{heeds_on, told_keeps, sleeper_holds, hears_more}

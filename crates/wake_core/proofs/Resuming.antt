@@ -5,10 +5,9 @@ use Rattle.cy_msg.specs.declared.token.Token.{Token}
 use Rattle.cy_fuse.specs.Fusion.{Arrival}
 use Rattle.cy_comp.specs.declared.call.Call.{Call}
 use Rattle.cy_comp.specs.declared.call.Out.{Out}
-use Rattle.cy_comp.specs.Calls.{last_outcome}
-use Rattle.wake_core.specs.Run.{Route, Run, set_at, arrive, put, readers_of, finds, played_of}
+use Rattle.wake_core.specs.Run.{Route, Run, set_at, arrive, put, readers_of, played_of}
 use Rattle.wake_core.specs.Planned.{planned_count, first_reader, counts_from}
-use Rattle.wake_core.specs.Serial.{Raised, heard_by, resume, resume_by, send_held, go_on, send, last_out, is_runnable}
+use Rattle.wake_core.specs.Serial.{Raised, heard_by, resume, resume_by, send_held, go_on, send, is_runnable}
 use Rattle.wake_core.specs.Plain.{Plain, hand, State, Ready, DataWait, Sleep, Phase, Checked, Asked, Empty, Sending, Done, stops, unsent_of}
 use Rattle.wake_core.specs.Events.{Asks, Fetches, Yields, Releases, OwesNothing, next_call, after_ask, after_fetch, after_none, is_finished}
 use Rattle.wake_core.specs.Sound.{Sound}
@@ -19,7 +18,7 @@ use Rattle.wake_core.proofs.Taping.{unsent_is}
 use Rattle.wake_core.proofs.Totals.{output_room}
 use Rattle.wake_core.proofs.Playing.{run_is, idle_by}
 use Rattle.wake_core.proofs.Parking.{held_can}
-use Rattle.wake_core.proofs.Heeding.{hears_more, sleeper_holds, SameAt, same_keeps, same_then, told_keeps}
+use Rattle.wake_core.proofs.Heeding.{hears_more, sleeper_holds, same_keeps, same_then, told_keeps}
 use Rattle.wake_core.proofs.Putting.{unsent_put}
 
 pub resume_at : (routes : List Route) (stop : Option Raised) (r : Run) (c : ℕ) (x : Route) → slice_get routes c ≡ Some x → resume routes stop r c ≡ resume_by routes x stop c r

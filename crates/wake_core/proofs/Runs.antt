@@ -143,6 +143,7 @@ module _ (routes : List Route) (counts : List ℕ) (stop : Option Stop) (wired :
       later = λ c x n y t i at out. absurd (nothing n y out.made);
     };
     obedient = record {
+      given = λ up. absurd (false_true up);
       few = λ s given down. omega arith;
       one = λ s given up. absurd (false_true up);
       none_yet = λ s given up. absurd (false_true up);

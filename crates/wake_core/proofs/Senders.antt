@@ -5,7 +5,7 @@ use Rattle.cy_msg.specs.declared.token.Token.{Token}
 use Rattle.wake_core.specs.declared.world.World.{World}
 use Rattle.wake_core.specs.declared.found.Found.{Found}
 use Rattle.wake_core.specs.Run.{Route, writes_from}
-use Rattle.wake_core.specs.Plain.{Plain, Hand, hand, Phase, Known, Running}
+use Rattle.wake_core.specs.Plain.{Plain, Hand, hand, Phase, Running}
 use Rattle.wake_core.specs.Events.{Tapes, Sends, MaySend, after_tape, after_send}
 use Rattle.wake_core.specs.WorldOf.{plain_of, to_step}
 use Rattle.wake_core.specs.WorldCalls.{in_hand, phase_sent, MayTape, Taped, IsSender, IsStepped}

@@ -129,7 +129,7 @@ fetched_sound law p c w held (Some call) some s =
     let m = call_made w c call some in
     record {
       consistent = call_consistent p c w call held m law s.consistent;
-      wakes = call_wakes (found_by (after_call p c call w)) p c held (λ k other. ap (λ n. option_and_then (λ (x : Route). fetch n (length (fused (w.arrivals k) (length x.readers))) x.queue) (slice_get w.routes k)) (set_at_other c (call.position + 1) w.cursors k other)) s.wakes;
+      wakes = call_wakes (found_by (after_call p c call w)) p c held (λ k other. ap (λ n. option_and_then (λ (x : Route). fetch n (length (fused (w.arrivals k) (length x.readers))) x.queue x.overflow) (slice_get w.routes k)) (set_at_other c (call.position + 1) w.cursors k other)) s.wakes;
       timely = call_timely c call (λ r. waits_ready (sym (s.consistent.held.phased p c Asked DataWait held refl) ∙ r)) s.consistent.delivered.numbered (sent_few p c w call held m s.consistent) s.timely;
       obedient = call_obedient p c call held s.consistent.held.one s.obedient;
     }
@@ -231,7 +231,7 @@ fill_sound p v j w u e s = subst Sound (sym e.effect) record {
 }
   where
     elsewhere : (k : ℕ) → k ≢ v → found_by (after_fill p v j e.later w) k ≡ found_by w k
-    elsewhere k other = ap (λ (l : List Arrival). option_and_then (λ (x : Route). fetch (w.cursors k) (length (fused l (length x.readers))) x.queue) (slice_get w.routes k)) (set_at_other v (w.arrivals v ++ (j, w.tokens p) ∷ []) w.arrivals k other)
+    elsewhere k other = ap (λ (l : List Arrival). option_and_then (λ (x : Route). fetch (w.cursors k) (length (fused l (length x.readers))) x.queue x.overflow) (slice_get w.routes k)) (set_at_other v (w.arrivals v ++ (j, w.tokens p) ∷ []) w.arrivals k other)
 
     nowhere : j ≢ 0 → (k : ℕ) → found_by (after_fill p v j e.later w) k ≡ found_by w k
     nowhere n k = elim (place k v) [
@@ -239,10 +239,10 @@ fill_sound p v j w u e s = subst Sound (sym e.effect) record {
       | inl is ↦ by_route is (slice_get w.routes k)
     ]
       where
-        by_route : k ≡ v → (o : Option Route) → option_and_then (λ (x : Route). fetch (w.cursors k) (length (fused (set_at v (w.arrivals v ++ (j, w.tokens p) ∷ []) w.arrivals k) (length x.readers))) x.queue) o
-            ≡ option_and_then (λ (x : Route). fetch (w.cursors k) (length (fused (w.arrivals k) (length x.readers))) x.queue) o
+        by_route : k ≡ v → (o : Option Route) → option_and_then (λ (x : Route). fetch (w.cursors k) (length (fused (set_at v (w.arrivals v ++ (j, w.tokens p) ∷ []) w.arrivals k) (length x.readers))) x.queue x.overflow) o
+            ≡ option_and_then (λ (x : Route). fetch (w.cursors k) (length (fused (w.arrivals k) (length x.readers))) x.queue x.overflow) o
         by_route is None = refl
-        by_route is (Some x) = ap (λ l. fetch (w.cursors k) (length l) x.queue)
+        by_route is (Some x) = ap (λ l. fetch (w.cursors k) (length l) x.queue x.overflow)
             (ap (λ l. fused l (length x.readers)) (set_at_there v (w.arrivals v ++ (j, w.tokens p) ∷ []) w.arrivals k is) ∙ fused_other_role (length x.readers) (w.arrivals v) (j, w.tokens p) n ∙ ap (λ n. fused (w.arrivals n) (length x.readers)) (sym is))
 
     not_zero : (j == 0) ≡ false → j ≢ 0

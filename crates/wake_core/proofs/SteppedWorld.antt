@@ -110,7 +110,7 @@ module _ (s : World) (n : ℕ) (r : RoutineView) (f : Found) (tuple : Tuple) (t 
   may_take law =
       let x = there s.fixed.routes.items n t.known in
       let lawful = s.sound.consistent.called.lawful n x.0 x.1 in
-      let bounds = law.bounds _ _ _ _ (lawful.positions (length r.calls) its_call call_there) in
+      let bounds = law.bounds _ _ _ _ _ (lawful.positions (length r.calls) its_call call_there) in
       let fused_tail = lawful.tails_fused (length r.calls) its_call call_there in
       let few = le_trans (fused_planned (plain_of s) n x.0 x.1 s.sound.consistent) (planned_trigger s.fixed.routes.items s.fixed.counts.items n x.0 x.1) in
       let room = room_left in

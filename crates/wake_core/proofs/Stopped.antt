@@ -1,25 +1,25 @@
 -- A croutine that is stopped ends, once the output that it holds back is sent.
-use Rattle.std.proofs.Common.{ℕ, ◌≡◌, ◌≢◌, ◌<◌, Bool, true, false, true≢false, refl, sym, ◌∙◌, ap, subst, inl, inr, Option, Some, None, is_some, slice_get}
+use Rattle.std.proofs.Common.{ℕ, ◌≡◌, Bool, true, false, true≢false, refl, sym, ◌∙◌, ap, subst, inl, inr, Option, Some, None, is_some, slice_get}
 use mathlib.Core.Path.{fun_ext}
 use Rattle.cy_msg.specs.declared.token.Token.{Token}
 use Rattle.cy_msg.specs.declared.token.Tuple.{Tuple}
 use Rattle.cy_comp.specs.declared.call.Out.{Out}
 use Rattle.wake_core.specs.Run.{Route, Run, set_at, put, played_of}
-use Rattle.wake_core.specs.Serial.{Raised, is_roused, is_runnable, resume, send, end_of}
-use Rattle.wake_core.specs.Plain.{Plain, hand, State, Ready, Finished, Phase, Stopping, LastSending, stops, unsent_of}
+use Rattle.wake_core.specs.Serial.{Raised, resume, send, end_of}
+use Rattle.wake_core.specs.Plain.{Plain, State, Ready, Finished, Stopping, LastSending, stops, unsent_of}
 use Rattle.wake_core.specs.Events.{Sends, Yields, Releases, is_finished, after_send, after_yield}
 use Rattle.wake_core.specs.Sound.{Sound}
-use Rattle.wake_core.specs.Rest.{IsAtRest, run_shown}
+use Rattle.wake_core.specs.Rest.{run_shown}
 use Rattle.wake_core.specs.WorldCalls.{in_hand, phase_sent, IsStepped}
-use Rattle.wake_core.specs.Turns.{IsInHand, Delivered, MaySendOut, MayGiveBack, GivesBack, IsNamed, IsStep, Rests, Keeps, Resumes, left_of}
-use Rattle.wake_core.proofs.Places.{place, set_at_same, set_at_there, set_at_other, set_at_itself}
+use Rattle.wake_core.specs.Turns.{IsInHand, Delivered, MaySendOut, MayGiveBack, GivesBack, IsNamed, IsStep, Resumes, left_of}
+use Rattle.wake_core.proofs.Places.{place, set_at_same, set_at_there, set_at_other}
 use Rattle.wake_core.proofs.Arriving.{there}
 use Rattle.wake_core.proofs.Taping.{unsent_is}
 use Rattle.wake_core.proofs.Totals.{output_room}
 use Rattle.wake_core.proofs.Putting.{unsent_put}
 use Rattle.wake_core.proofs.Handing.{in_hand_is}
 use Rattle.wake_core.proofs.Parking.{held_can, roused_can}
-use Rattle.wake_core.proofs.Heeding.{sleeper_holds, SameAt, same_keeps}
+use Rattle.wake_core.proofs.Heeding.{sleeper_holds, same_keeps}
 use Rattle.wake_core.proofs.Resuming.{resume_at, resume_held, resume_free, delivered_run, ends_same, ends_rest, stays_by, delivered_keeps, delivered_hears, same_hears, ends_keep, tape_less}
 use Rattle.wake_core.proofs.Acting.{other_stepped}
 

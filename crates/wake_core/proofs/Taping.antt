@@ -6,7 +6,7 @@ use Rattle.cy_msg.specs.Tokens.{on_channel}
 use Rattle.cy_comp.specs.Calls.{outs}
 use Rattle.wake_core.specs.Run.{Route, set_at, writes_from}
 use Rattle.wake_core.specs.Planned.{planned_count, first_reader}
-use Rattle.wake_core.specs.Plain.{Plain, hand, State, Ready, Phase, Woken, Checked, Stopping, Asked, Running, Sending, LastSending, stops, made_of, taped_of, outs_of, unsent_of}
+use Rattle.wake_core.specs.Plain.{Plain, hand, State, Ready, Phase, Woken, Checked, Stopping, Asked, Running, Sending, LastSending, made_of, taped_of, outs_of, unsent_of}
 use Rattle.wake_core.specs.Events.{OwesNothing, IsNext, MaySend, after_tape, after_send}
 use Rattle.wake_core.specs.Sound.{HeldIn, Consistent, IsWired, Room, state_in, is_ending, is_handing, hands_on}
 use Rattle.wake_core.specs.TapeLaws.{IsUnsent}

@@ -36,12 +36,12 @@ abbrev position_of : Plain → Option ℕ
 position_of w = option_map (λ x. x.position) (next_call w 0)
 
 -- The call that comes of what a fetch finds.
-next_by : (c : ℕ) (w : Plain) (x : Route) (o : Option ℕ) → slice_get w.routes c ≡ Some x → fetch_rule (w.cursors c) (tail_at x w c) x.queue ≡ o
+next_by : (c : ℕ) (w : Plain) (x : Route) (o : Option ℕ) → slice_get w.routes c ≡ Some x → fetch_rule (w.cursors c) (tail_at x w c) x.queue x.overflow ≡ o
     → next_call w c ≡ option_and_then (λ (n : ℕ). option_map (call_on x w c n) (slice_get (fused (w.arrivals c) (length x.readers)) (n - 1))) o
 next_by c w x o at is = rw at (ap (λ (o : Option ℕ). option_and_then (λ (n : ℕ). option_map (call_on x w c n) (slice_get (fused (w.arrivals c) (length x.readers)) (n - 1))) o) is)
 
 -- A fetch that finds nothing.
-misses : (p c : ℕ) (w : Plain) (x : Route) → slice_get w.routes c ≡ Some x → fetch_rule (w.cursors c) (tail_at x w c) x.queue ≡ None → after_none p c w ≡ after_fetch p c (next_call w c) w
+misses : (p c : ℕ) (w : Plain) (x : Route) → slice_get w.routes c ≡ Some x → fetch_rule (w.cursors c) (tail_at x w c) x.queue x.overflow ≡ None → after_none p c w ≡ after_fetch p c (next_call w c) w
 misses p c w x at is = ap (λ (o : Option Call). after_fetch p c o w) (sym (next_by c w x None at is))
 
 -- The look for the stop, and Ask.
@@ -68,7 +68,7 @@ park_race law r =
     let w12 = after_ask 1 0 (after_check 1 0 w11) in (
       w12,
       look_then_ask 1 0 w0 w1 _ record { held = refl; ready = refl; effect = refl } record { held = refl; none_held = refl; effect = refl }
-          (more {m = w2} (fetch {p = 1} {c = 0} record { held = refl; effect = misses 1 0 w1 (alone 1 r) refl (law.past 2 1 1 (omega arith)) })
+          (more {m = w2} (fetch {p = 1} {c = 0} record { held = refl; effect = misses 1 0 w1 (alone 1 r) refl (law.past 2 1 1 r.overflow (omega arith)) })
           (more {m = w3} (tape {t = message 2 2} record { owes = record { filled = refl; looked = refl; cleared = refl }; raised = λ s e all. cc; next = record { unwritten = refl; next = refl; within = omega arith }; now = refl; effect = refl })
           (more {m = w4} (fill {p = 0} {u = 0} {j = 0} record { later = []; first = refl; effect = refl })
           (more {m = w5} (look {p = 0} {c = 0} record { later = []; filled = refl; first = refl; effect = refl })
@@ -80,7 +80,7 @@ park_race law r =
           (more {m = w11} (ready {p = 1} {c = 0} record { held = inl refl; effect = refl })
           (look_then_ask 1 0 w11 w12 _ record { held = refl; ready = refl; effect = refl } record { held = refl; none_held = refl; effect = refl }
           none))))))))))),
-      ap (option_map (λ (x : Call). x.position)) (next_by 0 w12 (alone 1 r) (Some 2) refl (law.next 2 2 1 (omega arith) (omega arith) (omega arith))),
+      ap (option_map (λ (x : Call). x.position)) (next_by 0 w12 (alone 1 r) (Some 2) refl (law.next 2 2 1 r.overflow (omega arith) (omega arith) (omega arith))),
     )
 
 -- One that comes while the component is READY needs no wake: the fetch that follows finds it.
@@ -98,7 +98,7 @@ fetch_without_wake law r =
           (more {m = w3} (look {p = 0} {c = 0} record { later = []; filled = refl; first = refl; effect = refl })
           (look_then_ask 1 0 w3 w4 _ record { held = refl; ready = refl; effect = refl } record { held = refl; none_held = refl; effect = refl }
           none))),
-      ap (option_map (λ (x : Call). x.position)) (next_by 0 w4 (alone 1 r) (Some 2) refl (law.next 2 2 1 (omega arith) (omega arith) (omega arith))),
+      ap (option_map (λ (x : Call). x.position)) (next_by 0 w4 (alone 1 r) (Some 2) refl (law.next 2 2 1 r.overflow (omega arith) (omega arith) (omega arith))),
     )
 
 -- A message of channel 0 is played at its time, while its reader is READY.
@@ -140,7 +140,7 @@ four_before_the_first_resume law r =
           (more {m = w5} (acquire {p = 1} {c = 0} record { known = omega arith; idle = refl; free = λ p f e. grind (arith, set_at_is, e); effect = refl })
           (more {m = w6} (spend {p = 1} {c = 0} {seen = 4} record { held = refl; past = omega arith; not_due = λ d. d; effect = refl })
           (look_then_ask 1 0 w6 w7 _ record { held = refl; ready = refl; effect = refl } record { held = refl; none_held = refl; effect = refl }
-          (more {m = w8} (fetch {p = 1} {c = 0} record { held = refl; effect = ap (λ (o : Option Call). after_fetch 1 0 o w7) (sym (next_by 0 w7 (alone 4 r) (Some 4) refl (law.first 4 4 (omega arith)))) })
+          (more {m = w8} (fetch {p = 1} {c = 0} record { held = refl; effect = ap (λ (o : Option Call). after_fetch 1 0 o w7) (sym (next_by 0 w7 (alone 4 r) (Some 4) refl (law.first 4 4 r.overflow (omega arith)))) })
           none))))))))))))))))))),
       refl,
       refl,
@@ -188,7 +188,7 @@ never_fuses law r =
           (more {m = w5} (acquire {p = 1} {c = 0} record { known = omega arith; idle = refl; free = λ p f e. grind (arith, set_at_is, e); effect = refl })
           (more {m = w6} (spend {p = 1} {c = 0} {seen = 1} record { held = refl; past = omega arith; not_due = λ d. d; effect = refl })
           (look_then_ask 1 0 w6 w7 _ record { held = refl; ready = refl; effect = refl } record { held = refl; none_held = refl; effect = refl }
-          (more {m = w8} (fetch {p = 1} {c = 0} record { held = refl; effect = misses 1 0 w7 (of_two r) refl (law.empty 0 1) })
+          (more {m = w8} (fetch {p = 1} {c = 0} record { held = refl; effect = misses 1 0 w7 (of_two r) refl (law.empty 0 1 r.overflow) })
           (more {m = w9} (yield_as {p = 1} {c = 0} {state = DataWait} record { owes = record { filled = refl; looked = refl; cleared = refl }; held = inl (refl, refl); effect = refl })
           (more {m = w10} (release {p = 1} {c = 0} record { held = inl refl; effect = refl })
           (more {m = w11} (tick {time = 2} record { later = omega arith; effect = refl })
@@ -200,7 +200,7 @@ never_fuses law r =
           (more {m = w17} (spend {p = 1} {c = 0} {seen = 2} record { held = refl; past = omega arith; not_due = λ d. d; effect = refl })
           (more {m = w18} (ready {p = 1} {c = 0} record { held = inl refl; effect = refl })
           (look_then_ask 1 0 w18 w19 _ record { held = refl; ready = refl; effect = refl } record { held = refl; none_held = refl; effect = refl }
-          (more {m = w20} (fetch {p = 1} {c = 0} record { held = refl; effect = misses 1 0 w19 (of_two r) refl (law.empty 0 1) })
+          (more {m = w20} (fetch {p = 1} {c = 0} record { held = refl; effect = misses 1 0 w19 (of_two r) refl (law.empty 0 1 r.overflow) })
           (more {m = w21} (yield_as {p = 1} {c = 0} {state = DataWait} record { owes = record { filled = refl; looked = refl; cleared = refl }; held = inl (refl, refl); effect = refl })
           (more {m = w22} (release {p = 1} {c = 0} record { held = inl refl; effect = refl })
           none))))))))))))))))))))),

@@ -33,19 +33,19 @@ waiting r =
 -- A fill that joins no news (the notifier cleared before it, and doesn't look again) loses the component, ..
 fill_tells_nobody : FetchesFind → (r : Route) → Lost record (after_fill 0 0 0 [] (waiting r)) { news = λ p. [] } 0
 unfolding set_at fused
-fill_tells_nobody law r = record { free = λ p f e. grind (arith, set_at_is, e); waits = refl; spent = refl; unfetched = law.some 0 1 1 (omega arith) (omega arith); untold = λ p. (refl, refl) }
+fill_tells_nobody law r = record { free = λ p f e. grind (arith, set_at_is, e); waits = refl; spent = refl; unfetched = law.some 0 1 1 r.overflow (omega arith) (omega arith); untold = λ p. (refl, refl) }
 
 -- .. and so does a Look that sees DATA_WAIT and has nothing to clear, ..
 look_clears_nothing : FetchesFind → (r : Route) → Lost record (after_look 0 0 [] (after_fill 0 0 0 [] (waiting r))) { news = λ p. []; clearing = λ p. [] } 0
 unfolding set_at fused
-look_clears_nothing law r = record { free = λ p f e. grind (arith, set_at_is, e); waits = refl; spent = refl; unfetched = law.some 0 1 1 (omega arith) (omega arith); untold = λ p. (refl, refl) }
+look_clears_nothing law r = record { free = λ p f e. grind (arith, set_at_is, e); waits = refl; spent = refl; unfetched = law.some 0 1 1 r.overflow (omega arith) (omega arith); untold = λ p. (refl, refl) }
 
 -- .. and a holder that spends a clear flag in DATA_WAIT and gives the component back without making it READY.
 spend_without_ready : FetchesFind → (r : Route) →
     let cleared = after_clear 0 0 [] (after_look 0 0 [] (after_fill 0 0 0 [] (waiting r))) in
     Lost record (after_release 1 (after_spend 1 0 (after_acquire 1 0 cleared))) { news = λ p. []; clearing = λ p. [] } 0
 unfolding set_at fused
-spend_without_ready law r = record { free = λ p f e. grind (arith, set_at_is, e); waits = refl; spent = refl; unfetched = law.some 0 1 1 (omega arith) (omega arith); untold = λ p. (refl, refl) }
+spend_without_ready law r = record { free = λ p f e. grind (arith, set_at_is, e); waits = refl; spent = refl; unfetched = law.some 0 1 1 r.overflow (omega arith) (omega arith); untold = λ p. (refl, refl) }
 
 -- One that was lost was in no world of a run.
 refused : (w : Plain) → Lost w 0 → Sound w → ⊥

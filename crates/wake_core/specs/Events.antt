@@ -95,7 +95,8 @@ pub record Readies (p c : ℕ) (w v : Plain) : Type 0 where
   pub held : (w.hands p ≡ hand c Woken) ⊎ ((w.hands p ≡ hand c Fresh) × IsDue (w.states c) w.clock)
   pub effect : v ≡ after_ready p c w
 
--- Check: before anything else the holder of a READY croutine looks whether the raised stop names it.
+-- Check: before anything else the holder of a READY croutine looks whether the raised stop names
+-- it.
 abbrev pub phase_after_check : Plain → ℕ → Phase
 phase_after_check w c = if stops w.stop w.raised c then Stopping else Checked
 
@@ -185,7 +186,8 @@ pub record IsNext (t : Token) (w : Plain) : Type 0 where
   pub next : t.seq ≡ length (on_channel t.channel w.tape) + 1
   pub within : t.seq ≤ slice_index w.counts t.channel
 
--- .. by the player, at the message's time, once the stop is raised where it was to be raised by now.
+-- .. by the player, at the message's time, once the stop is raised where it was to be raised by
+-- now.
 pub record Tapes (t : Token) (w v : Plain) : Type 0 where
   pub owes : OwesNothing 0 w
   pub raised : (s : Stop) → w.stop ≡ Some s → played_count w ≡ s.after → w.raised ≡ true

@@ -3,6 +3,7 @@ use Rattle.std.specs.Prelude.{ℕ, ◌+◌, ◌-◌, ◌*◌, ◌≡◌, ◌≢�
 use Rattle.std.specs.Prelude.{List, [], length, map, sum, drop, get_or, max, min, Option, Some}
 use Rattle.std.specs.Prelude.{None, option_map, slice_get, vec_capacity}
 use Rattle.cy_msg.specs.declared.token.Token.{Token}
+use Rattle.cy_fuse.specs.declared.overflow.Overflow.TheVariants.{Newest}
 use Rattle.cy_fuse.specs.Visitor.{VisitorView, prepared}
 use Rattle.cy_comp.specs.declared.kind.Kind.TheVariants.{Pass}
 use Rattle.cy_comp.specs.declared.call.Call.{Call}
@@ -23,7 +24,7 @@ unfoldable pub read : {X Y : Type 0} → (X → Y) → Y → List X → ℕ → 
 read g none xs k = get_or (map g xs) k none
 
 abbrev pub no_visitor : VisitorView
-no_visitor = prepared 1 1 0
+no_visitor = prepared 1 1 Newest 0
 
 abbrev pub no_routine : RoutineView
 no_routine = new_routine Pass 0
@@ -136,7 +137,8 @@ pub record IsWaiting (routes : List Route) (routines : ℕ → RoutineView) (fou
       → sent c ≤ length (outs x.out (routines c).calls)
 
 -- The visitors are those of the components: each keeps as many tuples as its component's queue, or
--- as many as can come, where these are fewer.
+-- as many as can come, where these are fewer, and goes on as the component does where one isn't
+-- kept any more.
 abbrev pub queue_of : List Route → (counts : List ℕ) → Route → ℕ
 queue_of routes counts x = max 1 (min x.queue (planned_count routes counts (first_reader x)))
 
@@ -146,6 +148,8 @@ pub record IsVisited (routes : List Route) (counts : List ℕ) (visitors : ℕ �
       → (visitors c).queue ≡ queue_of routes counts x
   pub roles : (c : ℕ) (x : Route) → slice_get routes c ≡ Some x
       → (visitors c).roles ≡ length x.readers
+  pub overflows : (c : ℕ) (x : Route) → slice_get routes c ≡ Some x
+      → (visitors c).overflow ≡ x.overflow
 
 -- There is room for all planned entries that are still to come.
 pub record IsRoomy (routes : List Route) (counts : List ℕ) (visitors : ℕ → VisitorView)

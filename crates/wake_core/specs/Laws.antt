@@ -18,7 +18,8 @@ use Rattle.wake_core.specs.declared.entries.TheConstants.{MOST_PLANNED}
 use Rattle.wake_core.specs.Run.{Route, routes_of, set_at, writes_from}
 use Rattle.wake_core.specs.Planned.{planned_count, first_reader, counts_from}
 use Rattle.wake_core.specs.Plain.{Plain, Stop, hand, State, Ready, Finished, Phase, Fresh, Woken}
-use Rattle.wake_core.specs.Plain.{Known, Checked, Asked, Done, opening_world, lists, lists_reader, unsent_of}
+use Rattle.wake_core.specs.Plain.{Known, Checked, Asked, Done, opening_world, lists, lists_reader}
+use Rattle.wake_core.specs.Plain.{unsent_of}
 use Rattle.wake_core.specs.Events.{IsFree, OwesNothing, next_call, IsNext, MaySend, MayYield}
 use Rattle.wake_core.specs.Events.{after_acquire, after_spend, after_ready, after_check, after_stop}
 use Rattle.wake_core.specs.Events.{after_ask, after_fetch}
@@ -321,6 +322,7 @@ pub record ShowsComponent (w : Plain) (c : ℕ) (x : Route) (r : RoutineView) (v
   pub arrivals : v.arrivals ≡ w.arrivals c
   pub roles : v.roles ≡ length x.readers
   pub queue : v.queue ≡ queue_of w.routes w.counts x
+  pub overflow : v.overflow ≡ x.overflow
 
 -- What a fetch finds: a tuple with one message of each reader, at a position that is no more than
 -- what is planned for the component; and that is no more than a world keeps. It is what the

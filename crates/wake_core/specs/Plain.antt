@@ -46,8 +46,8 @@ pub record Plain : Type 0 where
   pub news : ℕ → List ℕ
   pub clearing : ℕ → List ℕ
   pub tokens : ℕ → Token
-  -- Of all: the messages that were sent, the clock, whether the run is closing, and whether the stop
-  -- is raised.
+  -- Of all: the messages that were sent, the clock, whether the run is closing, and whether the
+  -- stop is raised.
   pub tape : List Token
   pub clock : ℕ
   pub closing : Bool
@@ -134,7 +134,7 @@ tail_at x w c = length (fused (w.arrivals c) (length x.readers))
 -- The position that a fetch by a component would find.
 abbrev pub found_by : Plain → ℕ → Option ℕ
 found_by w c =
-    option_and_then (λ (x : Route). fetch (w.cursors c) (tail_at x w c) x.queue)
+    option_and_then (λ (x : Route). fetch (w.cursors c) (tail_at x w c) x.queue x.overflow)
     (slice_get w.routes c)
 
 -- The number of messages that were played.

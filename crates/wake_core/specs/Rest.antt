@@ -42,8 +42,8 @@ run_shown w = record {
 abbrev pub is_loose : State → (was_spent : Bool) → Bool
 is_loose state was_spent = is_ready state || not was_spent
 
--- A world heeds a stop that was raised: where the component that it names has not ended and holds no
--- output back, it is READY or its flag is clear exactly where it is to be resumed for the stop.
+-- A world heeds a stop that was raised: where the component that it names has not ended and holds
+-- no output back, it is READY or its flag is clear exactly where it is to be resumed for the stop.
 pub record HeedsStop (r : Raised) (w : Plain) : Type 0 where
   pub given : w.stop ≡ Some r.stop
   pub raised : w.raised ≡ true
@@ -74,8 +74,8 @@ pub record IsScanOf (size : ℕ) (scan : List ℕ) : Type 0 where
   pub each : (c : ℕ) → c < size → lists c scan ≡ true
   pub known : (c : ℕ) → lists c scan ≡ true → c < size
 
--- A list may be played serially: the world was made for it, and nothing has happened in it. Its stop
--- is raised at the latest behind the last message.
+-- A list may be played serially: the world was made for it, and nothing has happened in it. Its
+-- stop is raised at the latest behind the last message.
 pub record MayPlay (w : Plain) (tokens : List Token) (order : List ℕ) : Type 0 where
   pub opening : IsOpening w
   pub made : IsToPlay w tokens

@@ -14,7 +14,13 @@ pub use Rattle.wake_core.specs.declared.route.Route.{Route}
 
 -- What a run needs of a component of a wiring.
 abbrev pub route_of : Plan → Route
-route_of p = record { kind = p.kind; readers = p.readers; queue = p.queue; out = p.out }
+route_of p = record {
+  kind = p.kind;
+  readers = p.readers;
+  queue = p.queue;
+  overflow = p.overflow;
+  out = p.out;
+}
 
 abbrev pub routes_of : List Plan → List Route
 routes_of plans = map route_of plans
@@ -80,7 +86,7 @@ tail_of x w c = length (fused (w.arrivals c) (length x.readers))
 
 -- The position that a fetch by a component finds.
 abbrev pub finds : Route → Run → ℕ → Option ℕ
-finds x w c = fetch (cursor_after (w.calls c)) (tail_of x w c) x.queue
+finds x w c = fetch (cursor_after (w.calls c)) (tail_of x w c) x.queue x.overflow
 
 -- The component that writes a channel, where one does.
 abbrev pub writes_from : ℕ → List Route → ℕ → Option ℕ

@@ -1,6 +1,7 @@
 -- The serial run: one message is played, and components are resumed in the order of the scan until
 -- none can be.
-use Rattle.std.specs.Prelude.{ℕ, ◌-◌, ◌^◌, ◌==◌, ◌&&◌, ◌||◌, nat_lt, not, is_some, if◌then◌else◌, Bool, true}
+use Rattle.std.specs.Prelude.{ℕ, ◌-◌, ◌^◌, ◌==◌, ◌&&◌, ◌||◌, nat_lt, not, is_some, if◌then◌else◌}
+use Rattle.std.specs.Prelude.{Bool, true}
 use Rattle.std.specs.Prelude.{false, List, [], ◌∷◌, ◌++◌, length, Option, Some, None, option_map}
 use Rattle.std.specs.Prelude.{slice_get, find, take, drop}
 use Rattle.cy_msg.specs.declared.token.Token.{Token}

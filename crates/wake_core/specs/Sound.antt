@@ -20,8 +20,8 @@ use Rattle.wake_core.specs.Run.{Route, readers_of, writes_from, played_of}
 use Rattle.wake_core.specs.Planned.{planned_count, first_reader}
 use Rattle.wake_core.specs.Plain.{Plain, Stop, Hand, hand, State, Ready, DataWait, Sleep, Finished}
 use Rattle.wake_core.specs.Plain.{Phase, Fresh, Woken, Known, Checked, Stopping, Asked, Empty}
-use Rattle.wake_core.specs.Plain.{Running, Sending, LastSending, Done, reads, of_role, lists, lists_reader, last_of, made_of}
-use Rattle.wake_core.specs.Plain.{taped_of, found_by, stops}
+use Rattle.wake_core.specs.Plain.{Running, Sending, LastSending, Done, reads, of_role, lists}
+use Rattle.wake_core.specs.Plain.{lists_reader, last_of, made_of, taped_of, found_by, stops}
 
 -- The components that a world is made for, with the number of messages that are played on each
 -- channel: no two write one channel; each reads a channel and writes one that is known; the planned
@@ -62,7 +62,8 @@ is_ending Stopping = true
 is_ending LastSending = true
 is_ending _ = false
 
--- Whether it is a phase in which an output is handed on; and whether a hand holds a croutine in one.
+-- Whether it is a phase in which an output is handed on; and whether a hand holds a croutine in
+-- one.
 abbrev pub is_handing : Phase → Bool
 is_handing Running = true
 is_handing Sending = true
@@ -110,7 +111,7 @@ pub record Held (size : ℕ) (hands : ℕ → Option Hand) (states : ℕ → Sta
 pub record Called (routes : List Route) (arrivals : ℕ → List Arrival) (calls : ℕ → List Call)
     (cursors : ℕ → ℕ) : Type 0 where
   pub lawful : (c : ℕ) (x : Route) → slice_get routes c ≡ Some x
-      → LawfulCalls x.kind (arrivals c) (length x.readers) x.queue (calls c)
+      → LawfulCalls x.kind (arrivals c) (length x.readers) x.queue x.overflow (calls c)
   pub cursor : (c : ℕ) (x : Route) → slice_get routes c ≡ Some x
       → cursors c ≡ cursor_after (calls c)
 
@@ -263,11 +264,12 @@ is_asking Checked = true
 is_asking Asked = true
 is_asking _ = false
 
--- Obedient: before the stop is raised no more messages are played than it says; and then the
--- component that it names has at most one call with a late message, and none yet where it is held
--- in phase Checked or Asked.
+-- Obedient: a stop is raised only where one is given. Before it is raised no more messages are
+-- played than it says; and then the component that it names has at most one call with a late
+-- message, and none yet where it is held in phase Checked or Asked.
 pub record Obedient (routes : List Route) (stop : Option Stop) (raised : Bool)
     (hands : ℕ → Option Hand) (calls : ℕ → List Call) (tape : List Token) : Type 0 where
+  pub given : raised ≡ true → stop ≢ None
   pub few : (s : Stop) → stop ≡ Some s → raised ≡ false → length (played_of routes tape) ≤ s.after
   pub one : (s : Stop) → stop ≡ Some s → raised ≡ true → s.component < length routes
       → (m n : ℕ) (x y : Call) → slice_get (calls s.component) m ≡ Some x

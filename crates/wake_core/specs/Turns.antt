@@ -1,5 +1,6 @@
 -- What the serial run does with a world, call by call. Thread 0 does all of it.
-use Rattle.std.specs.Prelude.{ℕ, zero, suc, ◌+◌, ◌-◌, ◌*◌, ◌≡◌, ◌≢◌, ◌≤◌, ◌<◌, ◌⊎◌, ◌&&◌, ◌||◌, Bool, true}
+use Rattle.std.specs.Prelude.{ℕ, zero, suc, ◌+◌, ◌-◌, ◌*◌, ◌≡◌, ◌≢◌, ◌≤◌, ◌<◌, ◌⊎◌, ◌&&◌, ◌||◌}
+use Rattle.std.specs.Prelude.{Bool, true}
 use Rattle.std.specs.Prelude.{false, not, List, [], ◌∷◌, ◌++◌, length, Option, Some, slice_get}
 use Rattle.std.specs.Prelude.{None, if◌then◌else◌, nat_lt, is_some, take, drop}
 use Rattle.std.specs.Option.{option_map_or}
@@ -11,12 +12,14 @@ use Rattle.cy_comp.specs.Calls.{held_until}
 use Rattle.wake_core.specs.Run.{Route, set_at, arrive, readers_of, played_of}
 use Rattle.wake_core.specs.Planned.{planned_count, first_reader, counts_from}
 use Rattle.wake_core.specs.Settle.{Settles}
-use Rattle.wake_core.specs.Serial.{Raised, heard_by, is_roused, is_runnable, resume, play, next, Plays}
+use Rattle.wake_core.specs.Serial.{Raised, heard_by, is_roused, is_runnable, resume, play, next}
+use Rattle.wake_core.specs.Serial.{Plays}
 use Rattle.wake_core.specs.Plain.{Plain, Stop, hand, State, Ready, DataWait, Sleep, Finished, Phase}
-use Rattle.wake_core.specs.Plain.{Known, Checked, Stopping, Running, stops, lists, lists_reader}
+use Rattle.wake_core.specs.Plain.{Known, Checked, Running, stops, lists, lists_reader}
 use Rattle.wake_core.specs.Plain.{last_of, unsent_of, found_by, played_count}
 use Rattle.wake_core.specs.Events.{OwesNothing, IsDue, Asks, Fetches, Sends, Yields, Releases}
-use Rattle.wake_core.specs.Events.{IsNext, next_call, after_send, after_yield, is_waiting, is_finished}
+use Rattle.wake_core.specs.Events.{IsNext, next_call, after_send, after_yield, is_waiting}
+use Rattle.wake_core.specs.Events.{is_finished}
 pub use Rattle.wake_core.specs.Events.{is_ready}
 use Rattle.wake_core.specs.WorldCalls.{in_hand, phase_sent}
 use Rattle.wake_core.specs.Laws.{IsIdle}
@@ -235,8 +238,8 @@ loose_of w = sum_below (length w.routes) (λ c. loose (w.states c) (w.spent c))
 abbrev pub turns_left : Plain → ℕ
 turns_left w = left_of w * (length w.routes + 1) + loose_of w
 
--- This is the raised stop that names a croutine, or none does. Where nothing of it is unsent, it is to
--- be resumed for that.
+-- This is the raised stop that names a croutine, or none does. Where nothing of it is unsent, it is
+-- to be resumed for that.
 abbrev pub IsNamed : Option Raised → (c : ℕ) → Plain → Type 0
 IsNamed None c w = stops w.stop w.raised c ≡ false
 IsNamed (Some r) c w = (stops w.stop w.raised c ≡ true)

@@ -122,6 +122,7 @@ fn routes_from(alloc: Global, plans: &[Plan]) -> Result<Vec<Route>, CoreError>
             kind: plan.kind,
             readers: Items::new(Vec::from_slice(alloc, plan.readers.as_slice())?),
             queue: plan.queue,
+            overflow: plan.overflow,
             out: plan.out,
         })?;
     }

@@ -24,6 +24,7 @@ pub struct Parts {
     pub closing: bool,
     /// Whether the stop is raised.
     pub raised: bool,
-    /// What is kept of the wiring, of the numbers of messages that are to be played, and of the stop.
+    /// What is kept of the wiring, of the numbers of messages that are to be played, and of the
+    /// stop.
     pub fixed: Fixed,
 }

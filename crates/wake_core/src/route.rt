@@ -1,5 +1,6 @@
 // What a run needs of a component.
 use cy_comp::Kind;
+use cy_fuse::Overflow;
 use cy_msg::Items;
 
 /// What a run needs of a component.
@@ -11,6 +12,8 @@ pub struct Route {
     pub readers: Items<u32>,
     /// How many tuples its buffer keeps.
     pub queue: u32,
+    /// Which tuple a fetch goes on with where its own isn't kept any more.
+    pub overflow: Overflow,
     /// The number of the channel that it writes.
     pub out: u32,
 }

@@ -2,8 +2,8 @@
 ghost use Rattle.std.specs.Prelude.{ℕ, ◌≡◌, ◌≤◌, ◌<◌, true, false, Option, Some, None, length};
 ghost use Rattle.cy_msg.specs.Placement.{scan_of};
 ghost use Rattle.cy_comp.specs.declared.call.Call.{Call};
-ghost use Rattle.wake_core.specs.Plain.{Plain, Stop, Ready, Known, Checked, Stopping, Running, lists};
-ghost use Rattle.wake_core.specs.Plain.{last_of, unsent_of, stops};
+ghost use Rattle.wake_core.specs.Plain.{Plain, Stop, Ready, Known, Checked, Stopping, Running};
+ghost use Rattle.wake_core.specs.Plain.{lists, last_of, unsent_of, stops};
 ghost use Rattle.wake_core.specs.Events.{Ticks, after_stop};
 ghost use Rattle.wake_core.specs.Settle.{Settles};
 ghost use Rattle.wake_core.specs.Serial.{SerialRun, Raised, last_clock, next};
@@ -24,8 +24,8 @@ use cy_msg::{ContextPlan, Placement, PlayList, Token};
 
 /// Plays the messages of a list, one after another, in a world that was made for it and in which
 /// nothing has happened. After each message the croutines are resumed in the order of the scan as
-/// long as one is READY; after the last one the clock is set to its greatest value. A stop is raised
-/// when as many messages as it says were played. It takes no memory.
+/// long as one is READY; after the last one the clock is set to its greatest value. A stop is
+/// raised when as many messages as it says were played. It takes no memory.
 pub fn serial(world: &mut World, list: &PlayList, placement: &Placement)
     requires { MayPlay (plain_of world.old) list.now.tokens (scan_of placement.now.contexts) }
     ensures run { SerialRun (plain_of world.old).routes (plain_of world.old).stop

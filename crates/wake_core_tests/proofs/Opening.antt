@@ -47,5 +47,5 @@ stop_within = record {
 }
 
 -- The route of a component.
-pub route_is : (p : Plan) (x : Route) → p.kind ≡ x.kind → p.readers ≡ x.readers → p.queue ≡ x.queue → p.out ≡ x.out → routes_of (p ∷ []) ≡ x ∷ []
-route_is p x kind readers queue out = rw (kind, readers, queue, out)
+pub route_is : (p : Plan) (x : Route) → p.kind ≡ x.kind → p.readers ≡ x.readers → p.queue ≡ x.queue → p.overflow ≡ x.overflow → p.out ≡ x.out → routes_of (p ∷ []) ≡ x ∷ []
+route_is p x kind readers queue overflow out = rw (kind, readers, queue, overflow, out)

@@ -2,6 +2,7 @@
 use Rattle.std.specs.Prelude.{ℕ, ◌≡◌, ◌∷◌, [], List, map, Some, None}
 use Rattle.cy_msg.specs.declared.token.Token.{Token}
 use Rattle.cy_msg.specs.declared.token.Tuple.{Tuple}
+use Rattle.cy_fuse.specs.declared.overflow.Overflow.TheVariants.{Newest}
 use Rattle.cy_comp.specs.declared.kind.Kind.TheVariants.{Pass, Sum}
 use Rattle.wake_core.specs.Plain.{Plain, Stop, opening_world}
 use Rattle.wake_core.specs.Events.{after_stop}
@@ -13,10 +14,22 @@ use Rattle.wake_core_tests.specs.Groups.{after_fetching, after_back, after_turn}
 -- The component that passes messages of channel 0 on to channel 1 and keeps so many of them; and
 -- the one that sums those of channels 0 and 1.
 abbrev pub passing : (queue : ℕ) → Route
-passing queue = record { kind = Pass; readers = 0 ∷ []; queue = queue; out = 1 }
+passing queue = record {
+  kind = Pass;
+  readers = 0 ∷ [];
+  queue = queue;
+  overflow = Newest;
+  out = 1;
+}
 
 abbrev pub summing : Route
-summing = record { kind = Sum; readers = 0 ∷ 1 ∷ []; queue = 1; out = 2 }
+summing = record {
+  kind = Sum;
+  readers = 0 ∷ 1 ∷ [];
+  queue = 1;
+  overflow = Newest;
+  out = 2;
+}
 
 -- The messages of channel 0, at times 1, 2 and so on; and such a message passed on as the first of
 -- channel 1.

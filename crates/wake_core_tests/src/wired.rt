@@ -2,6 +2,7 @@
 ghost use Rattle.std.specs.Prelude.{◌≡◌, ◌≤◌, ◌++◌, ◌∷◌, [], Some, None, IfOk, IfErr};
 ghost use Rattle.std.specs.Prelude.{length};
 ghost use Rattle.std.specs.List.{Contains};
+ghost use Rattle.cy_fuse.specs.declared.overflow.Overflow.TheVariants as overflow;
 ghost use Rattle.cy_comp.specs.Wiring.{IsWiring};
 ghost use Rattle.wake_core.specs.declared.error.CoreError.TheVariants as CoreError;
 ghost use Rattle.wake_core.specs.Run.{routes_of};
@@ -11,6 +12,7 @@ ghost use Rattle.wake_core_tests.specs.Runs.{passing as passing_route, summing a
 ghost use Rattle.wake_core_tests.specs.Runs.{stop_after_one};
 
 use cy_comp::{Kind, Plan, Wiring};
+use cy_fuse::Overflow;
 use cy_msg::{Items, Names, Stop, Text};
 use std::alloc::Global;
 use wake_core::{CoreError, World};
@@ -95,7 +97,7 @@ fn add(names: &mut Names, alloc: Global, name: &str) -> Result<(), CoreError>
 fn plan(alloc: Global, kind: Kind, readers: &[u32], queue: u32, out: u32) -> Result<Plan, CoreError>
     ensures kind { IfOk result (λ p. p.kind ≡ kind) }
     ensures wired { IfOk result (λ p. (p.readers ≡ readers.now) × (p.queue ≡ queue)
-        × (p.out ≡ out)) }
+        × (p.overflow ≡ overflow.Newest) × (p.out ≡ out)) }
     ensures memory { IfErr result (λ e. e ≡ CoreError.Memory) }
 {
     Ok(Plan {
@@ -103,6 +105,7 @@ fn plan(alloc: Global, kind: Kind, readers: &[u32], queue: u32, out: u32) -> Res
         kind,
         readers: Items::new(Vec::from_slice(alloc, readers)?),
         queue,
+        overflow: Overflow::Newest,
         out,
         out_type: text(alloc, "")?,
     })

@@ -1,6 +1,7 @@
 // Drives a world by its events: which events may happen, that each does, and what holds after it.
 use crate::{Phase, World, finish};
 use cy_comp::{Kind, Outcome, Plan, State, Wiring};
+use cy_fuse::Overflow;
 use cy_msg::{ContextPlan, Items, Names, Placement, Stop, Text, Token, Tuple};
 use std::test::Fail;
 
@@ -54,6 +55,7 @@ fn wiring(rt: &HostRuntime, channels: &[&str], rows: &[Row]) -> Result<Wiring, F
             kind: *kind,
             readers: Items::new(Vec::from_slice(rt.alloc(), readers)?),
             queue: *queue,
+            overflow: Overflow::Newest,
             out: *out,
             out_type: Text::new(rt.alloc(), "")?,
         })?;

@@ -1,6 +1,7 @@
 // Records of tapes, byte by byte.
 use crate::records::HEADER_END;
 use cy_comp::{Kind, Plan, Wiring};
+use cy_fuse::Overflow;
 use cy_msg::{Items, Names, PlayList, Text, Token};
 use cy_reader::{Record, load};
 use cy_recording::{Played, write_record};
@@ -75,6 +76,7 @@ fn pass_wiring(rt: &HostRuntime) -> Result<Wiring, Fail> {
         kind: Kind::Pass,
         readers: Items::new(vec![in rt.alloc(); 0]?),
         queue: 1,
+        overflow: Overflow::Newest,
         out: 1,
         out_type: Text::new(rt.alloc(), "U")?,
     };

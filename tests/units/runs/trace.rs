@@ -1,4 +1,5 @@
 // Texts of traces, and texts that are of none.
+use cy_fuse::Overflow;
 use cy_trace::{TapeEntry, TraceCall, TraceError, TraceOutput, read_trace};
 use std::alloc::Global;
 use std::test::Fail;
@@ -7,6 +8,17 @@ use std::test::Fail;
 const PASSED: &str = r#"cyber-trace 1
 played 1 shadowed 0
 component "pass"
+roles 0
+call 1/1 1 1@100=7
+end DATA_WAIT next 2
+tape "/in" 1
+tape "/out" 1
+"#;
+
+// The same of the second version.
+const TOLD: &str = r#"cyber-trace 2
+played 1 shadowed 0
+component "pass" overflow OLDEST
 roles 0
 call 1/1 1 1@100=7
 end DATA_WAIT next 2
@@ -43,11 +55,12 @@ fn is_entry(entry: &TapeEntry, name: &str, seq: u32) -> bool {
 #[test]
 fn reads_a_trace(rt: HostRuntime) -> Result<(), Fail> {
     let trace = read_trace(rt.alloc(), PASSED.as_bytes())?;
-    assert_eq!(rt; (trace.played, trace.shadowed), (1, 0));
+    assert_eq!(rt; (trace.version, trace.played, trace.shadowed), (1, 1, 0));
     let [component] = trace.components.as_slice() else {
         return Err(Fail::from("one component"));
     };
     assert_eq!(rt; component.name.as_str(), "pass");
+    assert_eq!(rt; component.overflow, Overflow::Newest);
     assert_eq!(rt; component.roles.as_slice(), [0].as_slice());
     assert_eq!(rt; (component.finished, component.next), (false, 2));
     let [call] = component.calls.as_slice() else {
@@ -63,6 +76,51 @@ fn reads_a_trace(rt: HostRuntime) -> Result<(), Fail> {
         return Err(Fail::from("two messages"));
     };
     assert!(rt; is_entry(first, "/in", 1) && is_entry(second, "/out", 1));
+    Ok(())
+}
+
+// The components of a trace, each in a line that begins with the trace's version.
+fn components(rt: &HostRuntime, text: &str) -> Result<String, Fail> {
+    let trace = read_trace(rt.alloc(), text.as_bytes())?;
+    let mut lines = String::new(rt.alloc());
+    for component in trace.components.as_slice() {
+        let name = component.name.as_str();
+        lines.push_str(&format!(in rt.alloc();
+            "{} {:?} {name}\n",
+            trace.version,
+            component.overflow
+        )?)?;
+    }
+    Ok(lines)
+}
+
+#[test]
+fn reads_what_is_told_of_overflow(rt: HostRuntime) -> Result<(), Fail> {
+    for (version, rows, want) in [
+        (1, &["\"a\""] as &[&str], "1 Newest a\n"),
+        (1, &["\" overflow OLDEST\""], "1 Newest  overflow OLDEST\n"),
+        (2, &[], ""),
+        (
+            2,
+            &["\"a\" overflow OLDEST", "\"b\" overflow NEWEST"],
+            "2 Oldest a\n2 Newest b\n",
+        ),
+        (2, &["\"a\" overflow NEWEST"], "2 Newest a\n"),
+        (
+            2,
+            &["\"\\\" overflow OLDEST\" overflow NEWEST"],
+            "2 Newest \" overflow OLDEST\n",
+        ),
+    ] {
+        let mut text = format!(in rt.alloc(); "cyber-trace {version}\nplayed 0 shadowed 0\n")?;
+        for row in rows {
+            text.push_str(&format!(in rt.alloc();
+                "component {row}\nroles -\nend DATA_WAIT next 0\n"
+            )?)?;
+        }
+        let lines = components(&rt, text.as_str())?;
+        assert_eq!(rt; lines.as_str(), want);
+    }
     Ok(())
 }
 
@@ -116,7 +174,9 @@ end DATA_WAIT next 18446744073709551615
 
 // The lines of that trace in other spellings, none of which is of the form, and other lines where
 // they may not stand: each behind its number, between bars.
-const BAD: &str = r#"1|cyber-trace 2|
+const BAD: &str = r#"1|cyber-trace 0|
+1|cyber-trace 3|
+1|cyber-trace 01|
 1|cyber-trace 1 |
 1||
 1|played 1 shadowed 0|
@@ -140,6 +200,8 @@ const BAD: &str = r#"1|cyber-trace 2|
 3|component "\012"|
 3|component "\200"|
 3|component "\x01"|
+3|component "pass" overflow NEWEST|
+3|component "pass" overflow OLDEST|
 3|component "|
 3|component |
 3|played 1 shadowed 0|
@@ -205,19 +267,44 @@ const BAD: &str = r#"1|cyber-trace 2|
 8|end FINISHED next 2|
 8|call 2/2 2 -|"#;
 
-// The trace with another line in the place of one.
-fn with_line(alloc: Global, number: usize, new: &str) -> Result<String, Fail> {
+// The same of the trace of the second version.
+const BAD_TOLD: &str = r#"1|cyber-trace 02|
+1|cyber-trace 2 |
+2|cyber-trace 2|
+3|component "pass"|
+3|component "pass" overflow|
+3|component "pass" overflow |
+3|component "pass" overflow newest|
+3|component "pass" overflow "OLDEST"|
+3|component "pass" overflow -OLDEST|
+3|component "pass" overflow  OLDEST|
+3|component "pass"  overflow OLDEST|
+3|component "pass" overflow OLDEST |
+3|component "pass" overflow OLDEST overflow OLDEST|
+3|component "pass" Overflow OLDEST|
+3|component "pass" OLDEST|
+3|component "pass overflow OLDEST|
+3|component pass overflow OLDEST|
+3|component overflow OLDEST|
+4|component "a" overflow OLDEST|
+5|call 1/1 1 1@0100=7|
+6|tape "/in" 1|
+7|component "a"|
+8|component "a" overflow OLDEST|"#;
+
+// A trace with another line in the place of one.
+fn with_line(alloc: Global, trace: &str, number: usize, new: &str) -> Result<String, Fail> {
     let mut text = String::new(alloc);
-    for (place, line) in PASSED.lines().enumerate() {
+    for (place, line) in trace.lines().enumerate() {
         text.push_str(if place == number { new } else { line })?;
         text.push_str("\n")?;
     }
     Ok(text)
 }
 
-#[test]
-fn finds_bad_lines(rt: HostRuntime) -> Result<(), Fail> {
-    for row in BAD.lines() {
+// Looks that a trace is bad with each of these lines, where it stands.
+fn finds_rows(rt: &HostRuntime, trace: &str, rows: &str) -> Result<(), Fail> {
+    for row in rows.lines() {
         let Some((number, rest)) = row.split_once('|') else {
             return Err(Fail::from("a number"));
         };
@@ -225,11 +312,23 @@ fn finds_bad_lines(rt: HostRuntime) -> Result<(), Fail> {
             return Err(Fail::from("a line"));
         };
         let number = number.parse::<u32>()?;
-        let text = with_line(rt.alloc(), number as usize - 1, new)?;
+        let text = with_line(rt.alloc(), trace, number as usize - 1, new)?;
         assert_eq!(rt; bad_line(rt.alloc(), text.as_bytes())?, number, "{row}");
     }
+    Ok(())
+}
+
+#[test]
+fn finds_bad_lines(rt: HostRuntime) -> Result<(), Fail> {
+    finds_rows(&rt, PASSED, BAD)?;
+    finds_rows(&rt, TOLD, BAD_TOLD)?;
+    // The title alone doesn't suit the component.
+    for (trace, title) in [(PASSED, "cyber-trace 2"), (TOLD, "cyber-trace 1")] {
+        let text = with_line(rt.alloc(), trace, 0, title)?;
+        assert_eq!(rt; bad_line(rt.alloc(), text.as_bytes())?, 3, "{title}");
+    }
     for (number, new) in [(1, "cyber-trace 1\r"), (3, "component \"a\tb\"")] {
-        let text = with_line(rt.alloc(), number - 1, new)?;
+        let text = with_line(rt.alloc(), PASSED, number - 1, new)?;
         assert_eq!(rt;
             bad_line(rt.alloc(), text.as_bytes())? as usize,
             number,

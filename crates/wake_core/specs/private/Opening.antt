@@ -13,7 +13,7 @@ use Rattle.wake_core.specs.Fields.{queue_of}
 
 -- The visitor of a component, with room for all that can arrive.
 abbrev pub first_visitor : List Route → (counts : List ℕ) → Route → VisitorView
-first_visitor routes counts x = prepared (queue_of routes counts x) (length x.readers)
+first_visitor routes counts x = prepared (queue_of routes counts x) (length x.readers) x.overflow
     (sum (map (planned_count routes counts) x.readers))
 
 -- The routine of a component, with room for all calls.

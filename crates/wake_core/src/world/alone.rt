@@ -44,8 +44,8 @@ impl World {
     }
 
     /// A croutine whose next turn would find nothing has that turn at once, and waits with its flag
-    /// spent: `take`, `check`, `call` and `give_back`, in one. Any other stays as it is. Most are READY with
-    /// nothing to fetch after a call; this spares them a second scan.
+    /// spent: `take`, `check`, `call` and `give_back`, in one. Any other stays as it is. Most are
+    /// READY with nothing to fetch after a call; this spares them a second scan.
     #[inline(always)]
     pub(crate) fn park(&mut self, component: u32)
         requires rest { IsAtRest (plain_of self.old) }

@@ -126,7 +126,8 @@ pub(super) fn held_by_nobody(alloc: Global, size: usize, room: usize) -> Result<
 }
 
 // The visitors, before anything arrived: each keeps as many tuples as its component's queue, or as
-// many as can come, where these are fewer, and has room for all arrivals.
+// many as can come, where these are fewer, goes on as its component does where one isn't kept any
+// more, and has room for all arrivals.
 fn visitors_for(alloc: Global, wiring: &Wiring, counts: &[u32]) -> Result<Vec<Visitor>, CoreError>
     requires counts { length counts.now ≡ length wiring.now.names }
     requires limited { planned_entries (routes_of wiring.now.plans) counts.now ≤ MOST_PLANNED }
@@ -139,7 +140,8 @@ fn visitors_for(alloc: Global, wiring: &Wiring, counts: &[u32]) -> Result<Vec<Vi
         let readers = plan.readers.as_slice();
         let queue = kept_of(plan.queue, planned_on(wiring, counts, readers[0]));
         let spare = planned_at(wiring, counts, readers) as u32;
-        visitors.push(Visitor::prepare(alloc, queue, readers.len() as u8, spare)?)?;
+        let roles = readers.len() as u8;
+        visitors.push(Visitor::prepare(alloc, queue, roles, plan.overflow, spare)?)?;
     }
     Ok(visitors)
 }

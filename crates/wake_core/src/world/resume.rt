@@ -20,8 +20,8 @@ impl World {
     ghost use Rattle.wake_core.specs.WorldCalls.{MayYieldAs, IsStepped};
     ghost use Rattle.wake_core.specs.Turns.{IsInHand, Calls};
 
-    /// Looks whether the raised stop names the READY croutine in hand: true is said exactly where it
-    /// does. Then it is to end without a call, once an output that it holds back is sent.
+    /// Looks whether the raised stop names the READY croutine in hand: true is said exactly where
+    /// it does. Then it is to end without a call, once an output that it holds back is sent.
     pub fn check(&mut self, thread: u32) -> bool
         requires { MayCheck thread (plain_of self.old) }
         ensures event { Checks thread (in_hand thread (plain_of self.old)) (plain_of self.old)
@@ -155,8 +155,8 @@ impl World {
     }
 
     /// Stores what the croutine in hand is to do next: it waits after a fetch that found nothing,
-    /// does what its outcome names after a call, is READY after a held output was sent, and FINISHED
-    /// where it is stopped.
+    /// does what its outcome names after a call, is READY after a held output was sent, and
+    /// FINISHED where it is stopped.
     pub fn yield_as(&mut self, thread: u32, state: State)
         requires event { MayYieldAs thread state (plain_of self.old) }
         requires stepped { IsStepped thread (plain_of self.old) (to_step self.old) }

@@ -1,7 +1,7 @@
 // Routines over visitors.
 use super::messages::message;
 use cy_comp::{Call, Kind, Out, Outcome, Routine, State};
-use cy_fuse::Visitor;
+use cy_fuse::{Overflow, Visitor};
 use cy_msg::{Token, Tuple};
 use std::test::Fail;
 
@@ -41,7 +41,7 @@ fn send(routine: &mut Routine) -> Result<(), Fail> {
 fn skips_a_burst_while_an_output_is_held(rt: HostRuntime) -> Result<(), Fail> {
     let first = message(0, 1, 10, Some(0));
     let last = message(0, 6, 15, Some(5));
-    let mut visitor = Visitor::prepare(rt.alloc(), 1, 1, 6)?;
+    let mut visitor = Visitor::prepare(rt.alloc(), 1, 1, Overflow::Newest, 6)?;
     let mut routine = Routine::new(rt.alloc(), &Kind::Hold { delay: 100 }, 2)?;
     assert_eq!(rt;
         (routine.state(), routine.cursor().next()),
@@ -73,7 +73,7 @@ fn skips_a_burst_while_an_output_is_held(rt: HostRuntime) -> Result<(), Fail> {
 
 #[test]
 fn finishes_after_two_of_five(rt: HostRuntime) -> Result<(), Fail> {
-    let mut visitor = Visitor::prepare(rt.alloc(), 1, 1, 5)?;
+    let mut visitor = Visitor::prepare(rt.alloc(), 1, 1, Overflow::Newest, 5)?;
     let mut routine = Routine::new(rt.alloc(), &Kind::Take { n: 2 }, 5)?;
     visitor.arrive(0, message(0, 1, 1, Some(9)));
     let outcome = resume(&mut routine, &visitor)?;
@@ -103,7 +103,7 @@ fn finishes_after_two_of_five(rt: HostRuntime) -> Result<(), Fail> {
 
 #[test]
 fn sums_what_was_fused(rt: HostRuntime) -> Result<(), Fail> {
-    let mut visitor = Visitor::prepare(rt.alloc(), 1, 2, 4)?;
+    let mut visitor = Visitor::prepare(rt.alloc(), 1, 2, Overflow::Newest, 4)?;
     let mut routine = Routine::new(rt.alloc(), &Kind::Sum, 2)?;
     visitor.arrive(1, message(1, 1, 1, Some(10)));
     visitor.arrive(0, message(0, 1, 2, Some(1)));

@@ -1,5 +1,6 @@
 // Wirings, written row by row.
 use cy_comp::{Kind, Plan, Wiring};
+use cy_fuse::Overflow;
 use cy_msg::{Items, Names, Text};
 use std::str;
 use std::test::Fail;
@@ -26,6 +27,7 @@ fn plan(rt: &HostRuntime, inputs: u32, row: u8, kind: Kind, readers: &[u32]) -> 
         kind,
         readers: Items::new(Vec::from_slice(rt.alloc(), readers)?),
         queue: 1,
+        overflow: Overflow::Newest,
         out: inputs + u32::from(row),
         out_type: Text::new(rt.alloc(), "")?,
     })
@@ -49,5 +51,19 @@ pub(crate) fn wiring(
 ) -> Result<Wiring, Fail> {
     let names = names(rt, channels)?;
     let plans = plans(rt, (channels.len() - rows.len()) as u32, rows)?;
+    Ok(Wiring::new(names, Items::new(plans)))
+}
+
+/// A wiring of one or two components, which hold the messages of `/a` back for 100, and keep the
+/// last two.
+pub(crate) fn holding(rt: &HostRuntime, overflows: &[Overflow]) -> Result<Wiring, Fail> {
+    let names = names(rt, &["/a", "/o", "/q"])?;
+    let mut plans = Vec::new(rt.alloc());
+    for (row, overflow) in overflows.iter().enumerate() {
+        let mut plan = plan(rt, 1, row as u8, Kind::Hold { delay: 100 }, &[0])?;
+        plan.queue = 2;
+        plan.overflow = *overflow;
+        plans.push(plan)?;
+    }
     Ok(Wiring::new(names, Items::new(plans)))
 }

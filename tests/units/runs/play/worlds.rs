@@ -1,7 +1,8 @@
 // Serial runs of components of any class, and the texts of their traces, as the rules give them.
 use super::played::{Message, counts, list, placed};
-use super::wired::wiring;
+use super::wired::{holding, wiring};
 use cy_comp::{Kind, Wiring};
+use cy_fuse::Overflow;
 use cy_msg::{Placement, PlayList};
 use cy_trace::trace_text;
 use std::str;
@@ -210,6 +211,59 @@ tape "/o" 2
     ] {
         let text = traced(&rt, run.channels, run.rows, run.messages, false)?;
         assert_eq!(rt; text.as_str(), run.trace);
+    }
+    Ok(())
+}
+
+// A burst, while the output that the first message makes is held back.
+const BURST: &[Message] = &[
+    (0, 10, Some(0)),
+    (0, 11, Some(1)),
+    (0, 12, Some(2)),
+    (0, 13, Some(3)),
+    (0, 14, Some(4)),
+    (0, 15, Some(5)),
+];
+
+// What a trace tells of a component behind its name that holds each of them: it goes on at the
+// newest tuple, or at the oldest one of the two that are kept.
+const NEWEST: &str = r#"
+roles 000000
+call 1/1 1 1@110=0
+call 6/6 6 2@115=5
+end DATA_WAIT next 7
+"#;
+
+const OLDEST: &str = r#" overflow OLDEST
+roles 000000
+call 1/1 1 1@110=0
+call 5/6 5 2@114=4
+call 6/6 6 3@115=5
+end DATA_WAIT next 7
+"#;
+
+#[test]
+fn goes_on_after_a_burst_as_the_component_asks(rt: HostRuntime) -> Result<(), Fail> {
+    let list = list(&rt, BURST)?;
+    for (overflows, version, first, second) in [
+        (&[Overflow::Newest] as &[Overflow], 1, NEWEST, ""),
+        (&[Overflow::Oldest], 2, OLDEST, ""),
+        (&[Overflow::Newest, Overflow::Newest], 1, NEWEST, NEWEST),
+        (&[Overflow::Oldest, Overflow::Newest], 2, OLDEST, NEWEST),
+    ] {
+        let wiring = holding(&rt, overflows)?;
+        let size = overflows.len();
+        let world = played(&rt, &wiring, &list, &placed(&rt, size, false)?)?;
+        let text = trace_text(rt.alloc(), &world, &wiring, 0)?;
+        let newest = if version == 2 { " overflow NEWEST" } else { "" };
+        let mut want = format!(in rt.alloc();
+            "cyber-trace {version}\nplayed 6 shadowed 0\ncomponent \"a\"{first}"
+        )?;
+        if size == 2 {
+            want.push_str(&format!(in rt.alloc(); "component \"b\"{newest}{second}")?)?;
+        }
+        want.push_str("tape \"/a\" 1\n")?;
+        assert!(rt; str::from_utf8(text.as_slice())?.starts_with(want.as_str()), "{want}");
     }
     Ok(())
 }

@@ -1,5 +1,6 @@
 // A table of one component.
 use cy_comp::{Kind, Plan, Wiring};
+use cy_fuse::Overflow;
 use cy_msg::{Items, Names, Text};
 use cy_table::{FlagTable, Pass};
 use std::test::Fail;
@@ -15,6 +16,7 @@ fn pass_wiring(rt: &HostRuntime) -> Result<Wiring, Fail> {
         kind: Kind::Pass,
         readers: Items::new(vec![in rt.alloc(); 0]?),
         queue: 1,
+        overflow: Overflow::Newest,
         out: 1,
         out_type: Text::new(rt.alloc(), "T")?,
     };

@@ -1,6 +1,7 @@
 // DAG files and component files.
 use super::texts::{parsed, tree};
 use cy_dag::{DagError, read_component_config, read_dag};
+use cy_fuse::Overflow;
 use std::test::Fail;
 
 // The name of a refusal.
@@ -17,6 +18,7 @@ fn name_of(error: &DagError) -> &'static str {
         DagError::TooManyReaders { .. } => "TooManyReaders",
         DagError::ReaderTwice { .. } => "ReaderTwice",
         DagError::TooFewReaders { .. } => "TooFewReaders",
+        DagError::NotOverflow { .. } => "NotOverflow",
         DagError::NotWhole { .. } => "NotWhole",
         DagError::TwoWriters { .. } => "TwoWriters",
         DagError::TriggerCycle { .. } => "TriggerCycle",
@@ -35,6 +37,7 @@ fn numbers_of(error: &DagError) -> (Option<u32>, Option<u32>) {
         | DagError::UnknownClass { component }
         | DagError::NoReader { component }
         | DagError::ReaderTwice { component, .. }
+        | DagError::NotOverflow { component }
         | DagError::NotWhole { component, .. } => (Some(*component), None),
         DagError::TooManyReaders { component, count }
         | DagError::TooFewReaders { component, count } => (Some(*component), Some(*count)),
@@ -234,6 +237,9 @@ fn config(rt: &HostRuntime, class: &str, text: &str) -> Result<String, Fail> {
         config.out.as_str(),
         config.out_type.as_str()
     )?;
+    if config.overflow == Overflow::Oldest {
+        line.push_str(" OLDEST")?;
+    }
     for path in config.unknown.as_slice() {
         line.push_str(" ")?;
         line.push_str(path.as_str())?;
@@ -259,6 +265,57 @@ fn reads_and_refuses_component_files(rt: HostRuntime) -> Result<(), Fail> {
             "NotWhole 5 hi",
         ),
         ("FilterComponent", "lo: \"x\"", "Missing 5 out"),
+        ("PassComponent", "out: \"/o\" on_overflow: NEWEST", "Pass /o "),
+        (
+            "PassComponent",
+            "on_overflow: OLDEST out: \"/o\" depth: 1",
+            "Pass /o  OLDEST depth",
+        ),
+        (
+            "PassComponent",
+            "out: \"/o\" on_overflow: \"OLDEST\"",
+            "NotOverflow 5",
+        ),
+        ("PassComponent", "out: \"/o\" on_overflow: 3", "NotOverflow 5"),
+        ("PassComponent", "out: \"/o\" on_overflow: OLD", "NotOverflow 5"),
+        ("PassComponent", "out: \"/o\" on_overflow: oldest", "NotOverflow 5"),
+        (
+            "PassComponent",
+            "out: \"/o\" on_overflow: -OLDEST",
+            "NotOverflow 5",
+        ),
+        (
+            "PassComponent",
+            "out: \"/o\" on_overflow { OLDEST: 1 }",
+            "NotOverflow 5",
+        ),
+        (
+            "PassComponent",
+            "out: \"/o\" on_overflow: 3 on_overflow: OLDEST",
+            "Pass /o  OLDEST",
+        ),
+        (
+            "PassComponent",
+            "out: \"/o\" on_overflow: OLDEST on_overflow: NEWEST",
+            "Pass /o ",
+        ),
+        (
+            "PassComponent",
+            "out: \"/o\" on_overflow: [OLDEST, 3]",
+            "NotOverflow 5",
+        ),
+        ("PassComponent", "out: \"/o\" on_overflow: []", "Pass /o "),
+        ("PassComponent", "on_overflow: 3", "Missing 5 out"),
+        (
+            "PassComponent",
+            "out: \"/o\" out_type: 3 on_overflow: 3",
+            "Shape out_type",
+        ),
+        (
+            "FilterComponent",
+            "out: \"/o\" on_overflow: OLD lo: \"x\"",
+            "NotOverflow 5",
+        ),
         ("FilterComponent", "out: 3", "Shape out"),
         ("CountComponent", "out: \"/o\"", "Count /o "),
         ("MaxComponent", "out: \"/o\"", "Max /o "),

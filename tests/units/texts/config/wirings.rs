@@ -3,6 +3,7 @@ use super::dags::{dag, refusal};
 use super::texts::tree;
 use cy_comp::Wiring;
 use cy_dag::{Config, Dag, read_component_config, read_dag, wire};
+use cy_fuse::Overflow;
 use cy_msg::Text;
 use std::test::Fail;
 
@@ -50,6 +51,9 @@ fn line_of(rt: &HostRuntime, wiring: &Wiring) -> Result<String, Fail> {
         }
         let out_type = plan.out_type.as_str();
         line.push_str(format!(in rt.alloc(); " to {} {out_type}", plan.out)?.as_str())?;
+        if plan.overflow == Overflow::Oldest {
+            line.push_str(" OLDEST")?;
+        }
     }
     Ok(line)
 }
@@ -95,11 +99,14 @@ fn pair(rt: &HostRuntime, first: &[&str], second: &[&str]) -> Result<String, Fai
 fn numbers_channels_as_they_are_mentioned(rt: HostRuntime) -> Result<(), Fail> {
     let components = pair(&rt, &["/b", "/x"], &["/x", "/c"])?;
     let channels = texts(&rt, &["/a", "/b", "/a"])?;
-    let files = ["out: \"/y\" out_type: \"T\"", "out: \"/z\""];
+    let files = [
+        "out: \"/y\" out_type: \"T\"",
+        "out: \"/z\" on_overflow: OLDEST",
+    ];
     let line = wired(&rt, components.as_str(), &files, &channels)?;
     assert_eq!(rt;
         line.as_str(),
-        "/a /b /x /y /c /z | a 1: 1 2 to 3 T| b 1: 2 4 to 5 "
+        "/a /b /x /y /c /z | a 1: 1 2 to 3 T| b 1: 2 4 to 5  OLDEST"
     );
     Ok(())
 }

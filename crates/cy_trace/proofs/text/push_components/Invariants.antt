@@ -6,5 +6,5 @@ use Rattle.cy_trace.proofs.text.push_components.Given as goal
 
 abbrev pub invariant-loop-place : goal.invariant-loop-place
 invariant-loop-place l =
-    l.to.items ++ components_text (run_shown (plain_of l.world)) l.place (drop l.place l.plans)
-    ≡ l.fn.to.items ++ components_text (run_shown (plain_of l.world)) 0 l.plans
+    l.to.items ++ components_text l.version (run_shown (plain_of l.world)) l.place (drop l.place l.plans)
+    ≡ l.fn.to.items ++ components_text l.version (run_shown (plain_of l.world)) 0 l.plans

@@ -10,8 +10,8 @@ loop-plan-preserved c =
     let p = c.plan-item.result in
     let within : c.loop-plan.plan-index < length c.args.plans.now = omega (arith, c.loop-plan-test.true) in
     let at = route_at c.args.plans.now c.loop-plan.plan-index p (plan_at c.args.plans.now c.args.plans.now c.loop-plan.plan-index p refl within c.plan-item.is) in
-    let one : Route = record { kind = p.kind; readers = c.new.result; queue = p.queue; out = p.out } in
-    let is : one ≡ route_of p = ap (λ (rs : List ℕ). record { kind = p.kind; readers = rs; queue = p.queue; out = p.out }) (c.new.ensures ∙ c.in_ok-from_slice.ensures.items ∙ c.as_slice.ensures) in
+    let one : Route = record { kind = p.kind; readers = c.new.result; queue = p.queue; overflow = p.overflow; out = p.out } in
+    let is : one ≡ route_of p = ap (λ (rs : List ℕ). record { kind = p.kind; readers = rs; queue = p.queue; overflow = p.overflow; out = p.out }) (c.new.ensures ∙ c.in_ok-from_slice.ensures.items ∙ c.as_slice.ensures) in
     record {
       so_far = c.in_ok-push.ensures.items ∙ ap (λ (rs : List Route). rs ++ one ∷ []) c.loop-plan.invariant.so_far ∙ ap (λ (x : Route). take c.loop-plan.plan-index routes ++ x ∷ []) is
           ∙ sym (take_next routes c.loop-plan.plan-index (route_of p) at);

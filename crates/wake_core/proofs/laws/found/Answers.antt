@@ -9,5 +9,5 @@ returns k = record {
   messages = found_messages;
   position = found_position k.fetches_find.ensures.find;
   planned = planned_kept;
-  visitor = λ w c x r v shows at some s. next_visited k.fetches_find.ensures.find w c (w.cursors c) x r v at shows.kind shows.calls shows.arrivals shows.roles shows.queue some refl s;
+  visitor = λ w c x r v shows at some s. next_visited k.fetches_find.ensures.find w c (w.cursors c) x r v at shows.kind shows.calls shows.arrivals shows.roles shows.queue shows.overflow some refl s;
 }

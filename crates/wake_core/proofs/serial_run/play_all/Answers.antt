@@ -1,6 +1,5 @@
-use Rattle.std.proofs.Common.{ℕ, ◌≡◌, ◌≤◌, ◌<◌, ◌⊎◌, sym, ◌∙◌, refl, true, Some, arith, length, inl, inr}
+use Rattle.std.proofs.Common.{ℕ, ◌≤◌, ◌<◌, sym, ◌∙◌, refl, arith, inl, inr}
 use Rattle.cy_msg.specs.Placement.{scan_of}
-use Rattle.wake_core.specs.Plain.{Stop}
 use Rattle.wake_core.specs.WorldOf.{plain_of}
 use Rattle.wake_core.proofs.Played.{plays_step, next_may, list_at}
 use Rattle.wake_core.proofs.serial_run.play_all.Goals as goal

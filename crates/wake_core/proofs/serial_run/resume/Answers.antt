@@ -1,4 +1,4 @@
-use Rattle.std.proofs.Common.{◌≡◌, sym, ◌∙◌, ap, true, false, ℕ}
+use Rattle.std.proofs.Common.{sym, ◌∙◌, ap, true, false}
 use Rattle.wake_core.specs.Plain.{Plain, stops}
 use Rattle.wake_core.specs.WorldOf.{plain_of}
 use Rattle.wake_core.proofs.Acting.{looked_it, looked_hand, looked_resumes}

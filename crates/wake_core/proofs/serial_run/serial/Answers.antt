@@ -1,9 +1,9 @@
-use Rattle.std.proofs.Common.{ℕ, ◌≡◌, ◌≤◌, sym, ◌∙◌, ap, subst, refl, arith, length, List, Some}
+use Rattle.std.proofs.Common.{ℕ, ◌≡◌, ◌≤◌, sym, ◌∙◌, ap, subst, refl, length, List}
 use Rattle.cy_msg.specs.declared.token.Token.{Token}
 use Rattle.cy_msg.specs.declared.placement.ContextPlan.{ContextPlan}
 use Rattle.cy_msg.specs.Placement.{scan_of}
 use Rattle.cy_msg.specs.Tokens.{IsNumbered, IsTimed}
-use Rattle.wake_core.specs.Plain.{Plain, Stop}
+use Rattle.wake_core.specs.Plain.{Plain}
 use Rattle.wake_core.specs.Run.{Run}
 use Rattle.wake_core.specs.Serial.{SerialRun}
 use Rattle.wake_core.specs.LawfulRun.{LawfulRun}

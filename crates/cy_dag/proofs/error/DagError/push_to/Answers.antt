@@ -30,6 +30,9 @@ returns-in-ReaderTwice c = rw c.in-ReaderTwice.is c.push_of-in-ReaderTwice.ensur
 pub returns-in-TooFewReaders : goal.returns-in-TooFewReaders
 returns-in-TooFewReaders c = rw c.in-TooFewReaders.is c.push_two-in-TooFewReaders.ensures
 
+pub returns-in-NotOverflow : goal.returns-in-NotOverflow
+returns-in-NotOverflow c = rw c.in-NotOverflow.is c.push_one-in-NotOverflow.ensures
+
 pub returns-in-NotWhole : goal.returns-in-NotWhole
 returns-in-NotWhole c = rw c.in-NotWhole.is c.push_of-in-NotWhole.ensures
 

@@ -3,7 +3,7 @@ use Rattle.std.proofs.Common.{ℕ, ◌≡◌, ◌≤◌, ◌+◌, ◌*◌, List,
 use Rattle.cy_fuse.specs.Visitor.{VisitorView}
 use Rattle.wake_core.specs.WorldOf.{plain_of}
 use Rattle.cy_table.specs.declared.part.Part.TheVariants as part
-use Rattle.cy_table.specs.Shown.{roles_at, queue_at}
+use Rattle.cy_table.specs.Shown.{roles_at, queue_at, overflow_at}
 use Rattle.cy_table.specs.Steps.{visiting}
 use Rattle.cy_table.specs.Plays.{Thread}
 use Rattle.cy_table.proofs.Visits.{visits}
@@ -51,7 +51,8 @@ returns-in-Visitor-clause-visiting c =
       thread = e.1 ∙ ap (λ x. let n : Thread = (visiting old.0 i x, (2 * i + 2, part.Away) ∷ old.1) in n) b;
       queue = subst (λ (x : VisitorView). x.queue ≡ queue_at old.0.routes old.0.counts i) b t.2;
       roles = subst (λ (x : VisitorView). x.roles ≡ roles_at old.0.routes i) b t.3;
-      room = subst (λ (x : VisitorView). (j : ℕ) (later : List (ℕ × ℕ)) → old.0.fills ≡ (i, j) ∷ later → 1 ≤ x.spare) b t.4;
+      overflow = subst (λ (x : VisitorView). x.overflow ≡ overflow_at old.0.routes i) b t.4;
+      room = subst (λ (x : VisitorView). (j : ℕ) (later : List (ℕ × ℕ)) → old.0.fills ≡ (i, j) ∷ later → 1 ≤ x.spare) b t.5;
     }
 
 pub returns-else-found-eq0-clause-same : goal.returns-else-found-eq0-clause-same

@@ -1,7 +1,6 @@
-use Rattle.std.proofs.Common.{◌<◌, length, refl, sym, ◌∙◌, ap, length-set, arith, ℕ, Option}
+use Rattle.std.proofs.Common.{◌<◌, length, refl, ◌∙◌, ap, length-set, arith}
 use Rattle.wake_core.specs.WorldOf.{plain_of, to_step}
-use Rattle.wake_core.specs.Run.{set_at}
-use Rattle.wake_core.specs.Plain.{Plain, Hand, hand, Known, Phase, stops}
+use Rattle.wake_core.specs.Plain.{hand, Known, stops}
 use Rattle.wake_core.proofs.Reading.{hands_set}
 use Rattle.wake_core.proofs.Flags.{phase_flags, phase_stepping}
 use Rattle.wake_core.proofs.Storing.{held_as, checks, checked_world}

@@ -1,4 +1,3 @@
-use Rattle.std.proofs.Common.{◌∙◌}
 use Rattle.wake_core.specs.WorldOf.{plain_of}
 use Rattle.wake_core.proofs.world.World.given.Goals as goal
 

@@ -1,4 +1,4 @@
-use Rattle.std.proofs.Common.{◌∙◌, sym, ap, ℕ, Bool, Option, Some, None, false, refl, ◌≡◌}
+use Rattle.std.proofs.Common.{◌∙◌, sym, ap, ℕ, Option, Some, None, false, refl, ◌≡◌}
 use Rattle.wake_core.specs.Plain.{Stop, stops}
 use Rattle.wake_core.specs.WorldOf.{plain_of}
 use Rattle.wake_core.proofs.world.World.is_stopped.Goals as goal

@@ -45,8 +45,8 @@ overflow_cast-spare c =
     let most = arrivals_limit (routes_of plans) c.args.counts.now c.loop-plan.plan-index MOST_PLANNED (route_of c.plan-item.result) at c.requires.limited in
     record { fits = omega (arith, is, most) }
 
-pub overflow_cast-readers : goal.overflow_cast-readers
-overflow_cast-readers c =
+pub overflow_cast-roles : goal.overflow_cast-roles
+overflow_cast-roles c =
     let plans = c.args.wiring.now.plans in
     let within : c.loop-plan.plan-index < length c.as_slice-plan-items.result.now = omega (arith, c.loop-plan-test.true) in
     let at = plan_at plans c.as_slice-plan-items.result.now c.loop-plan.plan-index c.plan-item.result c.as_slice-plan-items.ensures within c.plan-item.is in
