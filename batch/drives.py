@@ -5,8 +5,8 @@ import os
 import re
 
 NAME = re.compile(r"[A-Za-z0-9][A-Za-z0-9._-]*")
-COLUMNS = ["drive", "record", "dag", "sched", "channels", "drop", "begin", "end", "threads"]
-OPTIONS = ["dag", "record", "sched", "channels", "drop", "begin", "end"]
+COLUMNS = ["drive", "record", "dag", "sched", "channels", "drop", "begin", "end", "stop", "threads"]
+OPTIONS = ["dag", "record", "sched", "channels", "drop", "begin", "end", "stop"]
 COMPONENT_FILE = re.compile(rb"""config_file_path\s*:\s*["']([^"']+)["']""")
 
 

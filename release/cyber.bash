@@ -7,11 +7,11 @@ _cyber() {
     return
   fi
   case ${COMP_WORDS[1]} in
-    play) options='--serial --dag --record --out --trace --sched --channels --drop --begin --end' ;;
+    play) options='--serial --dag --record --out --trace --sched --channels --drop --begin --end --stop' ;;
     check) options='--dag --sched' ;;
   esac
   case $before in
-    --channels | --drop | --begin | --end) return ;;
+    --channels | --drop | --begin | --end | --stop) return ;;
   esac
   if [[ $word == -* ]]; then
     mapfile -t COMPREPLY < <(compgen -W "$options" -- "$word")

@@ -20,7 +20,8 @@ case $command in
     _arguments '--serial[on one thread]' '--dag=[the DAG file]:file:_files' '--record=[the record that is played]:file:_files' \
       '--out=[the record that is written]:file:_files' '--trace=[the trace that is written]:file:_files' \
       '--sched=[a scheduler file]:file:_files' '--channels=[only these channels]:channels:' '--drop=[none of these channels]:channels:' \
-      '--begin=[from this time on]:nanoseconds:' '--end=[up to this time]:nanoseconds:'
+      '--begin=[from this time on]:nanoseconds:' '--end=[up to this time]:nanoseconds:' \
+      '--stop=[stop a component at a time]:component@nanoseconds:'
     ;;
   check) _arguments '--dag=[the DAG file]:file:_files' '--sched=[a scheduler file]:file:_files' ;;
   pass) _arguments '1:record:_files' '2:record that is written:_files' '3:trace that is written:_files' '4:channel:' '5:channel:' ;;

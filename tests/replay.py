@@ -1,7 +1,7 @@
 #!/usr/bin/env python3
 """Writes what `play --serial` and `pass` must make of a record, as docs/RULES.md and docs/FORMATS.md say.
 
-    replay.py OUT TRACE LINE --dag F --record F [--sched F] [--channels LIST] [--drop LIST] [--begin N] [--end N]
+    replay.py OUT TRACE LINE --dag F --record F [--sched F] [--channels LIST] [--drop LIST] [--begin N] [--end N] [--stop NAME@N]
     replay.py OUT TRACE LINE --record F --pass FROM TO
 
 OUT, TRACE and LINE are the files that get the record, the trace and the line. File names are looked for where they are given.
@@ -103,11 +103,14 @@ class Component:
     sent: int = 0
     held: object = None
     finished: bool = False
+    stopped: bool = False
+    roused: bool = False
     kept: list = field(default_factory=list)
 
     def arrive(self, role, message):
         self.roles += str(role)
         self.latest[role] = message
+        self.roused |= self.stopped and role == 0
         if role == 0 and len(self.latest) == len(self.readers):
             self.tuples.append([self.latest[k] for k in range(len(self.readers))])
 
@@ -121,7 +124,14 @@ class Component:
     def is_runnable(self, clock):
         if self.finished:
             return False
-        return self.held.time < clock if self.held else self.fetch() is not None
+        if self.held:
+            return self.held.time < clock
+        return self.roused if self.stopped else self.fetch() is not None
+
+    def stop(self, after):
+        """Its stop is raised when so many messages were played: what comes to its first reader from now on rouses it, and it is
+        roused at once where nothing was played."""
+        self.stopped, self.roused = True, after == 0
 
     def parameter(self, name):
         return last(self.config, name)
@@ -240,7 +250,8 @@ class Run:
         if component.held:
             out, component.held = component.held, None
         else:
-            out = component.call()
+            out = None if component.stopped else component.call()
+        component.finished |= component.stopped
         if out:
             self.put(out)
 
@@ -256,6 +267,16 @@ class Run:
             self.clock = message.time
             self.put(message)
             self.settle()
+
+    def play_all(self, messages, stop):
+        """Plays all messages; a stop is raised behind those that are played up to its time, which come first."""
+        after = 0
+        if stop:
+            name, time = stop
+            after = sum(it.time <= time for it in messages)
+            self.play(messages[:after])
+            next(it for it in self.components if it.name == name).stop(after)
+        self.play(messages[after:])
         self.clock = LAST_TIME
         self.settle()
 
@@ -295,6 +316,12 @@ def list_messages(messages, components, words):
     return played, len(kept) - len(played)
 
 
+def stop_of(word):
+    """The name and the time of a stop: the last @ parts them."""
+    name, _, time = word.rpartition("@")
+    return os.fsencode(name), int(time)
+
+
 def main():
     reader = argparse.ArgumentParser()
     for name in ("out", "trace", "line"):
@@ -303,6 +330,7 @@ def main():
         reader.add_argument(name)
     reader.add_argument("--begin", type=int, default=0)
     reader.add_argument("--end", type=int, default=LAST_TIME)
+    reader.add_argument("--stop", type=stop_of)
     reader.add_argument("--pass", nargs=2, dest="passed", type=os.fsencode)
     words = reader.parse_args()
     with open(words.record, "rb") as file:
@@ -310,7 +338,7 @@ def main():
     components = [passing(*words.passed, forms_of(data))] if words.passed else read_components(words.dag)
     played, shadowed = list_messages(messages_of(data), components, words)
     run = Run(components, scan_of(components, words.sched))
-    run.play(played)
+    run.play_all(played, words.stop)
     forms = forms_of(data) | {it.out: (last(it.config, "out_type", b""), b"") for it in components}
     with open(words.out, "wb") as file:
         file.write(record([(it.channel, it.time, it.content) for it in run.tape], forms))

@@ -1,6 +1,6 @@
 #!/usr/bin/env python3
 """Plays random records through random components, and compares what the program writes with what replay.py makes of the files.
-One in five is played by `pass`.
+One in five is played by `pass`; of the others a third has a stop.
 
     replays.py PROGRAM COUNT SEED
 
@@ -77,9 +77,22 @@ def options(chance):
     return words
 
 
+def stop(texts, times, chance):
+    """The words of a stop, or none: of any component, or of one with the fewest readers, which mostly has calls; at the time of a
+    message, or at any up to a bit above the last."""
+    if chance.random() >= 1 / 3:
+        return []
+    number = chance.choice([chance.randrange(len(texts)), min(range(len(texts)), key=lambda k: texts[k].count("readers"))])
+    time = chance.choice(times) if times and chance.random() < 0.3 else chance.randint(0, max(times, default=0) + 3)
+    return chance.choice([["--stop", f"c{number}@{time}"], [f"--stop=c{number}@{time}"]])
+
+
 def write_record(chance, outs):
+    """Makes the record, and gives the times of its messages."""
+    found = messages(chance, outs)
     with open("in.rec", "wb") as file:
-        file.write(record(messages(chance, outs), {b"/a": (b"a.Type", b"described")}))
+        file.write(record(found, {b"/a": (b"a.Type", b"described")}))
+    return [time for _, time, _ in found]
 
 
 def write_files(chance):
@@ -98,8 +111,7 @@ def write_files(chance):
     for name, text in files.items():
         with open(name, "w", encoding="utf-8") as file:
             file.write(text)
-    write_record(chance, outs)
-    return words
+    return words + stop([text for text, _ in parts], write_record(chance, outs), chance)
 
 
 def write_pass(chance):

@@ -1,8 +1,10 @@
 #!/usr/bin/env bash
 # Plays the files of `make 3000` and the drive again and again, on one, two and four processors that share a context and that are
 # pinned, and looks at each play: it ends with Done within 60 seconds, `info` finds its record complete and nothing in it that
-# differs, its trace has the form of a trace, and both have the counts of its line. The gate doesn't run it.
-# Usage: tests/stress.sh [COUNT [PROGRAM]]: so many plays of each of the twelve kinds, 1000 where nothing is said.
+# differs, its trace has the form of a trace, and both have the counts of its line. Each of these twelve kinds is played with a stop too,
+# in the midst of its record; then tests/obeys.py looks at how the components end, and at the calls of the one that was stopped. The gate
+# doesn't run it.
+# Usage: tests/stress.sh [COUNT [PROGRAM]]: so many plays of each of the 24 kinds, 1000 where nothing is said.
 set -euo pipefail
 top=$(cd "$(dirname "$0")/.." && pwd)
 count=${1:-1000}
@@ -64,29 +66,53 @@ looks_well() { # how many messages are played, and the words
   calls=${counts[1]}
 }
 
+# One play with a stop, and how many calls of the stopped component have a message from behind it: none or one.
+obeys_well() { # what `check` prints of the components, the stop, how many messages are played, and the words
+  local wiring=$1 stop=$2
+  shift 2
+  looks_well "$@" --stop "$stop" || return 1
+  python3 "$top/tests/obeys.py" out.trace out.record "$wiring" "$stop" >obeyed || { cat obeyed; return 1; }
+  late=$((late + $(cat obeyed)))
+}
+
 # So many plays of one kind.
-plays() { # its name, how many messages are played, and the words
-  local name=$1 time least= most=0 why
+plays() { # its name, and the function that makes one play, with its words
+  local name=$1 time least= most=0 late=0 why
   shift
   for ((time = 1; time <= count; time++)); do
     calls=0
-    looks_well "$@" >why || { echo "$name, play $time: $(head -c 300 why err); its files stay in $work"; exit 1; }
+    "$@" >why || { echo "$name, play $time: $(head -c 300 why err); its files stay in $work"; exit 1; }
     if [ -z "$least" ] || [ "$calls" -lt "$least" ]; then least=$calls; fi
     if [ "$calls" -gt "$most" ]; then most=$calls; fi
   done
-  echo "$name: $count plays, $least to $most calls"
+  echo "$name: $count plays, $least to $most calls$([ "$1" = looks_well ] || echo ", a late one in $late")"
+}
+
+# So many plays without a stop, and as many with one.
+plays_both() { # their name, the file with what `check` prints, the stop, how many messages are played, and the words
+  local name=$1 wiring=$2 stop=$3
+  shift 3
+  plays "$name" looks_well "$@" --sched "$work/sched"
+  plays "$name, $stop" obeys_well "$wiring" "$stop" "$@" --sched "$work/sched"
 }
 
 "$program" make 3000 "$work/made" >/dev/null
-drive=(--dag examples/drive/drive.dag --record examples/drive/drive.rec)
+"$program" check --dag "$work/made.dag" >made.wiring
+made=(3000 --dag "$work/made.dag" --record "$work/made.record")
+drive=(3205 --dag examples/drive/drive.dag --record examples/drive/drive.rec)
+(cd "$top" && exec "$program" check --dag examples/drive/drive.dag) >drive.wiring
+made_stops=([1]=adder [2]=band [4]=late)
+drive_stops=([1]=margin [2]=late [4]=smooth)
 for processors in 1 2 4; do
+  made_stop=${made_stops[processors]}@1500000000
+  drive_stop=${drive_stops[processors]}@1700000010000000000
   classic "$processors" >sched
-  plays "made, $processors sharing" 3000 --dag "$work/made.dag" --record "$work/made.record" --sched "$work/sched"
-  plays "drive, $processors sharing" 3205 "${drive[@]}" --sched "$work/sched"
+  plays_both "made, $processors sharing" made.wiring "$made_stop" "${made[@]}"
+  plays_both "drive, $processors sharing" drive.wiring "$drive_stop" "${drive[@]}"
   pinned "$processors" adder band last8 late >sched
-  plays "made, $processors pinned" 3000 --dag "$work/made.dag" --record "$work/made.record" --sched "$work/sched"
+  plays_both "made, $processors pinned" made.wiring "$made_stop" "${made[@]}"
   pinned "$processors" smooth margin limit late frames >sched
-  plays "drive, $processors pinned" 3205 "${drive[@]}" --sched "$work/sched"
+  plays_both "drive, $processors pinned" drive.wiring "$drive_stop" "${drive[@]}"
 done
 cd /
 rm -rf "$work"

@@ -432,6 +432,7 @@ is_summed_up() {
   says batch.out/summary.csv 'd7,1,,,,,[0-9.]+,[0-9.]+,[0-9]+,,(no good run|),cyber: 7.rec: at 2137: Cut'
   says batch.out/summary.csv 'd11,3,,,,,[0-9.]+,[0-9.]+,[0-9]+,,(no good run|),cyber: 11.rec: the store failed'
   says batch.out/summary.csv 'd3,0,32,0,64,96,[0-9.]+,[0-9.]+,[0-9]+,,,"done: played 32, shadowed 0, calls 64, written 96"'
+  says batch.out/summary.csv 'd9,0,36,0,16,52,[0-9.]+,[0-9.]+,[0-9]+,,,"done: played 36, shadowed 0, calls 16, written 52"'
 }
 
 batch() {
@@ -489,7 +490,7 @@ changes_drives() {
   times | comm -13 first - | cut -d ' ' -f 1 >changed
   [ "$(cat changed)" = batch.out/d6/row.json ]
   count $? "$name: played again: $(cat changed)"
-  sed -i 's,^d4.*,d4;4.rec;d.dag;;/a;;;;,; s/;/,/g' few.csv
+  sed -i 's,^d4.*,d4;4.rec;d.dag;;/a;;;;;,; s/;/,/g' few.csv
   times >first
   try 0 "${call[@]}" --config program="$program" table=few.csv
   times | comm -13 first - | cut -d ' ' -f 1 >changed

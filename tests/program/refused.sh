@@ -23,6 +23,8 @@ plays_as_many_as_may_be_played() {
   ends 5 '' 'cyber: in.rec: limit TooManyPlayed passed: 4194305'
   lacks files/out.rec
   lacks files/trace
+  run play --serial --dag d.dag --record in.rec --out out.rec --trace trace --stop q@1
+  ends 1 '' 'cyber: d.dag: StopUnknown "q"'
   run play --serial --dag d.dag --record in.rec --out out.rec --trace trace --end 1
   ends 0 'done: played 4194304, shadowed 0, calls 0, written 4194304' ''
   [ "$(tail -n 1 files/trace)" = 'tape "/a" 4194304' ]
@@ -41,6 +43,8 @@ plays_as_many_as_may_be_planned() {
   ends 5 '' 'cyber: in.rec: limit TooMany passed: 16777217'
   lacks files/out.rec
   lacks files/trace
+  run play --serial --dag d.dag --record in.rec --out out.rec --trace trace --stop q@1
+  ends 1 '' 'cyber: d.dag: StopUnknown "q"'
   run play --serial --dag d.dag --record in.rec --out out.rec --trace trace --end 2
   ends 0 'done: played 258112, shadowed 0, calls 64, written 258176' ''
   [ "$(grep '^call' files/trace | sort | uniq -c)" = '     64 call 1/1 1 86036 86036 86036 1@2=4' ]

@@ -3,7 +3,7 @@
 
     drives.py N FOLDER
 
-Drive 7 has a record that is cut off and drive 11 none at all, so these two fail.
+Drive 7 has a record that is cut off and drive 11 none at all, so these two fail. Drive 9 has a stop.
 """
 import os
 import sys
@@ -29,12 +29,12 @@ def main():
         f' readers {{ channel: "{channel}" }} }} }}\n' for name, kind, channel in parts
     )
     write("d.dag", f'module_config {{ module_library: "x"\n{dag}}}\n'.encode())
-    lines = ["drive,record,dag,sched,channels,drop,begin,end,threads"]
+    lines = ["drive,record,dag,sched,channels,drop,begin,end,stop,threads"]
     for drive in range(1, count + 1):
         data = record([(b"/b" if k % 4 == 0 else b"/a", 10 * k, content_of(drive * k % 100)) for k in range(1, 40 + drive % 10)])
         if drive != 11:
             write(f"{drive}.rec", data[:2150] if drive == 7 else data)
-        lines.append(f"d{drive},{drive}.rec,d.dag,,,{'/b' if drive % 2 else ''},,,")
+        lines.append(f"d{drive},{drive}.rec,d.dag,,,{'/b' if drive % 2 else ''},,,{'sum@100' if drive == 9 else ''},")
     write("drives.csv", ("\n".join(lines) + "\n").encode())
 
 

@@ -3,8 +3,8 @@
 
     tour.py PAGE FOLDER COMMAND...
 
-The lines of PAGE that call `./cyber` are run in FOLDER, with COMMAND in place of `./cyber`. What a line prints has to stand on the page: one
-line in backquotes, more of them indented. Ends with status 1 at the first line that fails.
+The lines of PAGE that call `./cyber` are run in FOLDER, with COMMAND in place of `./cyber`; a backslash continues a line. What a line
+prints has to stand on the page: one line in backquotes, more of them indented. Ends with status 1 at the first line that fails.
 """
 import re
 import shlex
@@ -15,7 +15,7 @@ import sys
 def main():
     page, folder, *command = sys.argv[1:]
     with open(page, encoding="utf-8") as file:
-        text = file.read()
+        text = file.read().replace("\\\n", "")
     calls = re.findall(r"^    \./cyber (.*)$", text, re.M)
     for call in calls:
         done = subprocess.run(command + shlex.split(call), cwd=folder, env={}, capture_output=True, text=True, check=False)

@@ -1,5 +1,5 @@
 -- How `check` ends, at each place where it may.
-use Rattle.std.proofs.Common.{ℕ, ◌≡◌, List, [], Option, Some, None, IfSome, Result, Ok, Err, refl, ap, ◌∙◌, arith}
+use Rattle.std.proofs.Common.{ℕ, ◌≡◌, List, [], Option, Some, None, IfSome, Result, Ok, Err, refl, ap, arith}
 use Rattle.cy_store.specs.Files.{Files}
 use Rattle.cy_store.specs.Reads.{Reads, Accepts, ◌>>=◌}
 use Rattle.cy_store.specs.Store.{StoreView}

@@ -134,7 +134,7 @@ unplayed w p x world old mid new failure.Memory due line same some made run firs
 
 -- what was set up is a play of the files that are made
 pub made : (w : MakeWords) (p : PlayWords) (x : Replay) (old mid : Option Files) → p ≡ play_made w → old ≡ Some empty
-    → mid ≡ option_map (after_writes (input_writes w.count w.prefix)) old → IfSome mid (λ m. replayed_in p m ≡ Accepts (replayed x)) → IsSetUp p.request.filter x → IsMade w x
+    → mid ≡ option_map (after_writes (input_writes w.count w.prefix)) old → IfSome mid (λ m. replayed_in p m ≡ Accepts (replayed x)) → IsSetUp p.request x → IsMade w x
 made w p x old mid same none first read set_up =
     let writes = after_writes (input_writes w.count w.prefix) in
     let told : mid ≡ Some (made_files w) = first ∙ ap (option_map writes) none ∙ ap (λ (m : Files). Some m) (leaves w.count w.prefix empty) in
@@ -142,12 +142,12 @@ made w p x old mid same none first read set_up =
     subst (λ (q : PlayWords). IfSome mid (λ m. replayed_in q m ≡ Accepts (replayed x))) same read in
     record {
       read = subst (λ (files : Option Files). IfSome files (λ m. replayed_in (play_made w) m ≡ Accepts (replayed x))) told reads;
-      set_up = subst (λ (q : PlayWords). IsSetUp q.request.filter x) same set_up;
+      set_up = subst (λ (q : PlayWords). IsSetUp q.request x) same set_up;
     }
 
 -- and may be played by its names
-pub set_up_by : (w : MakeWords) (p : PlayWords) (x : Replay) → p ≡ play_made w → IsMade w x → IsSetUp p.request.filter x
-set_up_by w p x same m = subst (λ (q : PlayWords). IsSetUp q.request.filter x) (sym same) m.set_up
+pub set_up_by : (w : MakeWords) (p : PlayWords) (x : Replay) → p ≡ play_made w → IsMade w x → IsSetUp p.request x
+set_up_by w p x same m = subst (λ (q : PlayWords). IsSetUp q.request x) (sym same) m.set_up
 
 pub has_reader : (w : MakeWords) (p : PlayWords) → p ≡ play_made w → HasReader p.request.components
 has_reader w p same = subst (λ (q : PlayWords). HasReader q.request.components) (sym same) tt

@@ -15,6 +15,9 @@ use Rattle.cy_replay.specs.declared.setup.Replay.{Replay}
 use Rattle.cy_writer.specs.RecordWrites.{file_writes, record_puts}
 use Rattle.cy_recording.specs.Recording.{channels_of_tape, chunks_of_tape}
 use Rattle.cy_replay.specs.Setup.{IsAsked, IsSetUp, replayed}
+use Rattle.cy_replay.specs.Stops.{stop_of}
+use Rattle.cy_replay.specs.Wiring.{wired_by}
+use Rattle.cy_msg.specs.declared.stop.Stop.{Stop}
 use Rattle.cy_writer.proofs.RecordBytes.{after_record, after_file}
 use Rattle.cy_recording.proofs.TapeText.{record_text}
 use Rattle.cy_commands.specs.declared.failure.File.{File}
@@ -29,7 +32,7 @@ use Rattle.cy_commands.specs.Due.{IsDueFor}
 use Rattle.cy_commands.specs.Lines.{store_line}
 use Rattle.cy_commands.specs.PlayEnds.{SetsUp, HasRun, IsDueAfterPlay, IsLine, name_of_play, source_by, writes_by}
 use Rattle.cy_words.specs.PlayWords.{PlayWords}
-use Rattle.cy_commands.specs.Commands.PlayWork.{IsPlayWork, replayed_in, play_line, tape_record, run_trace}
+use Rattle.cy_commands.specs.Commands.PlayWork.{IsPlayed, IsPlayWork, replayed_in, play_line, tape_record, run_trace}
 use Rattle.cy_commands.proofs.Refusing as refusing
 
 -- the files are not accepted
@@ -54,7 +57,12 @@ leaves w x world m =
     ∙ after_file trace_puts (insert m w.output (tape_record w s world.tape)) w.trace
     ∙ ap (insert (insert m w.output (tape_record w s world.tape)) w.trace) (written_at-end [] trace 0 refl)
 
-pub accepted : (w : PlayWords) (x : Replay) (world : Plain) (files : Option Files) → IfSome files (λ m. replayed_in w m ≡ Accepts (replayed x)) → IsSetUp w.request.filter x → HasRun w.serial x world
+-- a run with the stop of the replay is one with the stop that was asked for
+played_as : (w : PlayWords) (x : Replay) (world : Plain) → IsSetUp w.request x → HasRun w.serial x world
+    → IsPlayed w.serial (replayed x) x.list (stop_of w.request.stop (wired_by x.wiring) x.list.tokens) x.placement.contexts world
+played_as w x world s h = subst (λ (stop : Option Stop). IsPlayed w.serial (replayed x) x.list stop x.placement.contexts world) s.stopped record { run = h.run; lawful = h.lawful }
+
+pub accepted : (w : PlayWords) (x : Replay) (world : Plain) (files : Option Files) → IfSome files (λ m. replayed_in w m ≡ Accepts (replayed x)) → IsSetUp w.request x → HasRun w.serial x world
     → IsMadeOf (replayed_in w) (IsPlayWork w) files (work_of w x world)
 accepted w x world files read s h = record {
   read = replayed x;
@@ -65,7 +73,7 @@ accepted w x world files read s h = record {
     contexts = x.placement.contexts;
     placed = s.placed;
     world = world;
-    played = record { run = h.run; lawful = h.lawful };
+    played = played_as w x world s h;
     record_text = record_text w.output (source_by x) world.tape s.once h.writable;
     read_back = h.read_back;
     writes = refl;
@@ -75,7 +83,7 @@ accepted w x world files read s h = record {
 }
 
 -- all was written
-pub done : (w : PlayWords) (x : Replay) (world : Plain) (old mid new : StoreView) (line : List ℕ) → SetsUp w old mid (Ok x) → IsSetUp w.request.filter x → HasRun w.serial x world → new.files ≡ option_map (after_writes (writes_by w x world)) mid.files
+pub done : (w : PlayWords) (x : Replay) (world : Plain) (old mid new : StoreView) (line : List ℕ) → SetsUp w old mid (Ok x) → IsSetUp w.request x → HasRun w.serial x world → new.files ≡ option_map (after_writes (writes_by w x world)) mid.files
     → IsLine x world line → IsDueFor (Play w) old new Done line
 done w x world old mid new line came s h written told = record {
   work = work_of w x world;
@@ -89,7 +97,7 @@ rose_since old mid new same counts (inl rose) = inl (rose_more old.faults mid.fa
 rose_since old mid new same counts (inr (rose, untold)) = inr (rose_more old.misses mid.misses new.misses (omega (arith, counts.misses)) rose, sym same ∙ untold)
 
 -- a write failed, or memory ran out between two
-pub stopped : (w : PlayWords) (x : Replay) (world : Plain) (old mid new : StoreView) (found : Failure) (due : Status) (line : List ℕ) → SetsUp w old mid (Ok x) → IsSetUp w.request.filter x → HasRun w.serial x world
+pub stopped : (w : PlayWords) (x : Replay) (world : Plain) (old mid new : StoreView) (found : Failure) (due : Status) (line : List ℕ) → SetsUp w old mid (Ok x) → IsSetUp w.request x → HasRun w.serial x world
     → ((f : File) → IsErrOf {T = List ℕ} (Err found) (failure.Store f) → (v : Write) × (name_of v ≡ name_of_play w f) × StopsAt (writes_by w x world) v mid.files new.files)
     → (IsErrOf {T = List ℕ} (Err found) failure.Memory → StopsBefore (writes_by w x world) mid.files new.files)
     → ((f : File) → IsErrOf {T = List ℕ} (Err found) (failure.Store f) → WriteRose mid new)

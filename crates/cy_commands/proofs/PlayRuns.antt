@@ -1,7 +1,7 @@
 -- A replay that was played, and what is told of it.
-use Rattle.std.proofs.Common.{ℕ, Bool, true, false, ◌≡◌, ◌≤◌, List, length, None, ap, subst, ◌∙◌, arith}
+use Rattle.std.proofs.Common.{ℕ, Bool, true, false, ◌≡◌, ◌≤◌, List, length, ap, subst, ◌∙◌, arith}
 use Rattle.cy_msg.specs.Placement.{scan_of}
-use Rattle.cy_request.specs.declared.filter.Filter.{Filter}
+use Rattle.cy_request.specs.Request.{Request}
 use Rattle.wake_core.specs.Bounds.{PlaceLaws}
 use Rattle.wake_core.specs.LawfulRun.{LawfulRun}
 use Rattle.wake_core.specs.Plain.{Plain, opening_world}
@@ -30,19 +30,19 @@ not_too_many x counts n same few many =
     omega (arith, p, more, few)
 
 -- the serial run from the opening world is one that was asked for
-pub serial_run : (serial : Bool) (x : Replay) (first new : Plain) → first ≡ opening_world (routes_of x.wiring.plans) x.counts None
-    → SerialRun first.routes first.stop (scan_of x.placement.contexts) x.list.tokens (run_shown new) → IsRunOf serial (routes_of x.wiring.plans) (scan_of x.placement.contexts) x.list.tokens new
+pub serial_run : (serial : Bool) (x : Replay) (first new : Plain) → first ≡ opening_world (routes_of x.wiring.plans) x.counts x.stop
+    → SerialRun first.routes first.stop (scan_of x.placement.contexts) x.list.tokens (run_shown new) → IsRunOf serial (routes_of x.wiring.plans) x.stop (scan_of x.placement.contexts) x.list.tokens new
 serial_run true x first new opens run = subst (λ (w : Plain). SerialRun w.routes w.stop (scan_of x.placement.contexts) x.list.tokens (run_shown new)) opens run
 serial_run false x first new opens run = tt
 
-pub lawful_run : (x : Replay) (first new : Plain) → first ≡ opening_world (routes_of x.wiring.plans) x.counts None → LawfulRun x.list.tokens first.routes first.stop new → LawfulRun x.list.tokens (routes_of x.wiring.plans) None new
+pub lawful_run : (x : Replay) (first new : Plain) → first ≡ opening_world (routes_of x.wiring.plans) x.counts x.stop → LawfulRun x.list.tokens first.routes first.stop new → LawfulRun x.list.tokens (routes_of x.wiring.plans) x.stop new
 lawful_run x first new opens lawful = subst (λ (w : Plain). LawfulRun x.list.tokens w.routes w.stop new) opens lawful
 
--- on threads too, no stop is given
-pub threads_run : (x : Replay) (first new : Plain) → first ≡ opening_world (routes_of x.wiring.plans) x.counts None → LawfulRun x.list.tokens (routes_of x.wiring.plans) first.stop new → LawfulRun x.list.tokens (routes_of x.wiring.plans) None new
+-- and on threads it has the stop of the replay
+pub threads_run : (x : Replay) (first new : Plain) → first ≡ opening_world (routes_of x.wiring.plans) x.counts x.stop → LawfulRun x.list.tokens (routes_of x.wiring.plans) first.stop new → LawfulRun x.list.tokens (routes_of x.wiring.plans) x.stop new
 threads_run x first new opens lawful = subst (λ (w : Plain). LawfulRun x.list.tokens (routes_of x.wiring.plans) w.stop new) opens lawful
 
-pub any_run : (serial : Bool) (x : Replay) (new : Plain) → serial ≡ false → IsRunOf serial (routes_of x.wiring.plans) (scan_of x.placement.contexts) x.list.tokens new
+pub any_run : (serial : Bool) (x : Replay) (new : Plain) → serial ≡ false → IsRunOf serial (routes_of x.wiring.plans) x.stop (scan_of x.placement.contexts) x.list.tokens new
 any_run true x new e = cc
 any_run false x new e = tt
 
@@ -56,9 +56,9 @@ planned_as x w routes counts few =
     omega (arith, same, few)
 
 -- a lawful run from the opening world can be written, and its trace is read back
-pub has_run : (serial : Bool) (f : Filter) (x : Replay) (first new : Plain) → PlacesAreThere → PlaceLaws → IsSetUp f x → first ≡ opening_world (routes_of x.wiring.plans) x.counts None
-    → IsRunOf serial (routes_of x.wiring.plans) (scan_of x.placement.contexts) x.list.tokens new → LawfulRun x.list.tokens (routes_of x.wiring.plans) None new → new.counts ≡ first.counts → ReadsBack x new → HasRun serial x new
-has_run serial f x first new places stand s opens run lawful stays reads =
+pub has_run : (serial : Bool) (r : Request) (x : Replay) (first new : Plain) → PlacesAreThere → PlaceLaws → IsSetUp r x → first ≡ opening_world (routes_of x.wiring.plans) x.counts x.stop
+    → IsRunOf serial (routes_of x.wiring.plans) x.stop (scan_of x.placement.contexts) x.list.tokens new → LawfulRun x.list.tokens (routes_of x.wiring.plans) x.stop new → new.counts ≡ first.counts → ReadsBack x new → HasRun serial x new
+has_run serial r x first new places stand s opens run lawful stays reads =
     let counts : new.counts ≡ x.counts = stays ∙ ap (λ (w : Plain). w.counts) opens in
     let many : length new.counts ≡ length x.wiring.names = ap length counts ∙ s.many in
     record {
@@ -67,8 +67,8 @@ has_run serial f x first new places stand s opens run lawful stays reads =
       counts = many;
       writable = record {
         channels = λ n t at. let below = lawful.sound.consistent.room.channels n t at in omega (arith, below, many);
-        origins = lawful_origins stand x.recorded (choice_of f (wired_by x.wiring)) x.list (routes_of x.wiring.plans) new s.listed lawful;
-        places = places x.recorded (choice_of f (wired_by x.wiring)) x.list s.listed;
+        origins = lawful_origins stand x.recorded (choice_of r.filter (wired_by x.wiring)) x.list (routes_of x.wiring.plans) x.stop new s.listed lawful;
+        places = places x.recorded (choice_of r.filter (wired_by x.wiring)) x.list s.listed;
       };
       read_back = reads (planned_as x new lawful.wired counts s.limited);
     }

@@ -2,6 +2,7 @@
 use Rattle.std.proofs.Common.{ℕ, zero, suc, ◌-◌, ◌≡◌, ◌<◌, List, length, take, slice_get, Option, Some, None, refl, sym, ap, subst, ◌∙◌, arith}
 use Rattle.std.specs.Prelude.{not, is_some}
 use Rattle.cy_msg.specs.Tokens.{on_channel}
+use Rattle.cy_msg.specs.declared.stop.Stop.{Stop}
 use Rattle.cy_msg.specs.declared.token.Token.{Token}
 use Rattle.cy_msg.specs.declared.token.Tuple.{Tuple}
 use Rattle.cy_msg.specs.declared.token.Tuple.TheVariants.{One, Two, Three, Four}
@@ -69,9 +70,9 @@ module _ (stand : PlaceLaws) (Q : Option ℕ → Type 0) (none : Q None) (w : Pl
   tape_good zero i t less on = absurd (omega (arith, less))
   tape_good (suc k) i t less on = token_good i t on (λ j m sooner at. tape_good k j m (omega (arith, sooner, less)) at)
 
-pub lawful_origins : PlaceLaws → (whole : Contents) (choice : Choice) (list : PlayList) (routes : List Route) (w : Plain) → IsPlayList whole choice list → LawfulRun list.tokens routes None w
+pub lawful_origins : PlaceLaws → (whole : Contents) (choice : Choice) (list : PlayList) (routes : List Route) (stop : Option Stop) (w : Plain) → IsPlayList whole choice list → LawfulRun list.tokens routes stop w
     → (n o : ℕ) (t : Token) → slice_get w.tape n ≡ Some t → t.origin ≡ Some o → o < length list.places
-lawful_origins stand whole choice list routes w is lawful n o t at e =
+lawful_origins stand whole choice list routes stop w is lawful n o t at e =
     let Q : Option ℕ → Type 0 = IsAmong (length list.places) in
     let played : (k : ℕ) (u : Token) → slice_get (played_of w.routes w.tape) k ≡ Some u → Q u.origin =
     λ k u on. list_origins whole choice list is k u (ap (λ (ts : List Token). slice_get ts k) (sym lawful.exact) ∙ on) in

@@ -27,4 +27,4 @@ HasBegun command old new (begun.SetUp play x) = IsBegun command old new (play_wo
 -- A replay is set up as its play says.
 abbrev pub IsReady : Begun → Type 0
 IsReady (begun.Ended due) = ⊤
-IsReady (begun.SetUp play x) = IsSetUp (play_words_of play).request.filter x
+IsReady (begun.SetUp play x) = IsSetUp (play_words_of play).request x

@@ -1,5 +1,5 @@
 -- How `play` ends.
-use Rattle.std.specs.Prelude.{ℕ, ◌≡◌, Bool, List, length, Result, None}
+use Rattle.std.specs.Prelude.{ℕ, ◌≡◌, Bool, List, length, Result}
 use Rattle.cy_store.specs.Store.{StoreView}
 use Rattle.cy_store.specs.Write.{Write}
 use Rattle.cy_msg.specs.Placement.{scan_of}
@@ -36,11 +36,12 @@ SetsUp w old new result =
 abbrev pub source_by : Replay → Source
 source_by x = source_in (replayed x) x.list
 
--- A world in which a replay was played, serially or on threads, with no stop: its tape can be
+-- A world in which a replay was played, serially or on threads, with its stop: its tape can be
 -- written, and the text of its trace is read back.
 pub record HasRun (serial : Bool) (x : Replay) (w : Plain) : Type 0 where
-  pub run : IsRunOf serial (routes_of x.wiring.plans) (scan_of x.placement.contexts) x.list.tokens w
-  pub lawful : LawfulRun x.list.tokens (routes_of x.wiring.plans) None w
+  pub run : IsRunOf serial (routes_of x.wiring.plans) x.stop (scan_of x.placement.contexts)
+      x.list.tokens w
+  pub lawful : LawfulRun x.list.tokens (routes_of x.wiring.plans) x.stop w
   pub counts : length w.counts ≡ length x.wiring.names
   pub writable : IsWritable (source_by x) w.tape
   pub read_back : IsTraceText (run_trace (source_by x) x.list.shadowed (run_shown w))

@@ -1,5 +1,5 @@
 // The commands `play` and `pass` on one thread.
-ghost use Rattle.std.specs.Prelude.{◌≡◌, ◌≤◌, ◌<◌, ℕ, length, None, Ok, IfOk, OnOk, IsErrOf};
+ghost use Rattle.std.specs.Prelude.{◌≡◌, ◌≤◌, ◌<◌, ℕ, length, Ok, IfOk, OnOk, IsErrOf};
 ghost use Rattle.std.specs.Prelude.{IsOkUnless};
 ghost use Rattle.std.specs.Option.{option_map};
 ghost use Rattle.cy_store.specs.Store.{StoreView, WriteRose};
@@ -58,26 +58,27 @@ pub(crate) fn read_files<S: Store>(
     ensures comes { ComesTo replayed (replayed_in (play_words_of play.now))
         (IsAsked (play_words_of play.now).request (S.shows store.old).files)
         (S.shows store.old) (S.shows store.new) result }
-    ensures set_up { IfOk result (IsSetUp (play_words_of play.now).request.filter) }
+    ensures set_up { IfOk result (IsSetUp (play_words_of play.now).request) }
 {
     let filter = play.filter(alloc)?;
     let request = Request {
         components: play.components,
         input: play.input,
         filter: &filter,
+        stop: play.stop,
     };
     let replay = set_up(alloc, store, &request);
     drop(filter);
     replay
 }
 
-/// The world of a replay, with no stop, in which nothing has happened.
+/// The world of a replay, with its stop, in which nothing has happened.
 pub fn opening(alloc: Global, play: &Play, replay: &Replay) -> Result<World, AllocError>
-    requires { IsSetUp (play_words_of play.now).request.filter replay.now }
+    requires { IsSetUp (play_words_of play.now).request replay.now }
     ensures opens { IfOk result (λ w. plain_of w
-        ≡ opening_world (routes_of replay.now.wiring.plans) replay.now.counts None) }
+        ≡ opening_world (routes_of replay.now.wiring.plans) replay.now.counts replay.now.stop) }
 {
-    match World::new(alloc, &replay.wiring, replay.counts.as_slice(), None) {
+    match World::new(alloc, &replay.wiring, replay.counts.as_slice(), replay.stop) {
         Ok(world) => Ok(world),
         Err(CoreError::Memory) => Err(AllocError),
         Err(CoreError::TooMany { .. }) => unreachable!(),
@@ -86,7 +87,7 @@ pub fn opening(alloc: Global, play: &Play, replay: &Replay) -> Result<World, All
 
 /// The world after a replay was played serially.
 pub fn played_world(alloc: Global, play: &Play, replay: &Replay) -> Result<World, AllocError>
-    requires { IsSetUp (play_words_of play.now).request.filter replay.now }
+    requires { IsSetUp (play_words_of play.now).request replay.now }
     ensures run { IfOk result (λ w. HasRun (play_words_of play.now).serial replay.now
         (plain_of w)) }
 {
@@ -109,6 +110,7 @@ fn wiring_of(replay: Replay) -> Wiring
         wiring,
         placement,
         list,
+        stop: _,
         counts,
     } = replay;
     drop(configuration);
@@ -180,7 +182,7 @@ pub(crate) fn write_both<S: Store>(
     replay: Replay,
     world: &World,
 ) -> Result<Bytes, Failure>
-    requires set_up { IsSetUp (play_words_of play.now).request.filter replay }
+    requires set_up { IsSetUp (play_words_of play.now).request replay }
     requires run { HasRun (play_words_of play.now).serial replay (plain_of world.now) }
     ensures done { OnOk result ((S.shows store.new).files
         ≡ option_map (after_writes (writes_by (play_words_of play.now) replay
@@ -236,7 +238,7 @@ pub fn due_played<'a, S: Store>(
     replay: Replay,
     played: Result<World, AllocError>,
 ) -> Due<'a>
-    requires set_up { IsSetUp (play_words_of play.now).request.filter replay }
+    requires set_up { IsSetUp (play_words_of play.now).request replay }
     requires run { IfOk played (λ w. HasRun (play_words_of play.now).serial replay
         (plain_of w)) }
     ensures { (before : StoreView) → SetsUp (play_words_of play.now) before (S.shows store.old)
@@ -265,7 +267,7 @@ pub(crate) fn due_played_alone<'a, S: Store>(
     play: &Play<'a>,
     replay: Replay,
 ) -> Due<'a>
-    requires set_up { IsSetUp (play_words_of play.now).request.filter replay }
+    requires set_up { IsSetUp (play_words_of play.now).request replay }
     ensures { (before : StoreView) → SetsUp (play_words_of play.now) before (S.shows store.old)
         (Ok replay) → IsDueFor (command.Play (play_words_of play.now)) before
         (S.shows store.new) result.status (bytes_of_line result.line) }

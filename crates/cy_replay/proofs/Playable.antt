@@ -1,5 +1,5 @@
 -- What is listed may be played in the opening world of its wiring.
-use Rattle.std.proofs.Common.{ℕ, zero, suc, ◌+◌, ◌≡◌, ◌≤◌, ◌<◌, ◌==◌, not, ◌&&◌, ◌||◌, if◌then◌else◌, cond, Bool, true, false, List, [], ◌∷◌, ◌++◌, length, map, get_or, slice_get, Option, Some, None, unwrap_or, refl, sym, ap, subst, ◌∙◌, inl, inr, arith, All, length-append}
+use Rattle.std.proofs.Common.{ℕ, zero, suc, ◌+◌, ◌≡◌, ◌≤◌, ◌<◌, ◌==◌, not, ◌&&◌, ◌||◌, if◌then◌else◌, cond, Bool, true, false, List, [], ◌∷◌, ◌++◌, length, map, get_or, slice_get, Option, Some, None, option_map, unwrap_or, nat_le, refl, sym, ap, subst, ◌∙◌, inl, inr, arith, All, length-append}
 use Rattle.std.specs.Prelude.{filter}
 use Rattle.std.specs.List.{Contains, list_any, position, zip}
 use Rattle.std.specs.List.Sorted.{IsPermutation}
@@ -14,6 +14,8 @@ use Rattle.std.proofs.lemmas.Bool.{eqb-true, cases_lt}
 use Rattle.cy_msg.specs.Tokens.{on_channel}
 use Rattle.cy_msg.specs.declared.token.Token.{Token}
 use Rattle.cy_msg.specs.declared.play_list.PlayList.{PlayList}
+use Rattle.cy_msg.specs.declared.stop.Stop.{Stop}
+use Rattle.cy_comp.specs.declared.kind.Kind.TheVariants.{Pass}
 use Rattle.cy_comp.specs.declared.plan.Plan.{Plan}
 use Rattle.cy_comp.specs.Wiring.{IsWiring}
 use Rattle.cy_sched.specs.Placing.{numbers_below}
@@ -21,13 +23,17 @@ use Rattle.cy_dag.specs.Wiring.{plans_of, named}
 use Rattle.cy_dag.specs.declared.config.Config.{Config}
 use Rattle.cy_dag.specs.declared.dag.DagComponent.{DagComponent}
 use Rattle.cy_dag.proofs.NameSteps.{has_contains, contains_has, behind_has}
+use Rattle.cy_request.specs.Request.{StopAt}
 use Rattle.cy_reader.specs.declared.known.Known.{Known}
 use Rattle.cy_reader.specs.Record.{Contents, named_only}
 use Rattle.cy_reader.specs.Play.{Choice, IsPlayList, AreNamed, chosen, is_played, is_written, passes, all_places, number_at, number_in, name_of, message_at, places_below, token_behind, tokens_behind}
 use Rattle.wake_core.specs.Run.{route_of, routes_of, writes_from}
+use Rattle.wake_core.specs.TapeLaws.{PutLaws}
 use Rattle.wake_core.specs.Plain.{lists, opening_world}
-use Rattle.wake_core.specs.Rest.{IsScanOf, MayPlay}
+use Rattle.wake_core.specs.Rest.{IsScanOf, IsToPlay, MayPlay}
 use Rattle.cy_replay.specs.Listing.{AreCounts, channels_of, counts_of, played_on}
+use Rattle.cy_replay.specs.Stops.{count_up_to, number_of, stop_of}
+use Rattle.cy_replay.specs.Wiring.{Wired}
 
 -- the channels of a record stand among the names of a wiring
 length-more : {X : Type 0} (xs ys : List X) (i : ℕ) → i < length xs → i < length (xs ++ ys)
@@ -202,15 +208,46 @@ is_scan size scan moved = record {
   known = λ c e. let has = in_lists scan c e in subst (λ x. x < size) has.2 (All-permutation (λ c. c < size) (numbers_below size) scan moved (all_numbers size) has.0 c has.1);
 }
 
+-- a stop names a component, and is raised at the latest behind the last message
+pub few_up_to : (time : ℕ) (tokens : List Token) → count_up_to time tokens ≤ length tokens
+few_up_to time [] = omega arith
+few_up_to time (t ∷ rest) = by (nat_le t.time time) (few_up_to time rest)
+  where
+    by : (b : Bool) → count_up_to time rest ≤ length rest → length (cond b (t ∷ filter (λ u. nat_le u.time time) rest) (filter (λ u. nat_le u.time time) rest)) ≤ suc (length rest)
+    by true few = omega (arith, few)
+    by false few = omega (arith, few)
+
+no_plan : Plan
+no_plan = record { name = []; kind = Pass; readers = []; queue = 1; out = 0; out_type = [] }
+
+stop_within : (asked : Option StopAt) (w : Wired) (tokens : List Token) (s : Stop) → stop_of asked w tokens ≡ Some s → (s.component < length w.plans) × (s.after ≤ length tokens)
+stop_within None w tokens s given = absurd cc
+stop_within (Some a) w tokens s given = by (number_of w.plans a.component) refl given
+  where
+    by : (found : Option ℕ) → number_of w.plans a.component ≡ found → option_map (λ (c : ℕ). let made : Stop = record { component = c; after = count_up_to a.time tokens } in made) found ≡ Some s
+        → (s.component < length w.plans) × (s.after ≤ length tokens)
+    by None is e = absurd cc
+    by (Some c) is e =
+        let same : (let made : Stop = record { component = c; after = count_up_to a.time tokens } in made) ≡ s = cc in
+        subst (λ (x : Stop). (x.component < length w.plans) × (x.after ≤ length tokens)) same
+        ((position-Some (λ (p : Plan). bytes_eq p.name a.component) w.plans c no_plan is).0, few_up_to a.time tokens)
+
 -- the list may be played
-pub may_play : (whole : Contents) (choice : Choice) (list : PlayList) (plans : List Plan) (counts scan : List ℕ) → IsPlayList whole choice list → choice.written ≡ map (λ p. p.out) plans
-    → AreCounts (length choice.names) list.tokens counts → IsPermutation (numbers_below (length plans)) scan → MayPlay (opening_world (routes_of plans) counts None) list.tokens scan
-may_play whole choice list plans counts scan is written are moved = record {
-  opening = refl;
-  made = record {
-    counted = are.each;
-    unwritten = λ n t at. no_writer plans 0 t.channel (subst (λ ws. list_any (λ x. x == t.channel) ws ≡ false) written (all_at (λ u. list_any (λ x. x == u.channel) choice.written ≡ false) list.tokens n t (all_unwritten whole choice list is) at));
-  };
-  within = record { component = λ s given. absurd cc; after = λ s given. absurd cc };
-  scan = subst (λ size. IsScanOf size scan) (sym (length-map plans route_of)) (is_scan (length plans) scan moved);
-}
+pub may_play : PutLaws → (whole : Contents) (choice : Choice) (list : PlayList) (w : Wired) (counts scan : List ℕ) (asked : Option StopAt) (stop : Option Stop) → stop ≡ stop_of asked w list.tokens → IsPlayList whole choice list → choice.written ≡ map (λ p. p.out) w.plans
+    → AreCounts (length choice.names) list.tokens counts → IsPermutation (numbers_below (length w.plans)) scan → MayPlay (opening_world (routes_of w.plans) counts stop) list.tokens scan
+may_play put whole choice list w counts scan asked stop stopped is written are moved =
+    let made : IsToPlay (opening_world (routes_of w.plans) counts stop) list.tokens = record {
+      counted = are.each;
+      unwritten = λ n t at. no_writer w.plans 0 t.channel (subst (λ ws. list_any (λ x. x == t.channel) ws ≡ false) written (all_at (λ u. list_any (λ x. x == u.channel) choice.written ≡ false) list.tokens n t (all_unwritten whole choice list is) at));
+    } in
+    let whole_number = put.all (opening_world (routes_of w.plans) counts stop) list.tokens made in
+    let as_many = length-map w.plans route_of in
+    record {
+      opening = refl;
+      made = made;
+      within = record {
+        component = λ s given. let below = (stop_within asked w list.tokens s (sym stopped ∙ given)).0 in omega (arith, below, as_many);
+        after = λ s given. let few = (stop_within asked w list.tokens s (sym stopped ∙ given)).1 in omega (arith, few, whole_number);
+      };
+      scan = subst (λ size. IsScanOf size scan) (sym as_many) (is_scan (length w.plans) scan moved);
+    }

@@ -1,4 +1,5 @@
 -- A replay is set up: its files are read, and what they say is judged.
+use Rattle.std.specs.Prelude.{⊤}
 use Rattle.std.proofs.Common.{◌^◌, ℕ, ◌+◌, ◌≡◌, ◌≤◌, ◌<◌, ◌++◌, List, [], ◌∷◌, length, map, take, get_or, slice_get, Option, Some, None, IfSome, Result, Ok, Err, refl, sym, ap, subst, ◌∙◌, inl, inr, arith}
 use Rattle.std.specs.List.{zip}
 use Rattle.std.specs.List.Sorted.{IsPermutation}
@@ -21,6 +22,7 @@ use Rattle.cy_dag.specs.declared.config.Config.{Config}
 use Rattle.cy_dag.specs.declared.dag.DagComponent.{DagComponent}
 use Rattle.cy_dag.specs.declared.error.DagError.{DagError}
 use Rattle.cy_request.specs.declared.filter.Filter.{Filter}
+use Rattle.wake_core.specs.TapeLaws.{PutLaws}
 use Rattle.cy_reader.specs.declared.known.Known.{Known}
 use Rattle.cy_reader.specs.Record.{Contents, named_only}
 use Rattle.cy_reader.specs.Play.{Choice, PlayAnswer, IsPlayList, AreNamed, chosen, most_played}
@@ -44,6 +46,7 @@ use Rattle.cy_replay.specs.Passing.{passing, type_read}
 use Rattle.cy_request.specs.Request.{Components, Request, OfFiles, OfPass}
 use Rattle.cy_replay.specs.Setup.{Replayed, IsAsked, IsAskedBy, IsSetUp, judged_in, configured_in, passed_in, replay_through, replay_in, replayed}
 use Rattle.cy_replay.specs.Steps.{configured}
+use Rattle.cy_replay.specs.Stops.{stop_in, stop_of}
 use Rattle.cy_replay.specs.Wiring.{Wired, wired_by, wired_of, wiring_in}
 use Rattle.cy_replay.proofs.Coming.{then, comes_err, comes_then}
 use Rattle.cy_replay.proofs.Limits.{limited_fits}
@@ -81,17 +84,17 @@ module _ (file : List ℕ) (r : Request) (conf : Configuration) (recorded : Cont
   -- the wiring is in the way
   pub wiring_stops : (e : SetupError) → (let q : Result Wiring SetupError = Err e in IsJudged wired_by (wiring_in file (channels_of recorded) (configured conf)) q)
       → (let q : Result Replay SetupError = Err e in IsJudged replayed (judged_in file r (configured conf) recorded) q)
-  wiring_stops e stops = judges_err wired_by replayed (wiring_in file (channels_of recorded) (configured conf)) (judged_over r (configured conf) recorded) e stops
+  wiring_stops e stops = judges_err wired_by replayed (wiring_in file (channels_of recorded) (configured conf)) (judged_over file r (configured conf) recorded) e stops
 
   -- or there is one, and what is judged over it stands
   pub wiring_then : (w : Wiring) (q : Result Replay SetupError) → (let made : Result Wiring SetupError = Ok w in IsJudged wired_by (wiring_in file (channels_of recorded) (configured conf)) made)
-      → IsJudged replayed (judged_over r (configured conf) recorded (wired_by w)) q → IsJudged replayed (judged_in file r (configured conf) recorded) q
-  wiring_then w q made judged = judges_then replayed (wiring_in file (channels_of recorded) (configured conf)) (judged_over r (configured conf) recorded) (wired_by w) q made.accepted judged
+      → IsJudged replayed (judged_over file r (configured conf) recorded (wired_by w)) q → IsJudged replayed (judged_in file r (configured conf) recorded) q
+  wiring_then w q made judged = judges_then replayed (wiring_in file (channels_of recorded) (configured conf)) (judged_over file r (configured conf) recorded) (wired_by w) q made.accepted judged
 
   pub wiring_is : (w : Wiring) → (let made : Result Wiring SetupError = Ok w in IsJudged wired_by (wiring_in file (channels_of recorded) (configured conf)) made) → wired_of (channels_of recorded) (configured conf) ≡ wired_by w
   wiring_is w made = wired_is file (wire_refusal (channels_of recorded) conf.dag.components conf.configs) (wired_of (channels_of recorded) (configured conf)) (wired_by w) made.accepted
 
-module _ (r : Request) (conf : Configuration) (recorded : Contents) (w : Wiring) (is_wired : wired_of (channels_of recorded) (configured conf) ≡ wired_by w) where
+module _ (file : List ℕ) (r : Request) (conf : Configuration) (recorded : Contents) (w : Wiring) (is_wired : wired_of (channels_of recorded) (configured conf) ≡ wired_by w) where
   abbrev components : List (DagComponent × Config)
   components = zip conf.dag.components conf.configs
 
@@ -119,18 +122,30 @@ module _ (r : Request) (conf : Configuration) (recorded : Contents) (w : Wiring)
   abbrev with_played : ℕ → Reads Refusal Replayed
   with_played played = planned_in r.input (wired_by w) (counts_of recorded choice) >>= λ planned. Accepts record { configured = configured conf; contents = recorded; wired = wired_by w }
 
+  -- what follows the stop
+  abbrev with_stop : ⊤ → Reads Refusal Replayed
+  with_stop found = played_in r.input recorded choice >>= with_played
+
   abbrev over : Reads Refusal Replayed
-  over = judged_over r (configured conf) recorded (wired_by w)
+  over = judged_over file r (configured conf) recorded (wired_by w)
+
+  abbrev pub Stops : Result ⊤ SetupError → Type 0
+  Stops q = IsJudged (λ found. found) (stop_in file r.stop (wired_by w)) q
+
+  -- the stop is in the way
+  pub stop_stops : {X : Type 0} (v : X → Replayed) (e : SetupError) → Stops (Err e) → (let q : Result X SetupError = Err e in IsJudged v over q)
+  stop_stops v e stops = judges_err (λ found. found) v (stop_in file r.stop (wired_by w)) with_stop e stops
 
   -- the messages that are played are in the way
-  pub list_stops : {X : Type 0} (v : X → Replayed) (e : SetupError) → (let q : Result PlayList SetupError = Err e in IsJudged (λ (l : PlayList). length l.places) (played_in r.input recorded choice) q)
+  pub list_stops : {X : Type 0} (v : X → Replayed) (e : SetupError) (found : ⊤) → Stops (Ok found) → (let q : Result PlayList SetupError = Err e in IsJudged (λ (l : PlayList). length l.places) (played_in r.input recorded choice) q)
       → (let q : Result X SetupError = Err e in IsJudged v over q)
-  list_stops v e stops = judges_err (λ (l : PlayList). length l.places) v (played_in r.input recorded choice) with_played e stops
+  list_stops v e found passes stops =
+      judges_then v (stop_in file r.stop (wired_by w)) with_stop found (Err e) passes.accepted (judges_err (λ (l : PlayList). length l.places) v (played_in r.input recorded choice) with_played e stops)
 
-  module _ (list : PlayList) (counts : List ℕ) (listed : let q : Result PlayList SetupError = Ok list in IsJudged (λ (l : PlayList). length l.places) (played_in r.input recorded choice) q)
+  module _ (list : PlayList) (counts : List ℕ) (found : ⊤) (passes : Stops (Ok found)) (listed : let q : Result PlayList SetupError = Ok list in IsJudged (λ (l : PlayList). length l.places) (played_in r.input recorded choice) q)
       (is : IsPlayList recorded choice list) (are : AreCounts (length w.names) list.tokens counts) where
     after : {X : Type 0} (v : X → Replayed) (q : Result X SetupError) → IsJudged v (with_played (length list.places)) q → IsJudged v over q
-    after v q j = judges_then v (played_in r.input recorded choice) with_played (length list.places) q listed.accepted j
+    after v q j = judges_then v (stop_in file r.stop (wired_by w)) with_stop found q passes.accepted (judges_then v (played_in r.input recorded choice) with_played (length list.places) q listed.accepted j)
 
     pub counted : counts ≡ counts_of recorded choice
     counted = counts_are recorded choice list counts is are
@@ -159,18 +174,19 @@ pub planned_few : (file : List ℕ) (w : Wired) (counts : List ℕ) (n : ℕ) �
 planned_few file w counts n fits = (limited_fits file MOST_PLANNED fault.TooMany (planned (routes_of w.plans) counts) n fits.accepted).0
 
 -- what is set up
-pub is_set_up : (f : Filter) (x : Replay) → IsPlayList x.recorded (choice_of f (wired_by x.wiring)) x.list → IsPlaced x.configuration.sched (map (λ c. c.name) x.configuration.dag.components) x.placement.contexts
-    → AreCounts (length x.wiring.names) x.list.tokens x.counts → x.counts ≡ counts_of x.recorded (choice_of f (wired_by x.wiring)) → planned (routes_of x.wiring.plans) x.counts ≤ MOST_PLANNED → 0 < length x.wiring.names
-    → IsPermutation (numbers_below (length x.configuration.dag.components)) (scan_of x.placement.contexts) → length x.wiring.plans ≡ length x.configuration.dag.components → IsOnce x.wiring.names → IsSetUp f x
-is_set_up f x listed placed are counted few some moved many once = record {
+pub is_set_up : PutLaws → (r : Request) (x : Replay) → IsPlayList x.recorded (choice_of r.filter (wired_by x.wiring)) x.list → x.stop ≡ stop_of r.stop (wired_by x.wiring) x.list.tokens → IsPlaced x.configuration.sched (map (λ c. c.name) x.configuration.dag.components) x.placement.contexts
+    → AreCounts (length x.wiring.names) x.list.tokens x.counts → x.counts ≡ counts_of x.recorded (choice_of r.filter (wired_by x.wiring)) → planned (routes_of x.wiring.plans) x.counts ≤ MOST_PLANNED → 0 < length x.wiring.names
+    → IsPermutation (numbers_below (length x.configuration.dag.components)) (scan_of x.placement.contexts) → length x.wiring.plans ≡ length x.configuration.dag.components → IsOnce x.wiring.names → IsSetUp r x
+is_set_up put r x listed stopped placed are counted few some moved many once = record {
   listed = listed;
+  stopped = stopped;
   placed = placed;
   counted = counted;
   many = are.many;
   once = once;
   limited = few;
-  named = all_below x.recorded (choice_of f (wired_by x.wiring)) x.list listed some;
-  playable = may_play x.recorded (choice_of f (wired_by x.wiring)) x.list x.wiring.plans x.counts (scan_of x.placement.contexts) listed refl are (subst (λ n. IsPermutation (numbers_below n) (scan_of x.placement.contexts)) (sym many) moved);
+  named = all_below x.recorded (choice_of r.filter (wired_by x.wiring)) x.list listed some;
+  playable = may_play put x.recorded (choice_of r.filter (wired_by x.wiring)) x.list (wired_by x.wiring) x.counts (scan_of x.placement.contexts) r.stop x.stop stopped listed refl are (subst (λ n. IsPermutation (numbers_below n) (scan_of x.placement.contexts)) (sym many) moved);
 }
 
 -- what is judged behind the record

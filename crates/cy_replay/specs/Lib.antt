@@ -7,4 +7,5 @@ pub mod Listing
 pub mod Passing
 pub mod Setup
 pub mod Steps
+pub mod Stops
 pub mod Wiring

@@ -1,11 +1,10 @@
 -- What the files of a replay come to, and what it is set up with.
-use Rattle.std.specs.Prelude.{ℕ, ◌≡◌, ◌≤◌, ◌<◌, ◌⊎◌, All, List, length, map, Option, None}
+use Rattle.std.specs.Prelude.{ℕ, ◌≡◌, ◌≤◌, ◌<◌, ◌⊎◌, All, List, length, map, Option}
 use Rattle.cy_store.specs.Files.{Files}
 use Rattle.cy_store.specs.Reads.{Reads, Accepts, ◌>>=◌}
 use Rattle.cy_msg.specs.Once.{IsOnce}
 use Rattle.cy_msg.specs.Placement.{scan_of}
 use Rattle.cy_sched.specs.Placing.{IsPlaced}
-use Rattle.cy_request.specs.declared.filter.Filter.{Filter}
 use Rattle.cy_request.specs.Request.{Components, OfFiles, OfPass, Request}
 use Rattle.cy_reader.specs.Record.{Contents}
 use Rattle.cy_reader.specs.Play.{IsPlayList}
@@ -22,6 +21,7 @@ use Rattle.cy_replay.specs.Listing.{record_in, channels_of, choice_of, counts_of
 use Rattle.cy_replay.specs.Listing.{planned_in}
 use Rattle.cy_replay.specs.Passing.{passing, type_read}
 use Rattle.cy_replay.specs.Steps.{configured}
+use Rattle.cy_replay.specs.Stops.{stop_in, stop_of}
 use Rattle.cy_replay.specs.Wiring.{Wired, wired_by, wiring_in}
 
 -- What these files come to: what they say, the record's channels and messages, and the wiring of
@@ -32,11 +32,13 @@ pub record Replayed : Type 0 where
   pub wired : Wired
 
 -- What is judged once all files were read, in the order of refusals: the wiring over the record's
--- channels, the number of messages that are played, and the number of entries that are planned. A
--- fault of the wiring is one of the file that is named for it.
+-- channels, the component that a stop names, the number of messages that are played, and the number
+-- of entries that are planned. A fault of the wiring or of a stop is one of the file that is named
+-- for it.
 abbrev pub judged_in : List ℕ → Request → Configured → Contents → Reads Refusal Replayed
 judged_in file r configured contents = do
   wired ← wiring_in file (channels_of contents) configured
+  found ← stop_in file r.stop wired
   played ← played_in r.input contents (choice_of r.filter wired)
   planned ← planned_in r.input wired (counts_of contents (choice_of r.filter wired))
   Accepts record { configured = configured; contents = contents; wired = wired }
@@ -80,16 +82,18 @@ replayed x = record {
   wired = wired_by x.wiring;
 }
 
--- A replay is set up: its play list, its placement and its counts are those of its record and its
--- configuration, and it may be played in the opening world of its wiring.
-pub record IsSetUp (filter : Filter) (x : Replay) : Type 0 where
-  pub listed : IsPlayList x.recorded (choice_of filter (wired_by x.wiring)) x.list
+-- A replay is set up as it was asked for: its play list, its stop, its placement and its counts are
+-- those of its record and its configuration, and it may be played in the opening world of its wiring
+-- and its stop.
+pub record IsSetUp (r : Request) (x : Replay) : Type 0 where
+  pub listed : IsPlayList x.recorded (choice_of r.filter (wired_by x.wiring)) x.list
+  pub stopped : x.stop ≡ stop_of r.stop (wired_by x.wiring) x.list.tokens
   pub placed : IsPlaced x.configuration.sched (map (λ c. c.name) x.configuration.dag.components)
       x.placement.contexts
-  pub counted : x.counts ≡ counts_of x.recorded (choice_of filter (wired_by x.wiring))
+  pub counted : x.counts ≡ counts_of x.recorded (choice_of r.filter (wired_by x.wiring))
   pub many : length x.counts ≡ length x.wiring.names
   pub once : IsOnce x.wiring.names
   pub limited : planned (routes_of x.wiring.plans) x.counts ≤ MOST_PLANNED
   pub named : All (λ t. t.channel < length x.wiring.names) x.list.tokens
-  pub playable : MayPlay (opening_world (routes_of x.wiring.plans) x.counts None) x.list.tokens
+  pub playable : MayPlay (opening_world (routes_of x.wiring.plans) x.counts x.stop) x.list.tokens
       (scan_of x.placement.contexts)

@@ -5,7 +5,7 @@ ghost use Rattle.cy_replay.specs.Steps.{IsFault, IsRecordFault, dag_fault, sched
 ghost use Rattle.cy_replay.specs.declared.error.SetupError.TheVariants as setup_error;
 
 use cy_dag::DagError;
-use cy_fault::{push_file, push_limit};
+use cy_fault::{push_file, push_limit, push_named};
 use cy_msg::{Bytes, NamesError, Text};
 use cy_reader::LoadError;
 use cy_sched::SchedError;
@@ -26,6 +26,11 @@ pub enum Fault {
     Dag(DagError),
     /// A scheduler file is refused.
     Sched(SchedError),
+    /// No component has the name that a stop gives.
+    StopUnknown {
+        /// This name.
+        name: Text,
+    },
     /// A record is refused, or more of its messages would be played than can be.
     Record(LoadError),
     /// Playing a record would come to more entries than a run keeps.
@@ -45,6 +50,7 @@ impl Fault {
             Fault::Text(error) => error.push_to(to),
             Fault::Dag(error) => error.push_to(to),
             Fault::Sched(error) => error.push_to(to),
+            Fault::StopUnknown { name } => push_named(to, "StopUnknown", &[], name),
             Fault::Record(error) => error.push_to(to),
             Fault::TooMany { count } => push_limit(to, "TooMany", *count),
         }
@@ -59,6 +65,7 @@ impl Fault {
             Fault::Text(error) => error.is_limit(),
             Fault::Dag(error) => error.is_limit(),
             Fault::Sched(error) => error.is_limit(),
+            Fault::StopUnknown { .. } => false,
             Fault::Record(error) => error.is_limit(),
             Fault::TooMany { .. } => true,
         }

@@ -3,8 +3,8 @@
 //! `specs/Setup` says what all files of a replay come to, and what it is set up with:
 //! `specs/Configuration` what the configuration files come to, `specs/Passing` what stands in their
 //! place where one component passes messages on, `specs/Wiring` what wiring components does,
-//! `specs/Comes` what a call answers that reads files, `specs/FaultText` how a file that is refused
-//! is told.
+//! `specs/Stops` what stop it has, `specs/Comes` what a call answers that reads files,
+//! `specs/FaultText` how a file that is refused is told.
 #![tactic(auto)]
 
 mod configuration;
@@ -14,6 +14,7 @@ mod listing;
 mod passing;
 mod read;
 mod setup;
+mod stops;
 mod text;
 mod wiring;
 

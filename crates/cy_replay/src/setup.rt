@@ -13,13 +13,15 @@ ghost use Rattle.cy_replay.specs.Wiring.{IsWiredBy, wired_by, wired_of, wiring_i
 use crate::counts::{counts_of, test_planned};
 use crate::listing::{channel_names, list_messages, read_record};
 use crate::passing::pass_configuration;
+use crate::stops::{stop_of, test_stop};
 use crate::{Configuration, SetupError, place_components, read_configuration, wire_components};
 use cy_comp::Wiring;
-use cy_msg::{Items, Placement, PlayList};
+use cy_msg::{Items, Placement, PlayList, Stop};
 use cy_reader::Record;
 use cy_request::{Components, Request};
 use cy_store::Store;
 use std::alloc::Global;
+use wake_core::laws;
 
 /// A replay that is set up: all that a run needs.
 #[derive(Drop)]
@@ -34,6 +36,8 @@ pub struct Replay {
     pub placement: Placement,
     /// The messages that are played.
     pub list: PlayList,
+    /// The stop, where one was asked for.
+    pub stop: Option<Stop>,
     /// How many messages are played on each channel, by its number.
     pub counts: Items<u32>,
 }
@@ -43,6 +47,7 @@ pub struct Replay {
 struct Judged {
     placement: Placement,
     list: PlayList,
+    stop: Option<Stop>,
     counts: Items<u32>,
 }
 
@@ -60,9 +65,11 @@ fn wire_recorded(
     wire_components(alloc, file, configuration, &channels)
 }
 
-// Judges what was read, once its components are wired.
+// Judges what was read, once its components are wired. A fault of a stop is one of the file that is
+// named for it.
 fn judge_parts(
     alloc: Global,
+    file: &str,
     request: &Request,
     configuration: &Configuration,
     recorded: &Record,
@@ -72,18 +79,22 @@ fn judge_parts(
     requires wired { wired_of (channels_of recorded.now) (configured configuration.now)
         ≡ wired_by wiring.now }
     ensures judged { IsJudged (judged_as configuration.now recorded.now wiring.now)
-        (judged_over (request_of request.now) (configured configuration.now) recorded.now
-        (wired_by wiring.now)) result }
-    ensures set_up { IfOk result (λ j. IsSetUp request.now.filter.now
+        (judged_over file.now (request_of request.now) (configured configuration.now)
+        recorded.now (wired_by wiring.now)) result }
+    ensures set_up { IfOk result (λ j. IsSetUp (request_of request.now)
         (replay_of configuration.now recorded.now wiring.now j)) }
 {
+    test_stop(alloc, file, request.stop, wiring)?;
     let list = list_messages(alloc, request.input, request.filter, recorded, wiring)?;
     let counts = counts_of(alloc, wiring.names.count(), list.tokens.as_slice())?;
     test_planned(alloc, request.input, wiring, &counts)?;
+    let stop = stop_of(request.stop, wiring, list.tokens.as_slice());
     let placement = place_components(alloc, configuration)?;
+    laws::put();
     Ok(Judged {
         placement,
         list,
+        stop,
         counts: Items::new(counts),
     })
 }
@@ -91,6 +102,7 @@ fn judge_parts(
 // Judges what was read and wired, and makes what a run needs of it.
 fn judge_wired(
     alloc: Global,
+    file: &str,
     request: &Request,
     configuration: Configuration,
     recorded: Record,
@@ -99,17 +111,18 @@ fn judge_wired(
     requires placeable { IsPlaceable configuration.sched }
     requires wired { wired_of (channels_of recorded) (configured configuration)
         ≡ wired_by wiring }
-    ensures judged { IsJudged replayed (judged_over (request_of request.now)
+    ensures judged { IsJudged replayed (judged_over file.now (request_of request.now)
         (configured configuration) recorded (wired_by wiring)) result }
-    ensures set_up { IfOk result (IsSetUp request.now.filter.now) }
+    ensures set_up { IfOk result (IsSetUp (request_of request.now)) }
 {
-    match judge_parts(alloc, request, &configuration, &recorded, &wiring) {
+    match judge_parts(alloc, file, request, &configuration, &recorded, &wiring) {
         Ok(judged) => Ok(Replay {
             configuration,
             recorded,
             wiring,
             placement: judged.placement,
             list: judged.list,
+            stop: judged.stop,
             counts: judged.counts,
         }),
         Err(error) => {
@@ -121,8 +134,8 @@ fn judge_wired(
     }
 }
 
-// Judges what was read, and makes what a run needs of it. A fault of the wiring is one of the file
-// that is named for it.
+// Judges what was read, and makes what a run needs of it. A fault of the wiring or of a stop is one
+// of the file that is named for it.
 fn judge(
     alloc: Global,
     file: &str,
@@ -133,10 +146,10 @@ fn judge(
     requires { IsPlaceable configuration.sched }
     ensures judged { IsJudged replayed
         (judged_in file.now (request_of request.now) (configured configuration) recorded) result }
-    ensures set_up { IfOk result (IsSetUp request.now.filter.now) }
+    ensures set_up { IfOk result (IsSetUp (request_of request.now)) }
 {
     match wire_recorded(alloc, file, &configuration, &recorded) {
-        Ok(wiring) => judge_wired(alloc, request, configuration, recorded, wiring),
+        Ok(wiring) => judge_wired(alloc, file, request, configuration, recorded, wiring),
         Err(error) => {
             drop(recorded);
             drop(configuration);
@@ -158,7 +171,7 @@ fn set_up_files<S: Store>(
         (IsAskedBy (OfFiles dag.now (option_map (λ n. n.now) sched.entry)) request.now.input.now
         (S.shows store.old).files)
         (S.shows store.old) (S.shows store.new) result }
-    ensures set_up { IfOk result (IsSetUp request.now.filter.now) }
+    ensures set_up { IfOk result (IsSetUp (request_of request.now)) }
 {
     let configuration = read_configuration(alloc, store, dag, sched)?;
     match read_record(alloc, store, request.input) {
@@ -171,7 +184,7 @@ fn set_up_files<S: Store>(
 }
 
 // Sets up a replay through one component that passes messages on. No file names it, so a fault of
-// the wiring is one of the record.
+// the wiring or of a stop is one of the record.
 fn set_up_pass<S: Store>(
     alloc: Global,
     store: &mut S,
@@ -183,7 +196,7 @@ fn set_up_pass<S: Store>(
     ensures comes { ComesTo replayed (passed_in from.now to.now (request_of request.now))
         (IsAskedBy (OfPass from.now to.now) request.now.input.now (S.shows store.old).files)
         (S.shows store.old) (S.shows store.new) result }
-    ensures set_up { IfOk result (IsSetUp request.now.filter.now) }
+    ensures set_up { IfOk result (IsSetUp (request_of request.now)) }
 {
     let recorded = read_record(alloc, store, request.input)?;
     match pass_configuration(alloc, from, to, &recorded) {
@@ -197,10 +210,11 @@ fn set_up_pass<S: Store>(
 
 /// Sets up a replay. It reads the DAG file, the component files that it names, in the order of the
 /// DAG, the scheduler file, if one is given, and the record; or the record alone, where the one
-/// component passes messages on. Then it wires the components over the record's channels, lists the
-/// messages that are played, and places the components. The first thing in the way is answered: a
-/// file that is refused, where a fault of the wiring is one of the DAG file, or else of the record,
-/// and too many messages or entries are one of the record. No file is changed.
+/// component passes messages on. Then it wires the components over the record's channels, looks for
+/// the component of a stop, lists the messages that are played, and places the components. The first
+/// thing in the way is answered: a file that is refused, where a fault of the wiring or of a stop is
+/// one of the DAG file, or else of the record, and too many messages or entries are one of the
+/// record. No file is changed.
 pub fn set_up<S: Store>(
     alloc: Global,
     store: &mut S,
@@ -210,7 +224,7 @@ pub fn set_up<S: Store>(
     ensures comes { ComesTo replayed (replay_in (request_of request.now))
         (IsAsked (request_of request.now) (S.shows store.old).files) (S.shows store.old)
         (S.shows store.new) result }
-    ensures set_up { IfOk result (IsSetUp request.now.filter.now) }
+    ensures set_up { IfOk result (IsSetUp (request_of request.now)) }
 {
     match request.components {
         Components::Files { dag, sched } => set_up_files(alloc, store, dag, sched, request),

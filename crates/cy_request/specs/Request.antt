@@ -4,6 +4,7 @@ use Rattle.cy_request.specs.declared.filter.Filter.{Filter}
 use Rattle.cy_request.specs.declared.request.Components as code
 use Rattle.cy_request.specs.declared.request.Components.TheVariants as named
 use Rattle.cy_request.specs.declared.request.Request as code_request
+use Rattle.cy_request.specs.declared.request.StopAt as code_stop
 
 -- Through which components a record is replayed: those of a DAG file, placed by a scheduler file,
 -- where one is given; or one that passes the messages of a channel on to another.
@@ -16,21 +17,32 @@ abbrev pub HasReader : Components → Type 0
 HasReader (OfFiles dag sched) = ⊤
 HasReader (OfPass from to) = 1 ≤ length from
 
--- What a replay is set up from: its components, the name of its record, and which messages are let
--- through.
+-- A stop that is asked for: a component by its name, and a time. It is raised once the messages up
+-- to this time are played, and before the next.
+pub record StopAt : Type 0 where
+  pub component : List ℕ
+  pub time : ℕ
+
+-- What a replay is set up from: its components, the name of its record, which messages are let
+-- through, and the stop, where one is asked for.
 pub record Request : Type 0 where
   pub components : Components
   pub input : List ℕ
   pub filter : Filter
+  pub stop : Option StopAt
 
 -- What the code's types stand for.
 abbrev pub components_of : code.Components → Components
 components_of (named.Files dag sched) = OfFiles dag.now (option_map (λ name. name.now) sched)
 components_of (named.Pass from to) = OfPass from.now to.now
 
+abbrev pub stop_at_of : code_stop.StopAt → StopAt
+stop_at_of s = record { component = s.component.now; time = s.time }
+
 abbrev pub request_of : code_request.Request → Request
 request_of r = record {
   components = components_of r.components;
   input = r.input.now;
   filter = r.filter.now;
+  stop = option_map stop_at_of r.stop;
 }

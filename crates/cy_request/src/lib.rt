@@ -1,4 +1,5 @@
-//! What a replay is asked for: its components, its record, and which messages are let through.
+//! What a replay is asked for: its components, its record, which messages are let through, and the
+//! stop.
 //!
 //! `specs/Request` says what is asked for, and `specs/Filter` which messages are let through.
 #![tactic(auto)]
@@ -7,4 +8,4 @@ mod filter;
 mod request;
 
 pub use filter::Filter;
-pub use request::{Components, Request};
+pub use request::{Components, Request, StopAt};

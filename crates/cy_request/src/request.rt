@@ -20,7 +20,17 @@ pub enum Components<'a> {
     },
 }
 
-/// What a replay is set up from: its components, its record, and which messages are played.
+/// A stop that is asked for: the component that is to end, and from what time on.
+#[derive(Clone, Copy)]
+pub struct StopAt<'a> {
+    /// The name of the component.
+    pub component: &'a str,
+    /// The stop is raised once the messages up to this time are played, in nanoseconds.
+    pub time: u64,
+}
+
+/// What a replay is set up from: its components, its record, which messages are played, and the
+/// stop.
 #[derive(Clone, Copy)]
 pub struct Request<'a> {
     /// The components, or the files that name them.
@@ -29,4 +39,6 @@ pub struct Request<'a> {
     pub input: &'a str,
     /// Which of its messages are let through.
     pub filter: &'a Filter,
+    /// The stop, where one is asked for.
+    pub stop: Option<StopAt<'a>>,
 }

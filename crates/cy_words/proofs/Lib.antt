@@ -7,6 +7,7 @@ pub mod ClapWalk
 pub mod Commas
 pub mod Forms
 pub mod InForm
+pub mod LastSign
 pub mod Named
 pub mod OptionsRead
 pub mod Places

@@ -1,6 +1,6 @@
 -- What the types stand for in which the code keeps the words of `play`.
 use Rattle.std.specs.Prelude.{[], option_map, unwrap_or}
-use Rattle.cy_request.specs.Request.{components_of}
+use Rattle.cy_request.specs.Request.{components_of, stop_at_of}
 use Rattle.cy_words.specs.declared.play_words.Play.{Play}
 use Rattle.cy_words.specs.PlayWords.{PlayWords, names_in}
 
@@ -15,6 +15,7 @@ play_words_of p = record {
       begin = p.begin;
       end = p.end;
     };
+    stop = option_map stop_at_of p.stop;
   };
   output = p.output.now;
   trace = p.trace.now;

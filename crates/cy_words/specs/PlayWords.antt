@@ -4,9 +4,10 @@ use Rattle.std.specs.Prelude.{Bool, true, false, if◌then◌else◌, List, [], 
 use Rattle.std.specs.Prelude.{None, is_some, unwrap_or, codes}
 use Rattle.std.specs.List.{list_all, slice_split}
 use Rattle.std.specs.Option.{option_map}
+use Rattle.std.specs.Path.{rsplit_once}
 use Rattle.std.specs.Str.{bytes_eq}
 use Rattle.cy_request.specs.declared.filter.Filter.{Filter}
-use Rattle.cy_request.specs.Request.{Components, OfFiles, OfPass, Request}
+use Rattle.cy_request.specs.Request.{Components, OfFiles, OfPass, Request, StopAt}
 use Rattle.cy_words.specs.Options.{Known, Options, flagged, valued}
 
 -- What is asked of a play: what is replayed, the names of the record and of the trace that are
@@ -17,13 +18,13 @@ pub record PlayWords : Type 0 where
   pub trace : List ℕ
   pub serial : Bool
 
--- A serial play of all messages of a record.
+-- A serial play of all messages of a record, with no stop.
 abbrev pub all_messages : Filter
 all_messages = record { only = None; drop = []; begin = 0; end = 2 ^ 64 - 1 }
 
 abbrev pub play_of_all : Components → (input output trace : List ℕ) → PlayWords
 play_of_all components input output trace = record {
-  request = record { components = components; input = input; filter = all_messages };
+  request = record { components = components; input = input; filter = all_messages; stop = None };
   output = output;
   trace = trace;
   serial = true;
@@ -68,12 +69,24 @@ abbrev pub is_list_or_none : Option (List ℕ) → Bool
 is_list_or_none None = true
 is_list_or_none (Some text) = is_list text
 
+-- A stop: the name of a component and a time, which is a number, around the last `@` of a text. The
+-- name is not empty.
+abbrev pub stop_at : List ℕ → Option StopAt
+stop_at text = do
+  parts ← rsplit_once 64 text
+  time ← spelled_number parts.1
+  if length parts.0 == 0 then None else Some record { component = parts.0; time = time }
+
+abbrev pub stop_or_none : Option (List ℕ) → Option (Option StopAt)
+stop_or_none None = Some None
+stop_or_none (Some text) = option_map Some (stop_at text)
+
 -- What `play` knows.
 abbrev pub play_known : List Known
 play_known = valued (codes "dag") ∷ valued (codes "sched") ∷ valued (codes "record")
     ∷ valued (codes "out") ∷ valued (codes "trace") ∷ valued (codes "channels")
     ∷ valued (codes "drop") ∷ valued (codes "begin") ∷ valued (codes "end")
-    ∷ flagged (codes "serial") ∷ []
+    ∷ valued (codes "stop") ∷ flagged (codes "serial") ∷ []
 
 -- What the options say, where those are given that every `play` has.
 abbrev pub play_words : Options → Option PlayWords
@@ -84,6 +97,7 @@ play_words o = do
   trace ← o (codes "trace")
   begin ← number_or 0 (o (codes "begin"))
   end ← number_or (2 ^ 64 - 1) (o (codes "end"))
+  stop ← stop_or_none (o (codes "stop"))
   Some record {
     request = record {
       components = OfFiles dag (o (codes "sched"));
@@ -94,6 +108,7 @@ play_words o = do
         begin = begin;
         end = end;
       };
+      stop = stop;
     };
     output = output;
     trace = trace;

@@ -1,19 +1,19 @@
 // The words of `play`.
 ghost use Rattle.std.specs.Prelude.{◌≡◌, is_some, option_map};
-ghost use Rattle.cy_request.specs.Request.{components_of};
+ghost use Rattle.cy_request.specs.Request.{components_of, stop_at_of};
 ghost use Rattle.cy_words.specs.PlayWords.{with_digit, spelled_number, number_or, is_list};
 ghost use Rattle.cy_words.specs.PlayWords.{is_list_or_none, is_no_config, is_other, is_play};
 ghost use Rattle.cy_words.specs.PlayWords.{is_some_of};
 ghost use Rattle.cy_words.specs.PlayWords.{are_lists, play_asked, play_known, play_of_all};
-ghost use Rattle.cy_words.specs.PlayWords.{play_words, where_play};
+ghost use Rattle.cy_words.specs.PlayWords.{play_words, stop_at, stop_or_none, where_play};
 ghost use Rattle.cy_words.specs.PlayViews.{play_words_of};
 ghost use Rattle.cy_words.specs.private.OptionViews.{values_of};
 
 use crate::options::{Kind, Known, Values};
-use cy_request::Components;
+use cy_request::{Components, StopAt};
 
 /// What `play` knows.
-pub(crate) const PLAY: [Known; 10] = [
+pub(crate) const PLAY: [Known; 11] = [
     ("dag", Kind::Value),
     ("sched", Kind::Value),
     ("record", Kind::Value),
@@ -23,10 +23,12 @@ pub(crate) const PLAY: [Known; 10] = [
     ("drop", Kind::Value),
     ("begin", Kind::Value),
     ("end", Kind::Value),
+    ("stop", Kind::Value),
     ("serial", Kind::Flag),
 ];
 
-/// What is asked of a play: its components, names of files, and which messages are let through.
+/// What is asked of a play: its components, names of files, which messages are let through, and the
+/// stop.
 #[derive(Clone, Copy)]
 pub struct Play<'a> {
     /// The components, or the files that name them.
@@ -45,6 +47,8 @@ pub struct Play<'a> {
     pub begin: u64,
     /// The greatest time, in nanoseconds.
     pub end: u64,
+    /// The stop, where one is asked for.
+    pub stop: Option<StopAt<'a>>,
     /// Whether one thread plays all.
     pub serial: bool,
 }
@@ -89,6 +93,29 @@ fn number_or(absent: u64, text: Option<&str>) -> Option<u64>
     }
 }
 
+// A stop, of the name of a component, `@` and a time.
+fn stop_at(text: &str) -> Option<StopAt<'_>>
+    ensures { option_map stop_at_of result ≡ stop_at text.now }
+{
+    let (component, time) = text.rsplit_once('@')?;
+    let time = spelled_number(time)?;
+    if component.is_empty() {
+        return None;
+    }
+    Some(StopAt { component, time })
+}
+
+// The same where there is one.
+fn stop_or_none(text: Option<&str>) -> Option<Option<StopAt<'_>>>
+    ensures { option_map (option_map stop_at_of) result
+        ≡ stop_or_none (option_map (λ v. v.now) text.entry) }
+{
+    match text {
+        Some(text) => Some(Some(stop_at(text)?)),
+        None => Some(None),
+    }
+}
+
 // Whether a list has no empty name.
 #[tactic(auto, unfolding(crate::specs::PlayWords::is_list))]
 fn is_list(text: &str) -> bool
@@ -128,7 +155,7 @@ fn is_no_config(name: &str, components: &Components) -> bool
 }
 
 impl<'a> Play<'a> {
-    /// A serial play of all messages.
+    /// A serial play of all messages, with no stop.
     pub fn of_all(
         components: Components<'a>,
         input: &'a str,
@@ -147,6 +174,7 @@ impl<'a> Play<'a> {
             drop: None,
             begin: 0,
             end: u64::MAX,
+            stop: None,
             serial: true,
         }
     }
@@ -197,6 +225,14 @@ fn number(values: Values, absent: u64, name: &str) -> Option<u64>
     number_or(absent, value(values, name))
 }
 
+// The stop that the option of this name gives, if it is given.
+fn stop_asked<'a>(values: Values<'_, 'a>, name: &str) -> Option<Option<StopAt<'a>>>
+    ensures { option_map (option_map stop_at_of) result
+        ≡ stop_or_none (values_of play_known values.entry name.now) }
+{
+    stop_or_none(value(values, name))
+}
+
 // Whether an option has no list with an empty name.
 fn has_list(values: Values, name: &str) -> bool
     ensures { result ≡ is_list_or_none (values_of play_known values.entry name.now) }
@@ -221,6 +257,7 @@ fn play_with<'a>(values: Values<'_, 'a>) -> Option<Play<'a>>
     let trace = value(values, "trace")?;
     let begin = number(values, 0, "begin")?;
     let end = number(values, u64::MAX, "end")?;
+    let stop = stop_asked(values, "stop")?;
     let sched = value(values, "sched");
     let only = value(values, "channels");
     let drop = value(values, "drop");
@@ -234,6 +271,7 @@ fn play_with<'a>(values: Values<'_, 'a>) -> Option<Play<'a>>
         drop,
         begin,
         end,
+        stop,
         serial,
     })
 }

@@ -44,8 +44,9 @@ fn due_with_threads<'s, S: Store, G: Gate, R: Threads + Wait + Sync>(
 /// `play --dag F --record F --out F --trace F`, with `--sched F` and the options `--channels LIST`,
 /// `--drop LIST`, `--begin N` and `--end N` that choose messages, plays a record through the
 /// components of a DAG, and writes a record of all messages and a trace of all calls. Components
-/// run on threads, as the placement says; with `--serial` one thread does all. `pass RECORD OUT
-/// TRACE FROM TO` is a serial play through one component that passes each message of the channel
+/// run on threads, as the placement says; with `--serial` one thread does all. `--stop NAME@N` ends
+/// the component of this name once the messages up to time N are played. `pass RECORD OUT TRACE
+/// FROM TO` is a serial play through one component that passes each message of the channel
 /// FROM on to the channel TO.
 ///
 /// `check --dag F [--sched F]` prints what configuration files say, and `info FILE` what a record

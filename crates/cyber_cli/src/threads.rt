@@ -29,7 +29,7 @@ fn world_of_threads<G: Gate, R: Threads + Wait + Sync>(
     replay: &Replay,
     gate: &G,
 ) -> Result<World, AllocError>
-    requires set_up { IsSetUp (play_words_of play.now).request.filter replay.now }
+    requires set_up { IsSetUp (play_words_of play.now).request replay.now }
     requires threads { (play_words_of play.now).serial ≡ false }
     ensures run { IfOk result (λ w. HasRun (play_words_of play.now).serial replay.now
         (plain_of w)) }
@@ -53,7 +53,7 @@ fn world_as_asked<G: Gate, R: Threads + Wait + Sync>(
     replay: &Replay,
     gate: &G,
 ) -> Result<World, AllocError>
-    requires { IsSetUp (play_words_of play.now).request.filter replay.now }
+    requires { IsSetUp (play_words_of play.now).request replay.now }
     ensures run { IfOk result (λ w. HasRun (play_words_of play.now).serial replay.now
         (plain_of w)) }
 {
@@ -74,7 +74,7 @@ pub fn due_played_with_threads<'a, S: Store, G: Gate, R: Threads + Wait + Sync>(
     replay: Replay,
     gate: &G,
 ) -> Due<'a>
-    requires set_up { IsSetUp (play_words_of play.now).request.filter replay }
+    requires set_up { IsSetUp (play_words_of play.now).request replay }
     ensures { (before : StoreView) → SetsUp (play_words_of play.now) before (S.shows store.old)
         (Ok replay) → IsDueFor (command.Play (play_words_of play.now)) before
         (S.shows store.new) result.status (bytes_of_line result.line) }

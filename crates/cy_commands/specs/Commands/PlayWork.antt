@@ -1,6 +1,6 @@
 -- What `play` makes of its files.
 use Rattle.std.specs.Prelude.{ℕ, ◌≡◌, ⊤, Bool, true, false, List, [], ◌∷◌, ◌++◌, length, map}
-use Rattle.std.specs.Prelude.{None}
+use Rattle.std.specs.Prelude.{Option}
 use Rattle.std.specs.FinMap.{insert}
 use Rattle.cy_store.specs.Files.{Files}
 use Rattle.cy_store.specs.Reads.{Reads}
@@ -8,6 +8,7 @@ use Rattle.cy_store.specs.Write.{Write, after_writes}
 use Rattle.cy_msg.specs.Placement.{scan_of}
 use Rattle.cy_msg.specs.declared.placement.ContextPlan.{ContextPlan}
 use Rattle.cy_msg.specs.declared.play_list.PlayList.{PlayList}
+use Rattle.cy_msg.specs.declared.stop.Stop.{Stop}
 use Rattle.cy_msg.specs.declared.token.Token.{Token}
 use Rattle.cy_section.specs.RecordText.{IsRecordText, record_bytes}
 use Rattle.cy_reader.specs.Play.{IsPlayList}
@@ -25,6 +26,7 @@ use Rattle.cy_replay.specs.Listing.{choice_of}
 use Rattle.cy_writer.specs.RecordWrites.{file_writes, record_puts}
 use Rattle.cy_recording.specs.Recording.{Source, channels_of_tape, messages_of_tape, chunks_of_tape}
 use Rattle.cy_replay.specs.Setup.{Replayed, replay_in}
+use Rattle.cy_replay.specs.Stops.{stop_of}
 use Rattle.cy_commands.specs.Work.{Work}
 use Rattle.cy_words.specs.PlayWords.{PlayWords}
 use Rattle.cy_trace.specs.Summary.{calls_from, summary_line}
@@ -60,20 +62,20 @@ play_line s list run = summary_line (length list.tokens) list.shadowed (calls_fr
     (length run.tape)
 
 -- The run that a world shows is the serial one, where that is asked for; on threads it may be any.
--- No component is stopped in either.
-abbrev pub IsRunOf : (serial : Bool) → List Route → List ℕ → List Token → Plain → Type 0
-IsRunOf true routes scan tokens w = SerialRun routes None scan tokens (run_shown w)
-IsRunOf false routes scan tokens w = ⊤
+abbrev pub IsRunOf : (serial : Bool) → List Route → Option Stop → List ℕ → List Token → Plain
+    → Type 0
+IsRunOf true routes stop scan tokens w = SerialRun routes stop scan tokens (run_shown w)
+IsRunOf false routes stop scan tokens w = ⊤
 
--- A lawful run of the play list over the placed components, with no stop: the serial one, where it
--- is asked for.
-pub record IsPlayed (serial : Bool) (read : Replayed) (list : PlayList)
+-- A lawful run of the play list over the placed components, with this stop or none: the serial one,
+-- where it is asked for.
+pub record IsPlayed (serial : Bool) (read : Replayed) (list : PlayList) (stop : Option Stop)
     (contexts : List ContextPlan) (w : Plain) : Type 0 where
-  pub run : IsRunOf serial (routes_of read.wired.plans) (scan_of contexts) list.tokens w
-  pub lawful : LawfulRun list.tokens (routes_of read.wired.plans) None w
+  pub run : IsRunOf serial (routes_of read.wired.plans) stop (scan_of contexts) list.tokens w
+  pub lawful : LawfulRun list.tokens (routes_of read.wired.plans) stop w
 
--- What `play` makes of what was read: the record and the trace of one
--- lawful run, each of the form that is read back, written in their order, after which both files
+-- What `play` makes of what was read: the record and the trace of one lawful run, with the stop that
+-- is asked for, each of the form that is read back, written in their order, after which both files
 -- hold them and every other name is as before; and the line with the run's numbers.
 pub record IsPlayWork (w : PlayWords) (read : Replayed) (work : Work) : Type 0 where
   pub list : PlayList
@@ -82,7 +84,8 @@ pub record IsPlayWork (w : PlayWords) (read : Replayed) (work : Work) : Type 0 w
   pub placed : IsPlaced read.configured.sched (map (λ c. c.name) read.configured.dag.components)
       contexts
   pub world : Plain
-  pub played : IsPlayed w.serial read list contexts world
+  pub played : IsPlayed w.serial read list (stop_of w.request.stop read.wired list.tokens) contexts
+      world
   pub record_text : IsRecordText (channels_of_tape (source_in read list) world.tape)
       (messages_of_tape (source_in read list) world.tape)
       (tape_record w (source_in read list) world.tape)

@@ -19,13 +19,13 @@ use Rattle.cy_commands.specs.declared.status.Status.TheVariants.{StoreFault, Mem
 use Rattle.cy_commands.specs.Lines.{store_line, memory_line}
 use Rattle.cy_words.specs.MakeWords.{MakeWords}
 use Rattle.cy_commands.specs.Commands.MakeWork.{play_made, made_files}
-use Rattle.cy_words.specs.PlayWords.{PlayWords, all_messages, play_of_all}
+use Rattle.cy_words.specs.PlayWords.{PlayWords, play_of_all}
 use Rattle.cy_commands.specs.Commands.PlayWork.{replayed_in}
 
 -- A replay is that of the files that are made.
 pub record IsMade (w : MakeWords) (x : Replay) : Type 0 where
   pub read : replayed_in (play_made w) (made_files w) ≡ Accepts (replayed x)
-  pub set_up : IsSetUp all_messages x
+  pub set_up : IsSetUp (play_made w).request x
 
 -- The status that is due where a file of the play was not made, and its line.
 abbrev pub IsDueUnmade : MakeWords → MakeError → Status → List ℕ → Type 0

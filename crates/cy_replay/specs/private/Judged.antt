@@ -1,4 +1,5 @@
 -- What is judged of a configuration and a record, once its components are wired.
+use Rattle.std.specs.Prelude.{ℕ, List}
 use Rattle.cy_store.specs.Reads.{Reads, Accepts, ◌>>=◌}
 use Rattle.cy_comp.specs.declared.wiring.Wiring.{Wiring}
 use Rattle.cy_request.specs.Request.{Request}
@@ -10,11 +11,14 @@ use Rattle.cy_replay.specs.declared.setup.Replay.{Replay}
 use Rattle.cy_replay.specs.Configuration.{Configured}
 use Rattle.cy_replay.specs.Listing.{choice_of, counts_of, planned_in, played_in}
 use Rattle.cy_replay.specs.Setup.{Replayed, replayed}
+use Rattle.cy_replay.specs.Stops.{stop_in}
 use Rattle.cy_replay.specs.Wiring.{Wired}
 
--- What is judged behind a wiring: how many messages are played, and how many entries are planned.
-abbrev pub judged_over : Request → Configured → Contents → Wired → Reads Refusal Replayed
-judged_over r configured contents wired = do
+-- What is judged behind a wiring: the component that a stop names, how many messages are played, and
+-- how many entries are planned.
+abbrev pub judged_over : List ℕ → Request → Configured → Contents → Wired → Reads Refusal Replayed
+judged_over file r configured contents wired = do
+  found ← stop_in file r.stop wired
   played ← played_in r.input contents (choice_of r.filter wired)
   planned ← planned_in r.input wired (counts_of contents (choice_of r.filter wired))
   Accepts record { configured = configured; contents = contents; wired = wired }
@@ -27,6 +31,7 @@ replay_of configuration recorded wiring j = record {
   wiring = wiring;
   placement = j.placement;
   list = j.list;
+  stop = j.stop;
   counts = j.counts;
 }
 

@@ -120,7 +120,8 @@ fn ends_a_play(
     ];
     let ran = run(alloc, &words, MemStore::new(alloc))?;
     let option = options[0];
-    assert_eq!(rt; ran.status, status, "{option}");
+    let value = options[1];
+    assert_eq!(rt; ran.status, status, "{option} {value}");
     Ok(())
 }
 
@@ -137,6 +138,28 @@ fn refuses_an_empty_number(rt: HostRuntime) -> Result<(), Fail> {
     }
     ends_a_play(&rt, alloc, ["--begin", "0"], Status::StoreFault)?;
     ends_a_play(&rt, alloc, ["--begin=0", "--end=1"], Status::StoreFault)
+}
+
+// The last @ parts the name of a component, which isn't empty, and a time.
+#[test]
+fn takes_a_stop_of_a_name_and_a_time(rt: HostRuntime) -> Result<(), Fail> {
+    let alloc = rt.alloc();
+    for stop in [
+        "", "p", "5", "@", "@5", "p@", "p@-1", "p@+1", "p@1x", "p@x1", "p@ 1", "p@1 ", "p@1@",
+        "p@1@x", "-p@1", "p@18446744073709551616", "p@000000000000000000001",
+    ] {
+        ends_a_play(&rt, alloc, ["--stop", stop], Status::Usage)?;
+    }
+    ends_a_play(&rt, alloc, ["--stop=", "--end=1"], Status::Usage)?;
+    ends_a_play(&rt, alloc, ["--stop=p", "--end=1"], Status::Usage)?;
+    ends_a_play(&rt, alloc, ["--stop=p@1", "--stop=p@2"], Status::Usage)?;
+    for stop in [
+        "p@0", "p@5", "p@18446744073709551615", "p@00000000000000000005", "p@q@5", "@@5", "p@@5",
+        "p=q@5", "p q@5",
+    ] {
+        ends_a_play(&rt, alloc, ["--stop", stop], Status::StoreFault)?;
+    }
+    ends_a_play(&rt, alloc, ["--stop=p=q@5", "--end=1"], Status::StoreFault)
 }
 
 // What can't be told ends as a fault of the sink, with a prefix of its line: that the words are of

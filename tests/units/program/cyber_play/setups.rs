@@ -2,7 +2,7 @@
 use super::ran::chain_store;
 use cy_msg::Items;
 use cy_replay::{Fault, Replay, SetupError, set_up};
-use cy_request::{Components, Filter, Request};
+use cy_request::{Components, Filter, Request, StopAt};
 use cy_store::{MemStore, Store};
 use std::alloc::Global;
 use std::test::Fail;
@@ -10,11 +10,12 @@ use std::test::Fail;
 /// The calls that make the files of the chain.
 const CALLS_BEFORE: u64 = 8;
 
-// Sets the chain up, with a scheduler file or without one, to play all of its record.
+// Sets the chain up, with a scheduler file and a stop or without them, to play all of its record.
 fn set_up_chain(
     alloc: Global,
     store: &mut MemStore,
     sched: Option<&str>,
+    stop: Option<StopAt>,
 ) -> Result<Replay, SetupError> {
     let filter = Filter {
         only: None,
@@ -29,6 +30,7 @@ fn set_up_chain(
         },
         input: "a.rec",
         filter: &filter,
+        stop,
     };
     set_up(alloc, store, &request)
 }
@@ -40,6 +42,7 @@ fn kind_of(fault: &Fault) -> &'static str {
         Fault::Text(_) => "Text",
         Fault::Dag(_) => "Dag",
         Fault::Sched(_) => "Sched",
+        Fault::StopUnknown { .. } => "StopUnknown",
         Fault::Record(_) => "Record",
         Fault::TooMany { .. } => "TooMany",
     }
@@ -75,11 +78,11 @@ fn names_the_file_whose_call_failed(rt: HostRuntime) -> Result<(), Fail> {
     ] {
         let mut store = chain_store(alloc)?;
         store.fail_at(CALLS_BEFORE + call, 0)?;
-        let answer = set_up_chain(alloc, &mut store, None);
+        let answer = set_up_chain(alloc, &mut store, None, None);
         assert_eq!(rt; told(alloc, answer)?.as_str(), want, "{call}");
     }
     let mut store = chain_store(alloc)?;
-    let answer = set_up_chain(alloc, &mut store, Some("s.sched"));
+    let answer = set_up_chain(alloc, &mut store, Some("s.sched"), None);
     assert_eq!(rt; told(alloc, answer)?.as_str(), "s.sched Store");
     Ok(())
 }
@@ -103,8 +106,45 @@ fn names_the_file_that_is_refused(rt: HostRuntime) -> Result<(), Fail> {
         store.put_at("s.sched", 0, b"scheduler_conf { default_proc_num: 1 }")?;
         store.create(name)?;
         store.put_at(name, 0, text.as_bytes())?;
-        let answer = set_up_chain(alloc, &mut store, Some("s.sched"));
+        let answer = set_up_chain(alloc, &mut store, Some("s.sched"), None);
         assert_eq!(rt; told(alloc, answer)?.as_str(), want, "{name} {text}");
+    }
+    Ok(())
+}
+
+// The record of the chain has one message, at time 1.
+#[test]
+fn counts_the_messages_up_to_a_stop(rt: HostRuntime) -> Result<(), Fail> {
+    let alloc = rt.alloc();
+    for (component, time, number, after) in
+        [("p", 0, 0, 0), ("p", 1, 0, 1), ("r", 0, 1, 0), ("r", u64::MAX, 1, 1)]
+    {
+        let mut store = chain_store(alloc)?;
+        let asked = Some(StopAt { component, time });
+        let Ok(replay) = set_up_chain(alloc, &mut store, None, asked) else {
+            panic!(rt; "{component} {time}");
+        };
+        let stop = replay.stop.map(|stop| (stop.component, stop.after));
+        assert_eq!(rt; stop, Some((number, after)), "{component} {time}");
+    }
+    Ok(())
+}
+
+// It comes behind a fault of the wiring.
+#[test]
+fn refuses_a_stop_of_no_component(rt: HostRuntime) -> Result<(), Fail> {
+    let alloc = rt.alloc();
+    for (component, text, want) in [
+        ("q", "out: \"/o\"", "d.dag StopUnknown"),
+        ("/o", "out: \"/o\"", "d.dag StopUnknown"),
+        ("q", "out: \"/a\"", "d.dag Dag"),
+    ] {
+        let mut store = chain_store(alloc)?;
+        store.create("p.conf")?;
+        store.put_at("p.conf", 0, text.as_bytes())?;
+        let asked = Some(StopAt { component, time: 5 });
+        let answer = set_up_chain(alloc, &mut store, None, asked);
+        assert_eq!(rt; told(alloc, answer)?.as_str(), want, "{component} {text}");
     }
     Ok(())
 }

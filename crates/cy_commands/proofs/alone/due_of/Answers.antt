@@ -1,4 +1,3 @@
-use Rattle.cy_commands.specs.Line.{bytes_of_line}
 use Rattle.cy_commands.proofs.OneDue.{ended, played}
 use Rattle.cy_commands.proofs.alone.due_of.Goals as goal
 

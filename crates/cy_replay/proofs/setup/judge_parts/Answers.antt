@@ -3,25 +3,33 @@ use Rattle.std.proofs.lemmas.Result.{err_from_is_err_and}
 use Rattle.cy_replay.specs.private.Judged.{judged_as}
 use Rattle.cy_replay.specs.Listing.{choice_of}
 use Rattle.cy_request.specs.Request.{request_of}
+use Rattle.cy_replay.specs.Stops.{stop_of}
 use Rattle.cy_replay.specs.Wiring.{wired_by}
 use Rattle.cy_replay.proofs.Judging.{judges_memory, passed_on}
 use Rattle.cy_replay.proofs.Playable.{all_below}
-use Rattle.cy_replay.proofs.Setting.{channels_named, some_names, as_many, counted, list_stops, planned_stops, all_judged, played_few, planned_few, is_set_up}
+use Rattle.cy_replay.proofs.Setting.{channels_named, some_names, as_many, counted, stop_stops, list_stops, planned_stops, all_judged, played_few, planned_few, is_set_up}
 use Rattle.cy_replay.proofs.setup.judge_parts.Goals as goal
 
 pub list_messages-requires : goal.list_messages-requires
-list_messages-requires c = channels_named (request_of c.args.request.now) c.args.configuration.now c.args.recorded.now c.args.wiring.now c.requires.wired
+list_messages-requires c = channels_named c.args.file.now (request_of c.args.request.now) c.args.configuration.now c.args.recorded.now c.args.wiring.now c.requires.wired
 
-pub returns-in_err-list-clause-judged : goal.returns-in_err-list-clause-judged
-returns-in_err-list-clause-judged c =
+pub returns-in_err-test_stop-clause-judged : goal.returns-in_err-test_stop-clause-judged
+returns-in_err-test_stop-clause-judged c =
     let p = err_from_is_err_and c.from_residual.result c.from_residual.ensures.1 in
     let view = judged_as c.args.configuration.now c.args.recorded.now c.args.wiring.now in
     passed_on _ _ c.from_residual.result p.0 _ p.1 p.2
-    (list_stops (request_of c.args.request.now) c.args.configuration.now c.args.recorded.now c.args.wiring.now c.requires.wired view _ c.in_err-list.ensures.judged)
+    (stop_stops c.args.file.now (request_of c.args.request.now) c.args.configuration.now c.args.recorded.now c.args.wiring.now c.requires.wired view _ c.in_err-test_stop.ensures)
+
+pub returns-in_err-list-clause-judged : goal.returns-in_err-list-clause-judged
+returns-in_err-list-clause-judged c =
+    let p = err_from_is_err_and c.from_residual-in_err-list.result c.from_residual-in_err-list.ensures.1 in
+    let view = judged_as c.args.configuration.now c.args.recorded.now c.args.wiring.now in
+    passed_on _ _ c.from_residual-in_err-list.result p.0 _ p.1 p.2
+    (list_stops c.args.file.now (request_of c.args.request.now) c.args.configuration.now c.args.recorded.now c.args.wiring.now c.requires.wired view _ c.in_ok-test_stop.field-0 c.in_ok-test_stop.ensures c.in_err-list.ensures.judged)
 
 pub counts_of-requires-clause-named : goal.counts_of-requires-clause-named
 counts_of-requires-clause-named c =
-    let some = some_names (request_of c.args.request.now) c.args.configuration.now c.args.recorded.now c.args.wiring.now c.requires.wired in
+    let some = some_names c.args.file.now (request_of c.args.request.now) c.args.configuration.now c.args.recorded.now c.args.wiring.now c.requires.wired in
     rw (c.as_slice.ensures, c.count.ensures.count) (all_below c.args.recorded.now _ c.in_ok-list.list c.in_ok-list.ensures.listed some)
 
 pub counts_of-requires-clause-few : goal.counts_of-requires-clause-few
@@ -43,8 +51,8 @@ returns-in_err-test_planned-clause-judged c =
     let view = judged_as c.args.configuration.now c.args.recorded.now c.args.wiring.now in
     let are = rw (c.count.ensures.count, c.as_slice.ensures) at c.in_ok-counts.ensures in
     passed_on _ _ c.from_residual-in_err-test_planned.result p.0 _ p.1 p.2
-    (planned_stops (request_of c.args.request.now) c.args.configuration.now c.args.recorded.now c.args.wiring.now c.requires.wired c.in_ok-list.list c.in_ok-counts.counts.items
-    c.in_ok-list.ensures.judged c.in_ok-list.ensures.listed are view _ (rw c.deref.ensures.value at c.in_err-test_planned.ensures.judged))
+    (planned_stops c.args.file.now (request_of c.args.request.now) c.args.configuration.now c.args.recorded.now c.args.wiring.now c.requires.wired c.in_ok-list.list c.in_ok-counts.counts.items
+    c.in_ok-test_stop.field-0 c.in_ok-test_stop.ensures c.in_ok-list.ensures.judged c.in_ok-list.ensures.listed are view _ (rw c.deref.ensures.value at c.in_err-test_planned.ensures.judged))
 
 pub returns-in_err-placement-clause-judged : goal.returns-in_err-placement-clause-judged
 returns-in_err-placement-clause-judged c =
@@ -52,12 +60,16 @@ returns-in_err-placement-clause-judged c =
     let view = judged_as c.args.configuration.now c.args.recorded.now c.args.wiring.now in
     passed_on _ _ c.from_residual-in_err-placement.result p.0 _ p.1 p.2 (judges_memory view _ _ c.in_err-placement.ensures.only_memory)
 
+pub stop_of-stop-requires : goal.stop_of-stop-requires
+stop_of-stop-requires c =
+    rw c.as_slice-2.ensures (played_few c.args.request.now.input.now c.args.recorded.now (choice_of c.args.request.now.filter.now (wired_by c.args.wiring.now)) c.in_ok-list.list c.in_ok-list.ensures.judged)
+
 pub returns-clause-judged : goal.returns-clause-judged
 returns-clause-judged c =
     let view = judged_as c.args.configuration.now c.args.recorded.now c.args.wiring.now in
     let are = rw (c.count.ensures.count, c.as_slice.ensures) at c.in_ok-counts.ensures in
-    all_judged (request_of c.args.request.now) c.args.configuration.now c.args.recorded.now c.args.wiring.now c.requires.wired c.in_ok-list.list c.in_ok-counts.counts.items
-    c.in_ok-list.ensures.judged c.in_ok-list.ensures.listed are view c.in_ok-test_planned.field-0 _ (rw c.deref.ensures.value at c.in_ok-test_planned.ensures.judged) refl
+    all_judged c.args.file.now (request_of c.args.request.now) c.args.configuration.now c.args.recorded.now c.args.wiring.now c.requires.wired c.in_ok-list.list c.in_ok-counts.counts.items
+    c.in_ok-test_stop.field-0 c.in_ok-test_stop.ensures c.in_ok-list.ensures.judged c.in_ok-list.ensures.listed are view c.in_ok-test_planned.field-0 _ (rw c.deref.ensures.value at c.in_ok-test_planned.ensures.judged) refl
 
 pub returns-clause-set_up : goal.returns-clause-set_up
 returns-clause-set_up c =
@@ -67,8 +79,10 @@ returns-clause-set_up c =
     let w = c.args.wiring.now in
     let wired = c.requires.wired in
     let are = rw (c.count.ensures.count, c.as_slice.ensures) at c.in_ok-counts.ensures in
-    let some = some_names request conf recorded w wired in
-    let many = as_many request conf recorded w wired in
-    let is = counted request conf recorded w wired c.in_ok-list.list c.in_ok-counts.counts.items c.in_ok-list.ensures.judged c.in_ok-list.ensures.listed are in
+    let file = c.args.file.now in
+    let some = some_names file request conf recorded w wired in
+    let many = as_many file request conf recorded w wired in
+    let is = counted file request conf recorded w wired c.in_ok-list.list c.in_ok-counts.counts.items c.in_ok-test_stop.field-0 c.in_ok-test_stop.ensures c.in_ok-list.ensures.judged c.in_ok-list.ensures.listed are in
+    let stopped = c.stop_of-stop.ensures ∙ ap (stop_of request.stop (wired_by w)) c.as_slice-2.ensures in
     let few = planned_few c.args.request.now.input.now (wired_by w) c.in_ok-counts.counts.items _ (rw c.deref.ensures.value at c.in_ok-test_planned.ensures.judged) in
-    is_set_up c.args.request.now.filter.now _ c.in_ok-list.ensures.listed c.in_ok-placement.ensures.placed (rw (sym c.new.ensures) at are) (c.new.ensures ∙ is) (rw c.new.ensures few) some c.in_ok-placement.ensures.scan many c.count.ensures.once
+    is_set_up c.put.ensures request _ c.in_ok-list.ensures.listed stopped c.in_ok-placement.ensures.placed (rw (sym c.new.ensures) at are) (c.new.ensures ∙ is) (rw c.new.ensures few) some c.in_ok-placement.ensures.scan many c.count.ensures.once
