@@ -15,6 +15,7 @@ use Rattle.cy_msg.specs.Tokens.{on_channel}
 use Rattle.cy_msg.specs.declared.token.Token.{Token}
 use Rattle.cy_msg.specs.declared.play_list.PlayList.{PlayList}
 use Rattle.cy_msg.specs.declared.stop.Stop.{Stop}
+use Rattle.cy_fuse.specs.declared.overflow.Overflow.TheVariants.{Newest}
 use Rattle.cy_comp.specs.declared.kind.Kind.TheVariants.{Pass}
 use Rattle.cy_comp.specs.declared.plan.Plan.{Plan}
 use Rattle.cy_comp.specs.Wiring.{IsWiring}
@@ -218,7 +219,7 @@ few_up_to time (t ∷ rest) = by (nat_le t.time time) (few_up_to time rest)
     by false few = omega (arith, few)
 
 no_plan : Plan
-no_plan = record { name = []; kind = Pass; readers = []; queue = 1; out = 0; out_type = [] }
+no_plan = record { name = []; kind = Pass; readers = []; queue = 1; overflow = Newest; out = 0; out_type = [] }
 
 stop_within : (asked : Option StopAt) (w : Wired) (tokens : List Token) (s : Stop) → stop_of asked w tokens ≡ Some s → (s.component < length w.plans) × (s.after ≤ length tokens)
 stop_within None w tokens s given = absurd cc
