@@ -373,6 +373,21 @@ plays_with_a_stop() { # what it shows, the class, the name, the component file, 
   holds files/trace trace
 }
 
+# Plays a burst of six messages through a component that holds them back one by one, and keeps two; compares the line and the trace up to
+# its tape with what is given, and all with what a Python script makes of the same files.
+goes_on_after_a_burst() { # what it does then, the word for it, the line, and the trace
+  begin "goes on after a burst $1"
+  one_component HoldComponent 'readers { channel: "/a" pending_queue_size: 2 }' "out: \"/o\" delay: 10 on_overflow: $2"
+  (cd files && eval "$(write_record '[(b"/a", 100 + k, content_of(k)) for k in range(6)]' '{}')")
+  (cd files && python3 "$top/tests/replay.py" ../rec ../trace ../line --dag d.dag --record in.rec)
+  run play --dag d.dag --record in.rec --out out.rec --trace trace --serial
+  ends 0 "$3" ''
+  [ "$(grep -v '^tape' files/trace)" = "$4" ]
+  count $? "$name: the trace is '$(grep -v '^tape' files/trace)'"
+  holds files/out.rec rec
+  holds files/trace trace
+}
+
 refuses_a_stop() { # what is wrong, the status, the line behind `cyber: `, the stop, and a command that changes the files
   begin "refuses $1"
   one_component PassComponent "$READS_IN" 'out: "/o"'
@@ -724,6 +739,25 @@ plays_one_component 'what is not dropped' two.rec '--drop /x,/in' 'done: played 
 plays_one_component 'the channels that are wanted' one.rec '--channels /y,/in --end 18446744073709551615' \
   'done: played 1, shadowed 0, calls 1, written 2' 'call 1/1 1 1@100=7'
 
+plays_as_described --dag examples/burst/burst.dag --record examples/burst/burst.rec
+goes_on_after_a_burst 'at the newest message' NEWEST 'done: played 6, shadowed 0, calls 2, written 8' \
+  'cyber-trace 1
+played 6 shadowed 0
+component "p"
+roles 000000
+call 1/1 1 1@110=0
+call 6/6 6 2@115=5
+end DATA_WAIT next 7'
+goes_on_after_a_burst 'at the oldest message that is kept' OLDEST 'done: played 6, shadowed 0, calls 3, written 9' \
+  'cyber-trace 2
+played 6 shadowed 0
+component "p" overflow OLDEST
+roles 000000
+call 1/1 1 1@110=0
+call 5/6 5 2@114=4
+call 6/6 6 3@115=5
+end DATA_WAIT next 7'
+
 plays_with_a_stop 'between two messages' PassComponent p 'out: "/o"' '1, 2, 3, 4' p@2 'done: played 4, shadowed 0, calls 2, written 6' \
   'roles 0000
 call 1/1 1 1@1=1
@@ -836,6 +870,8 @@ refuses_a_dag 'a component without a reader' 'd.dag: NoReader 0' PassComponent '
 refuses_a_dag 'a component without a file' 'd.dag: Missing 0 "config_file_path"' PassComponent 'readers { channel: "/a" }' ''
 refuses_a_dag 'a parameter that is missing' 'p.conf: Missing 0 "hi"' FilterComponent "$READS_A" 'out: "/o" lo: 1'
 refuses_a_dag 'a parameter that is no number' 'p.conf: NotWhole 0 "lo"' FilterComponent "$READS_A" 'out: "/o" lo: "x" hi: 1'
+refuses_a_dag 'a component that goes on in no known way' 'p.conf: NotOverflow 0' PassComponent "$READS_A" \
+  'out: "/o" on_overflow: "OLDEST" n: 3'
 refuses_a_dag 'a component without a channel' 'p.conf: Missing 0 "out"' PassComponent "$READS_A" 'colour: 3'
 refuses_a_dag 'a value of another kind' 'p.conf: Shape "out"' PassComponent "$READS_A" 'out: 3'
 refuses_a_dag 'a text with a fault' 'p.conf: line 1 column 6: Quote' PassComponent "$READS_A" 'out: "/o'

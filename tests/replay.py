@@ -95,6 +95,7 @@ class Component:
     queue: int
     config: list
     out: bytes
+    overflow: bytes = b"NEWEST"
     roles: str = ""
     latest: dict = field(default_factory=dict)
     tuples: list = field(default_factory=list)
@@ -119,7 +120,9 @@ class Component:
         tail = len(self.tuples)
         if tail == 0 or self.index > tail:
             return None
-        return tail if self.index == 0 or self.index + self.queue <= tail else self.index
+        if self.index and self.index + self.queue > tail:
+            return self.index
+        return tail - self.queue + 1 if self.index and self.overflow == b"OLDEST" else tail
 
     def is_runnable(self, clock):
         if self.finished:
@@ -198,7 +201,8 @@ def read_components(dag):
             queue = max(last(readers[0], "pending_queue_size", 1), 1)
             channels = [last(reader, "channel") for reader in readers]
             kind = last(entry, "class_name").decode()
-            found.append(Component(last(config, "name"), kind, channels, queue, file, last(file, "out")))
+            overflow = last(file, "on_overflow", b"NEWEST")
+            found.append(Component(last(config, "name"), kind, channels, queue, file, last(file, "out"), overflow))
     return found
 
 
@@ -293,9 +297,11 @@ def output_text(out):
 
 
 def trace_of(run, played, shadowed):
-    lines = ["cyber-trace 1", f"played {played} shadowed {shadowed}"]
+    version = 2 if any(it.overflow == b"OLDEST" for it in run.components) else 1
+    lines = [f"cyber-trace {version}", f"played {played} shadowed {shadowed}"]
     for it in run.components:
-        lines += [f"component {quoted(it.name)}", f"roles {it.roles or '-'}"]
+        told = f" overflow {it.overflow.decode()}" if version == 2 else ""
+        lines += [f"component {quoted(it.name)}{told}", f"roles {it.roles or '-'}"]
         for position, tail, messages, out in it.calls:
             seqs = " ".join(str(message.seq) for message in messages)
             lines.append(f"call {position}/{tail} {seqs} {output_text(out)}")

@@ -40,7 +40,8 @@ def component(number, triggers, outs, chance):
     readers = [trigger] + chance.sample(others, chance.randint(KINDS[kind] - 1, 3))
     texts = [f'readers {{ channel: "{it}" pending_queue_size: {chance.choice([0, 1, 1, 2, 4])} }}' for it in readers]
     config = f'name: "c{number}" config_file_path: "c{number}.conf" {" ".join(texts)}'
-    file = f'out: "{outs[number]}" out_type: "t{number}" {parameters(kind, chance)}'
+    overflow = chance.choice(["", "", "on_overflow: NEWEST", "on_overflow: OLDEST"])
+    file = f'out: "{outs[number]}" out_type: "t{number}" {overflow} {parameters(kind, chance)}'
     return f'components {{ class_name: "{kind}Component" config {{ {config} }} }}', file
 
 

@@ -117,6 +117,13 @@ timeline() {
   try 0 python3 "$line" out.trace --record out.rec -o run.json
   try 0 python3 "$check" run.json out.trace /a,/b /sum /sum /band /band /win /a /late
   says run.json '\{"ph":"C","name":"skipped late","pid":1,"ts":[0-9.]+,"args":\{"tuples":149\}\},'
+  begin 'a trace of version 2 has the calls of components that go on at the newest and at the oldest message'
+  (cd "$top" && python3 tests/replay.py "$OLDPWD/out.rec" "$OLDPWD/out.trace" "$OLDPWD/line" \
+    --dag examples/burst/burst.dag --record examples/burst/burst.rec)
+  try 0 python3 "$line" out.trace --record out.rec -o run.json
+  try 0 python3 "$check" run.json out.trace /speed /control /speed /total
+  says run.json '\{"ph":"C","name":"skipped control","pid":1,"ts":[0-9.]+,"args":\{"tuples":5\}\},'
+  says run.json '\{"ph":"C","name":"skipped total","pid":1,"ts":[0-9.]+,"args":\{"tuples":3\}\},'
   begin 'a trace alone has its calls'
   replay_drive
   try 0 python3 "$line" out.trace -o run.json
@@ -142,6 +149,8 @@ refuses_traces() { # the tool
   fails_in_one_line 1 'timeline: .*drive.rec: not the record of this trace' \
     python3 "$1" out.trace --record "$top/examples/drive/drive.rec" -o run.json
   fails_in_one_line 1 'timeline: text: not a record' python3 "$1" out.trace --record text -o run.json
+  sed '1s/1/2/' out.trace >bad.trace
+  fails_in_one_line 1 'timeline: bad.trace: line 3: a component of no known form' python3 "$1" bad.trace -o run.json
   sed '5s/call/cull/' out.trace >bad.trace
   fails_in_one_line 1 'timeline: bad.trace: line 5: .*' python3 "$1" bad.trace -o run.json
   head -n 1000 out.trace >bad.trace

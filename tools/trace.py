@@ -5,7 +5,9 @@ from dataclasses import dataclass, field
 from itertools import chain, islice
 from operator import lt
 
-HEAD = b"cyber-trace 1\n"
+HEADS = {b"cyber-trace 1\n": 1, b"cyber-trace 2\n": 2}
+NAME = rb'component "((?:[^"\\]|\\.)*)"'
+COMPONENTS = {1: re.compile(NAME + rb"(?P<overflow>)\n"), 2: re.compile(NAME + rb" overflow (?P<overflow>NEWEST|OLDEST)\n")}
 QUOTED = re.compile(rb'"((?:[^"\\]|\\.)*)"')
 ESCAPE = re.compile(rb"\\([0-7]{3}|.)", re.DOTALL)
 MARKS_TO_SPACES = bytes.maketrans(b"/@=", b"   ")
@@ -32,6 +34,7 @@ class Component:
     """The calls of a component, in columns: call k has the k-th entry of each, and `width` entries of `sequences`."""
 
     name: str
+    overflow: str = "NEWEST"  # the tuple at which it goes on where its next one isn't kept any more: the newest, or the oldest kept
     roles: bytes = b""
     width: int = 0
     positions: array = field(default_factory=lambda: array("Q"))
@@ -63,6 +66,7 @@ class Component:
 class Trace:
     """A run: its components, and its tape as two columns, of channels (by their number in `channels`) and of numbers."""
 
+    version: int = 1
     played: int = 0
     shadowed: int = 0
     components: list = field(default_factory=list)
@@ -150,7 +154,8 @@ class Reader:
     def read_head(self, file):
         """The first two lines."""
         self.line = 1
-        if file.readline(len(HEAD)) != HEAD:
+        self.trace.version = HEADS.get(file.readline(20))
+        if self.trace.version is None:
             raise ValueError("not a trace")
         self.line = 2
         words = file.readline().split()
@@ -170,12 +175,19 @@ class Reader:
                 self.read_tapes(rest)
             elif line.startswith(b'component "'):
                 self.check_end()
-                components.append(Component(names_in(line)[0]))
+                components.append(self.component_of(line))
             else:
                 read_component(components[-1], line)
         self.check_end()
         if len(self.trace.tape_sequences) < self.trace.played:
             raise ValueError("the trace is cut")
+
+    def component_of(self, line):
+        """The component that a line begins."""
+        match = COMPONENTS[self.trace.version].fullmatch(line)
+        if match is None:
+            raise ValueError("a component of no known form")
+        return Component(unquoted(match[1]), match["overflow"].decode() or "NEWEST")
 
     def check_end(self):
         """Raises a ValueError where the last component has no end."""

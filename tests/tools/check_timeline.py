@@ -91,7 +91,8 @@ def wanted(trace, wiring):
     tape = set(re.findall(r'^tape "(.*)" (\d+)$', trace, re.M))
     for line in trace.splitlines():
         if line.startswith("component "):
-            component, number, name = component + 1, 0, json.loads(line[10:])
+            quoted = re.match(r'component ("(?:[^"\\]|\\.)*")', line)[1]
+            component, number, name = component + 1, 0, json.loads(quoted)
         if not line.startswith("call "):
             continue
         words, number = line.split(), number + 1
