@@ -87,8 +87,7 @@ fn components(rt: &HostRuntime, text: &str) -> Result<String, Fail> {
         let name = component.name.as_str();
         lines.push_str(&format!(in rt.alloc();
             "{} {:?} {name}\n",
-            trace.version,
-            component.overflow
+            trace.version, component.overflow
         )?)?;
     }
     Ok(lines)
@@ -302,26 +301,26 @@ fn with_line(alloc: Global, trace: &str, number: usize, new: &str) -> Result<Str
     Ok(text)
 }
 
-// Looks that a trace is bad with each of these lines, where it stands.
-fn finds_rows(rt: &HostRuntime, trace: &str, rows: &str) -> Result<(), Fail> {
-    for row in rows.lines() {
-        let Some((number, rest)) = row.split_once('|') else {
-            return Err(Fail::from("a number"));
-        };
-        let Some((new, _)) = rest.split_once('|') else {
-            return Err(Fail::from("a line"));
-        };
-        let number = number.parse::<u32>()?;
-        let text = with_line(rt.alloc(), trace, number as usize - 1, new)?;
-        assert_eq!(rt; bad_line(rt.alloc(), text.as_bytes())?, number, "{row}");
-    }
-    Ok(())
+// The number and the line of a row.
+fn row_of(row: &str) -> Result<(u32, &str), Fail> {
+    let Some((number, rest)) = row.split_once('|') else {
+        return Err(Fail::from("a number"));
+    };
+    let Some((new, _)) = rest.split_once('|') else {
+        return Err(Fail::from("a line"));
+    };
+    Ok((number.parse::<u32>()?, new))
 }
 
 #[test]
 fn finds_bad_lines(rt: HostRuntime) -> Result<(), Fail> {
-    finds_rows(&rt, PASSED, BAD)?;
-    finds_rows(&rt, TOLD, BAD_TOLD)?;
+    for (trace, rows) in [(PASSED, BAD), (TOLD, BAD_TOLD)] {
+        for row in rows.lines() {
+            let (number, new) = row_of(row)?;
+            let text = with_line(rt.alloc(), trace, number as usize - 1, new)?;
+            assert_eq!(rt; bad_line(rt.alloc(), text.as_bytes())?, number, "{row}");
+        }
+    }
     // The title alone doesn't suit the component.
     for (trace, title) in [(PASSED, "cyber-trace 2"), (TOLD, "cyber-trace 1")] {
         let text = with_line(rt.alloc(), trace, 0, title)?;

@@ -92,7 +92,11 @@ fn has_nothing_before_the_first_fill(rt: HostRuntime) -> Result<(), Fail> {
     );
     for index in [0, 1, 2, u64::MAX] {
         let mut cursor = Cursor::at(index);
-        assert_eq!(rt; cursor.fetch(&buffer, Overflow::Oldest), None, "index {index}");
+        assert_eq!(rt;
+            cursor.fetch(&buffer, Overflow::Oldest),
+            None,
+            "index {index}"
+        );
         assert_eq!(rt; cursor, Cursor::at(index), "index {index}");
     }
     Ok(())
@@ -142,7 +146,10 @@ fn goes_on_with_the_oldest_tuple_that_is_kept(rt: HostRuntime) -> Result<(), Fai
     }
     assert!(rt; visitor.finds(cursor));
     assert_eq!(rt; visitor.try_fetch(&mut cursor), Some((only(5), 5, 6)));
-    assert_eq!(rt; visitor.try_fetch_one(&mut cursor), Some((arrival(0, 6), 6, 6)));
+    assert_eq!(rt;
+        visitor.try_fetch_one(&mut cursor),
+        Some((arrival(0, 6), 6, 6))
+    );
     assert_eq!(rt; visitor.try_fetch(&mut cursor), None);
     assert!(rt; !visitor.finds(cursor));
     Ok(())

@@ -263,7 +263,10 @@ fn goes_on_after_a_burst_as_the_component_asks(rt: HostRuntime) -> Result<(), Fa
             want.push_str(&format!(in rt.alloc(); "component \"b\"{newest}{second}")?)?;
         }
         want.push_str("tape \"/a\" 1\n")?;
-        assert!(rt; str::from_utf8(text.as_slice())?.starts_with(want.as_str()), "{want}");
+        assert!(rt;
+            str::from_utf8(text.as_slice())?.starts_with(want.as_str()),
+            "{want}"
+        );
     }
     Ok(())
 }

@@ -52,7 +52,10 @@ fn tells_components_contexts_and_unknown_fields(rt: HostRuntime) -> Result<(), F
             components { class_name: \"TakeComponent\" \
             config { name: \"t\" config_file_path: \"t\" readers { channel: \"/a\" } } } } \
             depth { }",
-            &["out: \"/o\" on_overflow: NEWEST", "out: \"\" n: 3 on_overflow: OLDEST"],
+            &[
+                "out: \"/o\" on_overflow: NEWEST",
+                "out: \"\" n: 3 on_overflow: OLDEST",
+            ],
             "component \"s\\n\" class SumComponent reads \"/a\" \"/b\" queue 7 writes \"/o\"\n\
             component \"t\" class TakeComponent reads \"/a\" queue 1 writes \"\" \
             overflow OLDEST\n\

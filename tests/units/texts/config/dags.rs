@@ -265,7 +265,11 @@ fn reads_and_refuses_component_files(rt: HostRuntime) -> Result<(), Fail> {
             "NotWhole 5 hi",
         ),
         ("FilterComponent", "lo: \"x\"", "Missing 5 out"),
-        ("PassComponent", "out: \"/o\" on_overflow: NEWEST", "Pass /o "),
+        (
+            "PassComponent",
+            "out: \"/o\" on_overflow: NEWEST",
+            "Pass /o ",
+        ),
         (
             "PassComponent",
             "on_overflow: OLDEST out: \"/o\" depth: 1",
@@ -276,9 +280,21 @@ fn reads_and_refuses_component_files(rt: HostRuntime) -> Result<(), Fail> {
             "out: \"/o\" on_overflow: \"OLDEST\"",
             "NotOverflow 5",
         ),
-        ("PassComponent", "out: \"/o\" on_overflow: 3", "NotOverflow 5"),
-        ("PassComponent", "out: \"/o\" on_overflow: OLD", "NotOverflow 5"),
-        ("PassComponent", "out: \"/o\" on_overflow: oldest", "NotOverflow 5"),
+        (
+            "PassComponent",
+            "out: \"/o\" on_overflow: 3",
+            "NotOverflow 5",
+        ),
+        (
+            "PassComponent",
+            "out: \"/o\" on_overflow: OLD",
+            "NotOverflow 5",
+        ),
+        (
+            "PassComponent",
+            "out: \"/o\" on_overflow: oldest",
+            "NotOverflow 5",
+        ),
         (
             "PassComponent",
             "out: \"/o\" on_overflow: -OLDEST",
