@@ -94,8 +94,8 @@ IsSeqs seqs = Each IsShort seqs × (0 < length seqs) × (length seqs ≤ 4)
 abbrev pub is_version : ℕ → Bool
 is_version version = version == 1 || version == 2
 
--- The form has this version, every number of a line fits its type, a call has one to four messages,
--- a role is one digit, and a name is a text.
+-- A title has a version of the form, every number of a line fits its type, a call has one to four
+-- messages, a role is one digit, and a name is a text.
 abbrev pub IsLine : Line → Type 0
 IsLine (Title version) = is_version version ≡ true
 IsLine (Played played shadowed) = IsShort played × IsShort shadowed

@@ -22,8 +22,8 @@ abbrev pub is_oldest : Overflow → Bool
 is_oldest Newest = false
 is_oldest Oldest = true
 
--- The version of the form in which these components are told of: the first one where each goes on at
--- the newest tuple, else the second one.
+-- The version of the form in which these components are told of: the first one where each goes on
+-- at the newest tuple, else the second one.
 abbrev pub version_of : List Plan → ℕ
 version_of plans = if list_any (λ p. is_oldest p.overflow) plans then 2 else 1
 

@@ -1,8 +1,9 @@
 // The lines of a trace, each as a value.
 ghost use Rattle.std.specs.Prelude.{◌≡◌, option_map};
 ghost use Rattle.std.specs.Str.{bytes_eq};
-ghost use Rattle.cy_trace.specs.LineReading.{Gives, call, component, ended, line_by, line_of, pair};
-ghost use Rattle.cy_trace.specs.LineReading.{overflow, pair_last, played, state, taped, title, told};
+ghost use Rattle.cy_trace.specs.LineReading.{Gives, call, component, ended, line_by, line_of};
+ghost use Rattle.cy_trace.specs.LineReading.{overflow, pair, pair_last, played, state, taped};
+ghost use Rattle.cy_trace.specs.LineReading.{title, told};
 
 use crate::call::{call, roles};
 use crate::fault::Fault;

@@ -9,7 +9,8 @@ ghost use Rattle.cy_fuse.specs.Fusion.{Arrival};
 ghost use Rattle.cy_comp.specs.Calls.{cursor_after};
 ghost use Rattle.cy_trace.specs.TraceText.{title, played_line, roles_text, value_text, out_text};
 ghost use Rattle.cy_trace.specs.TraceText.{seqs_text, call_line, call_lines, end_line};
-ghost use Rattle.cy_trace.specs.TraceText.{component_text, overflow_word, tape_line, told, told_text};
+ghost use Rattle.cy_trace.specs.TraceText.{component_text, overflow_word, tape_line, told};
+ghost use Rattle.cy_trace.specs.TraceText.{told_text};
 ghost use Rattle.cy_trace.specs.private.TapeLines.{tape_start, started_line};
 ghost use Rattle.cy_trace.specs.private.OutsAfter.{outs_after};
 

@@ -53,8 +53,8 @@ pub struct TapeEntry {
 /// A trace, line by line.
 #[derive(Drop)]
 pub struct Trace {
-    /// The version of its form: 1 where each component goes on at the newest tuple and no line tells
-    /// it, and 2 where the line of each component tells where it goes on.
+    /// The version of its form: 1 where each component goes on at the newest tuple, which no line
+    /// tells, and 2 where the line of each component tells where it goes on.
     pub version: u32,
     /// How many messages were played.
     pub played: u32,
