@@ -145,8 +145,23 @@ fn refuses_an_empty_number(rt: HostRuntime) -> Result<(), Fail> {
 fn takes_a_stop_of_a_name_and_a_time(rt: HostRuntime) -> Result<(), Fail> {
     let alloc = rt.alloc();
     for stop in [
-        "", "p", "5", "@", "@5", "p@", "p@-1", "p@+1", "p@1x", "p@x1", "p@ 1", "p@1 ", "p@1@",
-        "p@1@x", "-p@1", "p@18446744073709551616", "p@000000000000000000001",
+        "",
+        "p",
+        "5",
+        "@",
+        "@5",
+        "p@",
+        "p@-1",
+        "p@+1",
+        "p@1x",
+        "p@x1",
+        "p@ 1",
+        "p@1 ",
+        "p@1@",
+        "p@1@x",
+        "-p@1",
+        "p@18446744073709551616",
+        "p@000000000000000000001",
     ] {
         ends_a_play(&rt, alloc, ["--stop", stop], Status::Usage)?;
     }
@@ -154,8 +169,15 @@ fn takes_a_stop_of_a_name_and_a_time(rt: HostRuntime) -> Result<(), Fail> {
     ends_a_play(&rt, alloc, ["--stop=p", "--end=1"], Status::Usage)?;
     ends_a_play(&rt, alloc, ["--stop=p@1", "--stop=p@2"], Status::Usage)?;
     for stop in [
-        "p@0", "p@5", "p@18446744073709551615", "p@00000000000000000005", "p@q@5", "@@5", "p@@5",
-        "p=q@5", "p q@5",
+        "p@0",
+        "p@5",
+        "p@18446744073709551615",
+        "p@00000000000000000005",
+        "p@q@5",
+        "@@5",
+        "p@@5",
+        "p=q@5",
+        "p q@5",
     ] {
         ends_a_play(&rt, alloc, ["--stop", stop], Status::StoreFault)?;
     }

@@ -116,9 +116,12 @@ fn names_the_file_that_is_refused(rt: HostRuntime) -> Result<(), Fail> {
 #[test]
 fn counts_the_messages_up_to_a_stop(rt: HostRuntime) -> Result<(), Fail> {
     let alloc = rt.alloc();
-    for (component, time, number, after) in
-        [("p", 0, 0, 0), ("p", 1, 0, 1), ("r", 0, 1, 0), ("r", u64::MAX, 1, 1)]
-    {
+    for (component, time, number, after) in [
+        ("p", 0, 0, 0),
+        ("p", 1, 0, 1),
+        ("r", 0, 1, 0),
+        ("r", u64::MAX, 1, 1),
+    ] {
         let mut store = chain_store(alloc)?;
         let asked = Some(StopAt { component, time });
         let Ok(replay) = set_up_chain(alloc, &mut store, None, asked) else {
