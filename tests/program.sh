@@ -377,7 +377,8 @@ plays_with_a_stop() { # what it shows, the class, the name, the component file, 
 # its tape with what is given, and all with what a Python script makes of the same files.
 goes_on_after_a_burst() { # what it does then, the word for it, the line, and the trace
   begin "goes on after a burst $1"
-  one_component HoldComponent 'readers { channel: "/a" pending_queue_size: 2 }' "out: \"/o\" delay: 10 on_overflow: $2"
+  one_component HoldComponent 'config_file_path: "p.conf" readers { channel: "/a" pending_queue_size: 2 }' \
+    "out: \"/o\" delay: 10 on_overflow: $2"
   (cd files && eval "$(write_record '[(b"/a", 100 + k, content_of(k)) for k in range(6)]' '{}')")
   (cd files && python3 "$top/tests/replay.py" ../rec ../trace ../line --dag d.dag --record in.rec)
   run play --dag d.dag --record in.rec --out out.rec --trace trace --serial
