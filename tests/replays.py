@@ -34,13 +34,14 @@ def parameters(kind, chance):
 
 def component(number, triggers, outs, chance):
     """A component of the DAG and its file: its first reader is one of `triggers`, its channel one that no other writes."""
-    kind = chance.choice(list(KINDS))
+    kind = chance.choice(list(KINDS) + ["Hold", "Hold"])  # in a serial play none is too late but one that holds its output back
+    overflow = chance.choice(["", "", "on_overflow: NEWEST", "on_overflow: OLDEST", "on_overflow: OLDEST"])
+    queues = [2, 3] if "OLDEST" in overflow else [0, 1, 1, 2, 4]
     trigger = chance.choice(triggers)
     others = [it for it in dict.fromkeys(CHANNELS + outs) if it != trigger]
     readers = [trigger] + chance.sample(others, chance.randint(KINDS[kind] - 1, 3))
-    texts = [f'readers {{ channel: "{it}" pending_queue_size: {chance.choice([0, 1, 1, 2, 4])} }}' for it in readers]
+    texts = [f'readers {{ channel: "{it}" pending_queue_size: {chance.choice(queues)} }}' for it in readers]
     config = f'name: "c{number}" config_file_path: "c{number}.conf" {" ".join(texts)}'
-    overflow = chance.choice(["", "", "on_overflow: NEWEST", "on_overflow: OLDEST"])
     file = f'out: "{outs[number]}" out_type: "t{number}" {overflow} {parameters(kind, chance)}'
     return f'components {{ class_name: "{kind}Component" config {{ {config} }} }}', file
 
