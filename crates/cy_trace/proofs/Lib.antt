@@ -19,3 +19,9 @@ pub mod TextRead
 pub mod Gathered
 pub mod Pages
 pub mod Keeping
+pub mod Places
+pub mod FusedRoles
+pub mod SameArrivals
+pub mod SameCalls
+pub mod SameTape
+pub mod Telling

@@ -61,7 +61,7 @@ below (suc i) zero l n = absurd (omega (arith, l))
 below (suc i) (suc m) l n = let r = below i m (omega (arith, l)) (λ e. n (ap suc e)) in omega (arith, r)
 
 -- Tails never fall.
-tails_rise : (calls : List Call) → ((n : ℕ) (x : Call) → slice_get calls n ≡ Some x → tail_after (take n calls) ≤ x.tail)
+pub tails_rise : (calls : List Call) → ((n : ℕ) (x : Call) → slice_get calls n ≡ Some x → tail_after (take n calls) ≤ x.tail)
     → (n i : ℕ) (x y : Call) → slice_get calls n ≡ Some x → slice_get calls i ≡ Some y → i < n → y.tail ≤ x.tail
 tails_rise calls rise zero i x y at on less = absurd (omega (arith, less))
 tails_rise calls rise (suc m) i x y at on less = by (slice_get calls m) refl (tails_rise calls rise m i)

@@ -1,5 +1,5 @@
 -- That a world's trace is read back.
-use Rattle.std.proofs.Common.{ℕ, ◌≤◌, ◌≡◌, subst, List, Bool, length, slice_get, get_or, Some}
+use Rattle.std.proofs.Common.{ℕ, ◌≤◌, ◌≡◌, ◌∙◌, ap, subst, sym, List, Bool, length, slice_get, get_or, Some}
 use Rattle.std.specs.Prelude.{filter, not, is_some}
 use Rattle.std.proofs.lemmas.List.Elements.{All-filter}
 use Rattle.std.proofs.lemmas.Option.{slice_get-get_or, get_or_from_slice_get, slice_get_within}
@@ -11,10 +11,10 @@ use Rattle.wake_core.specs.declared.entries.TheConstants.{MOST_PLANNED}
 use Rattle.wake_core.specs.Plain.{Plain}
 use Rattle.wake_core.specs.Planned.{planned}
 use Rattle.wake_core.specs.Rest.{run_shown}
-use Rattle.wake_core.specs.Run.{routes_of, writes_from}
+use Rattle.wake_core.specs.Run.{played_of, routes_of, writes_from}
 use Rattle.wake_core.specs.Sound.{Sound}
 use Rattle.cy_trace.specs.Laws.{Suits, IsOf, AreTyped, RunsFit, RunsAreTraces}
-use Rattle.cy_trace.specs.TraceForm.{IsTraceText, IsShort}
+use Rattle.cy_trace.specs.TraceForm.{IsTrace, IsTraceText, IsShort}
 use Rattle.cy_trace.specs.TraceOfRun.{trace_of_run}
 use Rattle.cy_trace.specs.TraceText.{trace_text}
 
@@ -34,3 +34,14 @@ text_is_read names plans shadowed w wiring routes channels texts named suit shor
       played = kept_hold Suits (λ t. not (is_some (writes_from 0 w.routes t.channel))) w.tape suit;
     } in
     (trace_of_run names plans shadowed (run_shown w), fit names plans shadowed w of typed short sound, same names plans shadowed (run_shown w))
+
+-- So has a world in which these messages were played a trace of the form.
+pub traces_fit : (names : List (List ℕ)) (plans : List Plan) (shadowed : ℕ) (messages : List Token) → IsWiring names plans → ((n : ℕ) (name : List ℕ) → slice_get names n ≡ Some name → IsUtf8 name) → ((c : ℕ) (p : Plan) → slice_get plans c ≡ Some p → IsUtf8 p.name) → ((n : ℕ) (t : Token) → slice_get messages n ≡ Some t → Suits t) → IsShort shadowed → RunsFit → (w : Plain) → w.routes ≡ routes_of plans → length w.counts ≡ length names → planned w.routes w.counts ≤ MOST_PLANNED → played_of w.routes w.tape ≡ messages → Sound w → IsTrace (trace_of_run names plans shadowed (run_shown w))
+traces_fit names plans shadowed messages wiring texts named suit short fit w routes channels limited same sound =
+    let of : IsOf names plans w = record { wiring = wiring; routes = routes; channels = channels; limited = limited } in
+    let typed : AreTyped names plans w = record {
+      channels = texts;
+      components = named;
+      played = λ n t at. suit n t (ap (λ (l : List Token). slice_get l n) (sym same) ∙ at);
+    } in
+    fit names plans shadowed w of typed short sound

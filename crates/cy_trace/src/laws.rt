@@ -1,6 +1,7 @@
-// What holds of the texts of traces.
+// What holds of traces and their texts.
 ghost use Rattle.cy_trace.specs.Laws.{FirstBadIsOne, LinesAreSpelled, LinesReadBack, RunsAreTraces};
 ghost use Rattle.cy_trace.specs.Laws.{RunsFit, RunsReadBack, TextsOfTracesAreGood, TextsTellTraces};
+ghost use Rattle.cy_trace.specs.Telling.{TextsTellRuns, TracesTellRuns};
 
 use cy_comp::outcomes_are_answers;
 use wake_core::laws;
@@ -32,6 +33,17 @@ pub fn runs_are_traces()
 pub fn runs_are_read_back()
     ensures fit { RunsFit }
     ensures back { RunsReadBack }
+{
+    outcomes_are_answers();
+    laws::places();
+    laws::bounds();
+}
+
+/// The trace of a lawful run tells the run, and so does its text: two lawful runs of one list of
+/// messages over one wiring that have one trace have come to the same.
+pub fn traces_tell_runs()
+    ensures runs { TracesTellRuns }
+    ensures texts { TextsTellRuns }
 {
     outcomes_are_answers();
     laws::places();

@@ -1,6 +1,7 @@
 //! The text of a trace, written and read.
 //!
-//! `specs/TraceText` has the text of any run, and `specs/TraceForm` the text of any trace.
+//! `specs/TraceText` has the text of any run, and `specs/TraceForm` the text of any trace;
+//! `specs/Telling` says that the trace of a lawful run determines it.
 #![tactic(auto)]
 
 mod building;
@@ -24,9 +25,10 @@ mod word;
 pub use error::TraceError;
 pub use laws::{
     first_bad_is_one, lines_read_back, runs_are_read_back, runs_are_traces, texts_tell_traces,
+    traces_tell_runs,
 };
 pub use read::read_trace;
-pub use summary::summary_line;
+pub use summary::{lawful_line, summary_line};
 pub use text::trace_text;
 pub use trace::{TapeEntry, Trace, TraceCall, TraceComponent, TraceOutput};
-pub use typed::trace_is_read_back;
+pub use typed::{trace_is_read_back, traces_of_runs_fit};

@@ -6,7 +6,8 @@ ghost use Rattle.wake_core.specs.Plain.{played_count};
 ghost use Rattle.wake_core.specs.Rest.{run_shown};
 ghost use Rattle.wake_core.specs.Run.{routes_of};
 ghost use Rattle.wake_core.specs.WorldOf.{plain_of};
-ghost use Rattle.cy_trace.specs.Summary.{calls_from, summary_line as line_of};
+ghost use Rattle.cy_trace.specs.Summary.{calls_from, counts_line};
+ghost use Rattle.cy_trace.specs.Summary.{lawful_line as line_of_lawful, summary_line as line_of};
 
 use crate::TraceError;
 use crate::text::calls_of;
@@ -38,22 +39,49 @@ fn push_count(to: &mut Vec<u8>, what: &str, count: u64) -> io::Result<()>
     write!(to, "{what}{count}")
 }
 
-// The text of the line, at the end of others.
+// The text of a line, at the end of others.
 fn push_counts(
     to: &mut Vec<u8>,
+    front: &str,
     played: u32,
     shadowed: u32,
     calls: u64,
     written: u64,
 ) -> io::Result<()>
-    ensures { OnOk result (to.new.items ≡ to.old.items ++ line_of played shadowed calls written) }
+    ensures { OnOk result (to.new.items
+        ≡ to.old.items ++ counts_line front.now played shadowed calls written) }
 {
-    push_count(to, "done: played ", u64::from(played))?;
+    push_count(to, front, u64::from(played))?;
     push_count(to, ", shadowed ", u64::from(shadowed))?;
     push_count(to, ", calls ", calls)?;
     push_count(to, ", written ", written)?;
     to.write_all(b"\n")?;
     Ok(())
+}
+
+// The line with these words in front.
+fn line_behind(
+    alloc: Global,
+    front: &str,
+    world: &World,
+    wiring: &Wiring,
+    shadowed: u32,
+) -> Result<Bytes, TraceError>
+    requires quiet { Quiet (plain_of world.now) }
+    requires routes { (plain_of world.now).routes ≡ routes_of wiring.now.plans }
+    ensures line { IfOk result (λ b. b ≡ counts_line front.now (played_count (plain_of world.now))
+        shadowed (calls_from (run_shown (plain_of world.now)) 0 wiring.now.plans)
+        (length (plain_of world.now).tape)) }
+    ensures memory { IfErr result (λ e. e ≡ TraceError.Memory) }
+{
+    let calls = calls_in(world, wiring.plans.as_slice());
+    let written = world.tape_list().len() as u64;
+    let mut line = Vec::new(alloc);
+    match push_counts(&mut line, front, world.played(), shadowed, calls, written) {
+        Ok(()) => Ok(Bytes::from_vec(line)),
+        // A write to a `Vec` fails for want of memory alone.
+        Err(_) => Err(TraceError::Memory),
+    }
 }
 
 /// The line that tells what a run came to, of a world that was made for this wiring and whose run
@@ -72,12 +100,22 @@ pub fn summary_line(
         (length (plain_of world.now).tape)) }
     ensures memory { IfErr result (λ e. e ≡ TraceError.Memory) }
 {
-    let calls = calls_in(world, wiring.plans.as_slice());
-    let written = world.tape_list().len() as u64;
-    let mut line = Vec::new(alloc);
-    match push_counts(&mut line, world.played(), shadowed, calls, written) {
-        Ok(()) => Ok(Bytes::from_vec(line)),
-        // A write to a `Vec` fails for want of memory alone.
-        Err(_) => Err(TraceError::Memory),
-    }
+    line_behind(alloc, "done: played ", world, wiring, shadowed)
+}
+
+/// The same of a run of which a trace was found to tell.
+pub fn lawful_line(
+    alloc: Global,
+    world: &World,
+    wiring: &Wiring,
+    shadowed: u32,
+) -> Result<Bytes, TraceError>
+    requires quiet { Quiet (plain_of world.now) }
+    requires routes { (plain_of world.now).routes ≡ routes_of wiring.now.plans }
+    ensures line { IfOk result (λ b. b ≡ line_of_lawful (played_count (plain_of world.now)) shadowed
+        (calls_from (run_shown (plain_of world.now)) 0 wiring.now.plans)
+        (length (plain_of world.now).tape)) }
+    ensures memory { IfErr result (λ e. e ≡ TraceError.Memory) }
+{
+    line_behind(alloc, "lawful: played ", world, wiring, shadowed)
 }

@@ -6,10 +6,13 @@ ghost use Rattle.cy_comp.specs.declared.plan.Plan.{Plan};
 ghost use Rattle.wake_core.specs.declared.entries.TheConstants.{MOST_PLANNED};
 ghost use Rattle.wake_core.specs.Planned.{planned};
 ghost use Rattle.wake_core.specs.Rest.{run_shown};
-ghost use Rattle.wake_core.specs.Run.{routes_of};
+ghost use Rattle.wake_core.specs.Plain.{Plain};
+ghost use Rattle.wake_core.specs.Run.{played_of, routes_of};
+ghost use Rattle.wake_core.specs.Sound.{Sound};
 ghost use Rattle.wake_core.specs.WorldOf.{plain_of};
 ghost use Rattle.cy_trace.specs.Laws.{Suits};
-ghost use Rattle.cy_trace.specs.TraceForm.{IsTraceText};
+ghost use Rattle.cy_trace.specs.TraceForm.{IsTrace, IsTraceText};
+ghost use Rattle.cy_trace.specs.TraceOfRun.{trace_of_run};
 ghost use Rattle.cy_trace.specs.TraceText.{trace_text as text_of};
 
 use crate::laws::{runs_are_read_back, runs_are_traces};
@@ -70,4 +73,19 @@ pub fn trace_is_read_back(world: &World, wiring: &Wiring, shadowed: u32)
     runs_are_read_back();
     runs_are_traces();
     world.sound();
+}
+
+/// Every sound world of this wiring in which just these messages were played has a trace of the
+/// form, where no more is planned than a world keeps. Proved here, and nothing to run.
+#[tactic(auto, using(crate::proofs::TextRead::traces_fit))]
+pub fn traces_of_runs_fit(wiring: &Wiring, messages: &[Token], shadowed: u32)
+    ensures { (w : Plain) → w.routes ≡ routes_of wiring.now.plans
+        → length w.counts ≡ length wiring.now.names → planned w.routes w.counts ≤ MOST_PLANNED
+        → played_of w.routes w.tape ≡ messages.now → Sound w
+        → IsTrace (trace_of_run wiring.now.names wiring.now.plans shadowed (run_shown w)) }
+{
+    names_are_texts(&wiring.names);
+    components_have_texts(wiring.plans.as_slice());
+    messages_suit(messages);
+    runs_are_read_back();
 }

@@ -1,4 +1,4 @@
-use Rattle.cy_trace.proofs.SummaryLine.{summary_line-parts}
+use Rattle.cy_trace.proofs.SummaryLine.{counts_line-parts}
 use Rattle.cy_trace.proofs.summary.push_counts.Goals as goal
 
 pub returns : goal.returns
@@ -12,4 +12,4 @@ returns c =
       c.from.ensures,
       c.from-2.ensures,
     )
-    (summary_line-parts c.args.to.now.items c.args.played c.args.shadowed c.args.calls c.args.written)
+    (counts_line-parts c.args.to.now.items c.args.front.now c.args.played c.args.shadowed c.args.calls c.args.written)
