@@ -1,0 +1,6 @@
+mod Fieldless
+mod Unlikes
+mod Kept
+mod Keeps
+mod Seen
+mod Ends

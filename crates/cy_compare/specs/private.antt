@@ -1,0 +1,6 @@
+pub mod Unlike
+pub mod Pieces
+pub mod Stored
+pub mod Noted
+pub mod Keeping
+pub mod Judging
