@@ -1,0 +1,6 @@
+use Rattle.wake_core.specs.Run.{route_of}
+use Rattle.cy_verify.proofs.OutputLed.{LedTo}
+use Rattle.cy_verify.proofs.follower.Follower.output.Given as goal
+
+abbrev pub invariant-loop-at : goal.invariant-loop-at
+invariant-loop-at l = LedTo (route_of l.plan) l.told l.tape l.fn.self l._at l.self

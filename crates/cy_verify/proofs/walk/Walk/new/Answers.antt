@@ -1,0 +1,10 @@
+use Rattle.std.proofs.Common.{◌∙◌, ap}
+use Rattle.wake_core.specs.Rest.{at_rest}
+use Rattle.cy_verify.proofs.Opening.{opens}
+use Rattle.cy_verify.proofs.walk.Walk.new.Goals as goal
+
+pub returns : goal.returns
+returns c = record {
+  opens = λ tokens shadowed. opens _ c.apart-routines.result c.in_ok-followers.followers (c.apart-routines.ensures.shown ∙ ap at_rest c.in-Ok.ensures.opening.opens) c.apart-routines.ensures.fit
+      (c.in_ok-followers.ensures.followers.0 ∙ c.into_vec.ensures) (c.in_ok-followers.ensures.followers.1 ∙ c.into_vec-2.ensures) c.in_ok-followers.ensures.fresh c.apart-routines.result.fixed.lawful;
+}

@@ -1,0 +1,19 @@
+//! Whether a trace is that of a lawful run.
+//!
+//! `specs/Verdict` says what is asked, and what is answered.
+#![tactic(auto)]
+
+mod ending;
+mod error;
+mod follower;
+mod heads;
+mod judge;
+mod obedient;
+mod timely;
+mod verdict;
+mod walk;
+mod world_made;
+
+pub use error::VerifyError;
+pub use judge::verify;
+pub use verdict::Verdict;
