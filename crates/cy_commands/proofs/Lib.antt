@@ -1,9 +1,13 @@
 pub mod AskedShort
 pub mod CheckExits
+pub mod Finding
 pub mod MakeExits
 pub mod OneDue
+pub mod OneList
+pub mod OneVerdict
 pub mod PlayExits
 pub mod PlayRuns
 pub mod PlayWriting
 pub mod Refusing
 pub mod Taped
+pub mod VerifyExits

@@ -15,6 +15,7 @@ use Rattle.wake_core.specs.declared.route.Route.{Route}
 use Rattle.cy_replay.specs.Listing.{choice_of}
 use Rattle.cy_replay.specs.Setup.{IsSetUp}
 use Rattle.cy_replay.specs.Wiring.{wired_by}
+use Rattle.cy_recording.specs.Recording.{IsWritable}
 use Rattle.cy_recording.specs.RecordLaws.{PlacesAreThere}
 use Rattle.cy_replay.specs.declared.setup.Replay.{Replay}
 use Rattle.cy_trace.specs.TraceForm.{IsTraceText}
@@ -55,6 +56,14 @@ planned_as x w routes counts few =
     let same : planned w.routes w.counts ≡ planned (routes_of x.wiring.plans) x.counts = ap (λ (r : List Route). planned r w.counts) routes ∙ ap (planned (routes_of x.wiring.plans)) counts in
     omega (arith, same, few)
 
+-- the tape of a lawful run can be written
+pub writable : (r : Request) (x : Replay) (w : Plain) → PlacesAreThere → PlaceLaws → IsSetUp r x → LawfulRun x.list.tokens (routes_of x.wiring.plans) x.stop w → length w.counts ≡ length x.wiring.names → IsWritable (source_by x) w.tape
+writable r x w places stand s lawful many = record {
+  channels = λ n t at. let below = lawful.sound.consistent.room.channels n t at in omega (arith, below, many);
+  origins = lawful_origins stand x.recorded (choice_of r.filter (wired_by x.wiring)) x.list (routes_of x.wiring.plans) x.stop w s.listed lawful;
+  places = places x.recorded (choice_of r.filter (wired_by x.wiring)) x.list s.listed;
+}
+
 -- a lawful run from the opening world can be written, and its trace is read back
 pub has_run : (serial : Bool) (r : Request) (x : Replay) (first new : Plain) → PlacesAreThere → PlaceLaws → IsSetUp r x → first ≡ opening_world (routes_of x.wiring.plans) x.counts x.stop
     → IsRunOf serial (routes_of x.wiring.plans) x.stop (scan_of x.placement.contexts) x.list.tokens new → LawfulRun x.list.tokens (routes_of x.wiring.plans) x.stop new → new.counts ≡ first.counts → ReadsBack x new → HasRun serial x new
@@ -65,10 +74,6 @@ has_run serial r x first new places stand s opens run lawful stays reads =
       run = run;
       lawful = lawful;
       counts = many;
-      writable = record {
-        channels = λ n t at. let below = lawful.sound.consistent.room.channels n t at in omega (arith, below, many);
-        origins = lawful_origins stand x.recorded (choice_of r.filter (wired_by x.wiring)) x.list (routes_of x.wiring.plans) x.stop new s.listed lawful;
-        places = places x.recorded (choice_of r.filter (wired_by x.wiring)) x.list s.listed;
-      };
+      writable = writable r x new places stand s lawful many;
       read_back = reads (planned_as x new lawful.wired counts s.limited);
     }

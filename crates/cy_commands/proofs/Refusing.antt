@@ -20,7 +20,7 @@ use Rattle.cy_commands.specs.private.Unset.{IsStarved, IsDueUnset}
 use Rattle.cy_commands.specs.Work.{IsMadeOf, Work}
 
 -- the store is as it was
-view_same : (old new : StoreView) → new.files ≡ old.files → SameCounts old new → new ≡ old
+pub view_same : (old new : StoreView) → new.files ≡ old.files → SameCounts old new → new ≡ old
 view_same old new same counts = ap (λ (f : Option Files). record { files = f; faults = new.faults; misses = new.misses }) same
     ∙ ap (λ (n : ℕ). record { files = old.files; faults = n; misses = new.misses }) counts.faults ∙ ap (λ (n : ℕ). record { files = old.files; faults = old.faults; misses = n }) counts.misses
 
@@ -28,7 +28,7 @@ view_same old new same counts = ap (λ (f : Option Files). record { files = f; f
 pub starved : (c : Command) (old new : StoreView) (due : Status) (line : List ℕ) → new.files ≡ old.files → IsStarved due line → IsDueFor c old new due line
 starved c old new due line same s = subst (λ (x : Status). IsDueFor c old new x line) (sym s.status) (inl same, s.told)
 
-refuses : (c : Command) (old new : StoreView) (limit : Bool) (line : List ℕ) → RefusesFiles c old new (if limit then Limit else Refused) line → IsDueFor c old new (if limit then Limit else Refused) line
+pub refuses : (c : Command) (old new : StoreView) (limit : Bool) (line : List ℕ) → RefusesFiles c old new (if limit then Limit else Refused) line → IsDueFor c old new (if limit then Limit else Refused) line
 refuses c old new true line r = r
 refuses c old new false line r = r
 

@@ -14,3 +14,11 @@ pub record IsRefusal {A : Type 0} (reads : Files → Reads Refusal A) (files : O
   pub refused : IfSome files (λ m. reads m ≡ Refuses refusal)
   pub status : due ≡ fault_status refusal.fault
   pub told : line ≡ refusal_line refusal
+
+-- What they come to, in a relation, is a refusal.
+pub record IsRefusalBy {A : Type 0} (comes : Option Files → Reads Refusal A → Type 0)
+    (files : Option Files) (due : Status) (line : List ℕ) : Type 0 where
+  pub refusal : Refusal
+  pub refused : comes files (Refuses refusal)
+  pub status : due ≡ fault_status refusal.fault
+  pub told : line ≡ refusal_line refusal

@@ -1,3 +1,4 @@
 pub mod CheckEnds
 pub mod MakeEnds
 pub mod Unset
+pub mod VerifyEnds

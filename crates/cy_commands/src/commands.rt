@@ -9,6 +9,7 @@ ghost use Rattle.cy_words.specs.Views.{command_asked, IsInForm};
 mod check;
 mod info;
 mod make;
+mod verify;
 
 use crate::begun::Begun;
 use crate::play::read_files;
@@ -19,6 +20,7 @@ use cy_words::{Command, Play};
 use info::run_info;
 use make::run_make;
 use std::alloc::Global;
+use verify::run_verify;
 
 // Reads the files of a play, and sets up what is played.
 fn begin_play<'a, S: Store>(alloc: Global, play: &Play<'a>, store: &mut S) -> Begun<'a>
@@ -45,5 +47,6 @@ pub fn begin_command<'a, S: Store>(alloc: Global, command: &Command<'a>, store: 
         Command::Info(info) => Begun::Ended(run_info(alloc, info, store)),
         Command::Play(play) => begin_play(alloc, play, store),
         Command::Make(make) => Begun::Ended(run_make(alloc, make, store)),
+        Command::Verify(play) => Begun::Ended(run_verify(alloc, play, store)),
     }
 }

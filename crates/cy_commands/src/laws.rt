@@ -1,7 +1,9 @@
 // What holds of all that is asked for: proved here, and nothing to run.
 ghost use Rattle.cy_commands.specs.Commands.MakeWork.{AskedTextsAreShort};
+ghost use Rattle.cy_commands.specs.Commands.VerifyWork.{VerdictsAreOne};
 
 use cy_make::made_texts_are_short;
+use cy_trace::{first_bad_is_one, runs_are_traces, texts_tell_traces, traces_tell_runs};
 
 /// Whatever words ask for a `make`, each configuration file that it plays is short enough to be
 /// read.
@@ -9,4 +11,14 @@ pub fn asked_texts_are_short()
     ensures { AskedTextsAreShort }
 {
     made_texts_are_short();
+}
+
+/// Whatever the files are, `verify` comes to one status of them.
+pub fn verdicts_are_one()
+    ensures { VerdictsAreOne }
+{
+    traces_tell_runs();
+    texts_tell_traces();
+    runs_are_traces();
+    first_bad_is_one();
 }

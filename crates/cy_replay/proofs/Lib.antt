@@ -12,4 +12,5 @@ pub mod Playable
 pub mod Records
 pub mod Setting
 pub mod Texts
+pub mod TraceTexts
 pub mod Wirings

@@ -1,5 +1,6 @@
 -- How it is told what is wrong with a file of a replay, and whether it is a limit that was passed.
-use Rattle.std.specs.Prelude.{ℕ, List, [], Bool, true, false, codes}
+use Rattle.std.specs.Prelude.{ℕ, List, [], ◌++◌, Bool, true, false, codes}
+use Rattle.std.specs.Fmt.{decimal}
 use Rattle.cy_fault.specs.FaultText.{file_line, limit_text, named_text}
 use Rattle.cy_text.specs.FaultText.{text_text, is_text_limit}
 use Rattle.cy_dag.specs.FaultText.{dag_text, is_dag_limit}
@@ -17,6 +18,10 @@ fault_text (fault.Sched e) = sched_text e
 fault_text (fault.StopUnknown name) = named_text (codes "StopUnknown") [] name
 fault_text (fault.Record e) = load_text e
 fault_text (fault.TooMany count) = limit_text (codes "TooMany") count
+fault_text (fault.TraceTooLarge count) = limit_text (codes "TraceTooLarge") count
+fault_text (fault.BadLine line) = codes "line " ++ decimal line ++ codes ": Bad"
+fault_text fault.Unlawful = codes "not a lawful run"
+fault_text (fault.Differs place) = codes "differs at " ++ decimal place
 
 abbrev pub is_limit : Fault → Bool
 is_limit (fault.ConfigTooLarge count) = true
@@ -26,6 +31,10 @@ is_limit (fault.Sched e) = is_sched_limit e
 is_limit (fault.StopUnknown name) = false
 is_limit (fault.Record e) = is_load_limit e
 is_limit (fault.TooMany count) = true
+is_limit (fault.TraceTooLarge count) = true
+is_limit (fault.BadLine line) = false
+is_limit fault.Unlawful = false
+is_limit (fault.Differs place) = false
 
 -- The line that tells it of its file.
 abbrev pub refusal_line : Refusal → List ℕ

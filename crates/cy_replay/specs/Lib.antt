@@ -8,4 +8,5 @@ pub mod Passing
 pub mod Setup
 pub mod Steps
 pub mod Stops
+pub mod TraceFile
 pub mod Wiring

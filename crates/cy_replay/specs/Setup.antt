@@ -83,8 +83,8 @@ replayed x = record {
 }
 
 -- A replay is set up as it was asked for: its play list, its stop, its placement and its counts are
--- those of its record and its configuration, and it may be played in the opening world of its wiring
--- and its stop.
+-- those of its record and its configuration, and it may be played in the opening world of its
+-- wiring and its stop.
 pub record IsSetUp (r : Request) (x : Replay) : Type 0 where
   pub listed : IsPlayList x.recorded (choice_of r.filter (wired_by x.wiring)) x.list
   pub stopped : x.stop ≡ stop_of r.stop (wired_by x.wiring) x.list.tokens

@@ -1,11 +1,12 @@
 // Why a replay can't be set up.
-ghost use Rattle.std.specs.Prelude.{◌≡◌, ◌⊎◌, ◌++◌, IfOk, OnOk};
+ghost use Rattle.std.specs.Prelude.{◌≡◌, ◌⊎◌, ◌++◌, codes, IfOk, OnOk};
+ghost use Rattle.std.specs.Fmt.{decimal};
 ghost use Rattle.cy_replay.specs.FaultText.{fault_text, is_limit, refusal_line};
 ghost use Rattle.cy_replay.specs.Steps.{IsFault, IsRecordFault, dag_fault, sched_fault};
 ghost use Rattle.cy_replay.specs.declared.error.SetupError.TheVariants as setup_error;
 
 use cy_dag::DagError;
-use cy_fault::{push_file, push_limit, push_named};
+use cy_fault::{push_file, push_limit, push_named, push_number};
 use cy_msg::{Bytes, NamesError, Text};
 use cy_reader::LoadError;
 use cy_sched::SchedError;
@@ -38,6 +39,32 @@ pub enum Fault {
         /// Their number.
         count: u64,
     },
+    /// The text of a trace is longer than any that is read.
+    TraceTooLarge {
+        /// Its bytes.
+        count: u64,
+    },
+    /// A text is no trace.
+    BadLine {
+        /// The first line, from 1, with which the lines so far are a prefix of no trace.
+        line: u32,
+    },
+    /// No lawful run has a trace.
+    Unlawful,
+    /// A record is another than that of a run.
+    Differs {
+        /// The first place, from 0, at which it differs.
+        place: u64,
+    },
+}
+
+// The text of a bad line, at the end of others.
+fn push_bad_line(to: &mut Vec<u8>, line: u32) -> Result<(), AllocError>
+    ensures { OnOk result (to.new.items ≡ to.old.items ++ (codes "line " ++ decimal line
+        ++ codes ": Bad")) }
+{
+    push_number(to, "line ", u64::from(line))?;
+    to.extend_from_slice(b": Bad")
 }
 
 impl Fault {
@@ -53,6 +80,10 @@ impl Fault {
             Fault::StopUnknown { name } => push_named(to, "StopUnknown", &[], name),
             Fault::Record(error) => error.push_to(to),
             Fault::TooMany { count } => push_limit(to, "TooMany", *count),
+            Fault::TraceTooLarge { count } => push_limit(to, "TraceTooLarge", *count),
+            Fault::BadLine { line } => push_bad_line(to, *line),
+            Fault::Unlawful => to.extend_from_slice(b"not a lawful run"),
+            Fault::Differs { place } => push_number(to, "differs at ", *place),
         }
     }
 
@@ -68,6 +99,10 @@ impl Fault {
             Fault::StopUnknown { .. } => false,
             Fault::Record(error) => error.is_limit(),
             Fault::TooMany { .. } => true,
+            Fault::TraceTooLarge { .. } => true,
+            Fault::BadLine { .. } => false,
+            Fault::Unlawful => false,
+            Fault::Differs { .. } => false,
         }
     }
 }
@@ -141,7 +176,7 @@ impl From<NamesError> for SetupError {
 }
 
 /// A fault of a file, or want of memory for its name.
-pub(crate) fn refused(alloc: Global, file: &str, fault: Fault) -> SetupError
+pub fn refused(alloc: Global, file: &str, fault: Fault) -> SetupError
     ensures { (result ≡ setup_error.Memory)
         ⊎ (result ≡ setup_error.Refused record { file = file.now; fault = fault }) }
 {
@@ -152,7 +187,7 @@ pub(crate) fn refused(alloc: Global, file: &str, fault: Fault) -> SetupError
 }
 
 /// A file at which the store failed, or want of memory for its name.
-pub(crate) fn failed(alloc: Global, file: &str) -> SetupError
+pub fn failed(alloc: Global, file: &str) -> SetupError
     ensures { (result ≡ setup_error.Memory) ⊎ (result ≡ setup_error.Store file.now) }
 {
     match Text::new(alloc, file) {

@@ -4,7 +4,8 @@
 //! `specs/Configuration` what the configuration files come to, `specs/Passing` what stands in their
 //! place where one component passes messages on, `specs/Wiring` what wiring components does,
 //! `specs/Stops` what stop it has, `specs/Comes` what a call answers that reads files,
-//! `specs/FaultText` how a file that is refused is told.
+//! `specs/FaultText` how a file that is refused is told. `specs/TraceFile` says which texts of
+//! traces are read.
 #![tactic(auto)]
 
 mod configuration;
@@ -16,13 +17,15 @@ mod read;
 mod setup;
 mod stops;
 mod text;
+mod trace_file;
 mod wiring;
 
 pub use configuration::Configuration;
-pub use error::{Fault, Refusal, SetupError};
+pub use error::{Fault, Refusal, SetupError, failed, refused};
 pub use listing::read_record;
 pub use passing::pass_is_wired;
 pub use read::read_configuration;
 pub use setup::{Replay, set_up};
 pub use text::LONGEST_CONFIG;
+pub use trace_file::read_trace_file;
 pub use wiring::{place_components, wire_components};

@@ -211,10 +211,10 @@ fn set_up_pass<S: Store>(
 /// Sets up a replay. It reads the DAG file, the component files that it names, in the order of the
 /// DAG, the scheduler file, if one is given, and the record; or the record alone, where the one
 /// component passes messages on. Then it wires the components over the record's channels, looks for
-/// the component of a stop, lists the messages that are played, and places the components. The first
-/// thing in the way is answered: a file that is refused, where a fault of the wiring or of a stop is
-/// one of the DAG file, or else of the record, and too many messages or entries are one of the
-/// record. No file is changed.
+/// the component of a stop, lists the messages that are played, and places the components. The
+/// first thing in the way is answered: a file that is refused, where a fault of the wiring or of a
+/// stop is one of the DAG file, or else of the record, and too many messages or entries are one of
+/// the record. No file is changed.
 pub fn set_up<S: Store>(
     alloc: Global,
     store: &mut S,

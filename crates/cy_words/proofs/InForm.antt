@@ -10,11 +10,12 @@ use Rattle.cy_request.specs.Request.{HasReader, OfPass}
 use Rattle.cy_words.specs.declared.words.Command as code
 use Rattle.cy_words.specs.declared.words.Command.TheVariants as asked
 use Rattle.cy_words.specs.CheckWords.{check_asked}
-use Rattle.cy_words.specs.Command.{Asks, Check, Command, Form, Info, Make, Play, form_of, forms, info_asked}
+use Rattle.cy_words.specs.Command.{Asks, Check, Command, Form, Info, Make, Play, Verify, form_of, forms, info_asked}
 use Rattle.cy_words.specs.MakeWords.{MakeWords, count_of, longest_prefix, made_by, make_asked, most_made, where_made}
 use Rattle.cy_words.specs.Options.{Alone, Apart, AreOptions, Filled, Given, Joined, Known, Options, Place, is_known, is_place, kind_of, name_in, value_in, values_under}
 use Rattle.cy_words.specs.PassWords.{pass_asked, pass_known, passed_by}
-use Rattle.cy_words.specs.PlayWords.{PlayWords, are_lists, is_play, play_asked, play_of_all, play_words, spelled_number, where_play, ◌>>=◌}
+use Rattle.cy_words.specs.PlayWords.{PlayWords, are_lists, is_play, play_asked, play_given, play_of_all, play_words, spelled_number, where_play, ◌>>=◌}
+use Rattle.cy_words.specs.VerifyWords.{is_apart, verify_asked, where_apart}
 use Rattle.cy_words.specs.private.Scan.{command_of}
 use Rattle.cy_words.specs.Views.{IsInForm, command_asked}
 use Rattle.cy_words.specs.Words.{is_word}
@@ -50,6 +51,7 @@ placed_word known words o name v p is e = first_word known p.given name v [] p.a
 -- what holds of a command that is asked for
 abbrev pub IsFit : Command → Type 0
 IsFit (Play w) = HasReader w.request.components
+IsFit (Verify w) = HasReader w.request.components
 IsFit (Make w) = (0 < w.count) × (w.count ≤ most_made) × (length w.prefix ≤ longest_prefix)
 IsFit c = ⊤
 
@@ -72,11 +74,21 @@ bound_holds (Some a) f h = h a
 play_reader : (o : Options) → IfSome (play_words o) ReaderOf
 play_reader o = search bound_holds depth 12
 
+given_fit : (o : Options) (w : PlayWords) → play_given o ≡ Some w → ReaderOf w
+unfolding play_given
+given_fit o w e = subst (λ (x : Option PlayWords). IfSome x ReaderOf) (guarded (are_lists o) (play_words o) w e).1 (play_reader o)
+
 play_fit : (o : Options) (w : PlayWords) → play_asked o ≡ Some w → ReaderOf w
 unfolding play_asked
 play_fit o w e =
-    let b = bound (play_words o) where_play w (guarded (are_lists o) (play_words o >>= where_play) w e).1 in
-    subst ReaderOf (where_is b.0 w b.2) (subst (λ (x : Option PlayWords). IfSome x ReaderOf) b.1 (play_reader o))
+    let b = bound (play_given o) where_play w e in
+    subst ReaderOf (where_is b.0 w b.2) (given_fit o b.0 b.1)
+
+verify_fit : (o : Options) (w : PlayWords) → verify_asked o ≡ Some w → ReaderOf w
+unfolding verify_asked
+verify_fit o w e =
+    let b = bound (play_given o) where_apart w e in
+    subst ReaderOf (some_same b.0 w (guarded (is_apart b.0) (Some b.0) w b.2).1) (given_fit o b.0 b.1)
 
 pass_fit : (words : List Text) (o : Options) (w : PlayWords) → AreOptions pass_known words o → pass_asked o ≡ Some w → ReaderOf w
 pass_fit words o w p e =
@@ -123,7 +135,10 @@ each_fits = (
       λ words o c p. fit_by (check_asked o) Check c (λ w e. tt),
       (
         λ words o c p. fit_by (info_asked o) Info c (λ w e. tt),
-        (λ words o c p. fit_by (make_asked o) Make c (make_fit o), tt),
+        (
+          λ words o c p. fit_by (make_asked o) Make c (make_fit o),
+          (λ words o c p. fit_by (verify_asked o) Verify c (verify_fit o), tt),
+        ),
       ),
     ),
   ),
@@ -146,6 +161,7 @@ asked_fits (name ∷ words) c h = found_fits forms name h.0 h.1 each_fits words 
 in_form_by : (c : code.Command) → IsFit (command_asked c) → IsInForm c
 in_form_by (asked.Play w) fit = fit
 in_form_by (asked.Make w) fit = (fit.0, fit.1)
+in_form_by (asked.Verify w) fit = fit
 in_form_by c fit = tt
 
 pub in_form : (words : List Text) (found : Option code.Command) → option_map command_asked found ≡ command_of words → IfSome found IsInForm

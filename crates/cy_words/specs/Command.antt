@@ -7,6 +7,7 @@ use Rattle.cy_words.specs.MakeWords.{MakeWords, make_asked, make_known}
 use Rattle.cy_words.specs.Options.{AreOptions, Known, Options, placed}
 use Rattle.cy_words.specs.PassWords.{pass_asked, pass_known}
 use Rattle.cy_words.specs.PlayWords.{PlayWords, play_asked, play_known}
+use Rattle.cy_words.specs.VerifyWords.{verify_asked, verify_known}
 
 -- The words of `info`: the record that is told of.
 pub record InfoWords : Type 0 where
@@ -18,12 +19,14 @@ info_known = placed (codes "file") ∷ []
 abbrev pub info_asked : Options → Option InfoWords
 info_asked o = option_map (λ file. record { file = file }) (o (codes "file"))
 
--- `check`, `info`, `play` and `make`, each with its words; `pass` is a play.
+-- `check`, `info`, `play`, `make` and `verify`, each with its words; `pass` is a play, and the
+-- words of `verify` are those of the play that is judged.
 pub data Command : Type 0 where
   Check : (words : CheckWords) → Command
   Info : (words : InfoWords) → Command
   Play : (words : PlayWords) → Command
   Make : (words : MakeWords) → Command
+  Verify : (words : PlayWords) → Command
 
 -- A form of words that ask for a command: the name that stands first, what is known of the words
 -- behind it, and what their values ask for.
@@ -42,6 +45,7 @@ forms = form (codes "play") play_known (λ o. option_map Play (play_asked o))
     ∷ form (codes "check") check_known (λ o. option_map Check (check_asked o))
     ∷ form (codes "info") info_known (λ o. option_map Info (info_asked o))
     ∷ form (codes "make") make_known (λ o. option_map Make (make_asked o))
+    ∷ form (codes "verify") verify_known (λ o. option_map Verify (verify_asked o))
     ∷ []
 
 unfoldable pub form_of : List ℕ → Option Form

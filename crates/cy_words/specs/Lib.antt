@@ -7,5 +7,6 @@ pub mod Options
 pub mod PassWords
 pub mod PlayViews
 pub mod PlayWords
+pub mod VerifyWords
 pub mod Views
 pub mod Words

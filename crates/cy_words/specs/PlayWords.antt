@@ -134,9 +134,13 @@ is_play w = not (bytes_eq w.output w.trace) && is_other w.output w && is_other w
 abbrev pub where_play : PlayWords → Option PlayWords
 where_play w = if is_play w then Some w else None
 
--- What the options ask for: a play, with lists that are lists.
+-- What the options say, with lists that are lists.
 abbrev pub are_lists : Options → Bool
 are_lists o = is_list_or_none (o (codes "channels")) && is_list_or_none (o (codes "drop"))
 
+unfoldable pub play_given : Options → Option PlayWords
+play_given o = if are_lists o then play_words o else None
+
+-- What they ask for: a play.
 unfoldable pub play_asked : Options → Option PlayWords
-play_asked o = if are_lists o then play_words o >>= where_play else None
+play_asked o = play_given o >>= where_play

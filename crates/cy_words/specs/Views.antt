@@ -29,8 +29,10 @@ command_asked (asked.Check w) = command.Check (check_words_of w)
 command_asked (asked.Info w) = command.Info (info_words_of w)
 command_asked (asked.Play w) = command.Play (play_words_of w)
 command_asked (asked.Make w) = command.Make (make_words_of w)
+command_asked (asked.Verify w) = command.Verify (play_words_of w)
 
 abbrev pub IsInForm : code.Command → Type 0
 IsInForm (asked.Play w) = HasReader (play_words_of w).request.components
 IsInForm (asked.Make w) = (0 < w.count) × (w.count ≤ most_made)
+IsInForm (asked.Verify w) = HasReader (play_words_of w).request.components
 IsInForm c = ⊤

@@ -1,7 +1,8 @@
 //! The words of the program `cyber`: which commands there are, and which words ask for each.
 //!
 //! `specs/Command` says what is asked for: by `specs/Options`, `specs/Words` and the words of each
-//! command, `specs/PlayWords`, `specs/PassWords`, `specs/CheckWords` and `specs/MakeWords`.
+//! command, `specs/PlayWords`, `specs/PassWords`, `specs/CheckWords`, `specs/MakeWords` and
+//! `specs/VerifyWords`.
 #![tactic(auto)]
 
 mod check_words;
@@ -16,6 +17,7 @@ mod options;
 mod pass_words;
 mod play_words;
 mod program;
+mod verify_words;
 mod words;
 
 pub use check_words::Check;

@@ -1,13 +1,15 @@
 // The words of `play`.
-ghost use Rattle.std.specs.Prelude.{◌≡◌, is_some, option_map};
+ghost use Rattle.std.specs.Prelude.{◌≡◌, ◌≤◌, length, is_some, option_map};
 ghost use Rattle.cy_request.specs.Request.{components_of, stop_at_of};
 ghost use Rattle.cy_words.specs.PlayWords.{with_digit, spelled_number, number_or, is_list};
 ghost use Rattle.cy_words.specs.PlayWords.{is_list_or_none, is_no_config, is_other, is_play};
 ghost use Rattle.cy_words.specs.PlayWords.{is_some_of};
-ghost use Rattle.cy_words.specs.PlayWords.{are_lists, play_asked, play_known, play_of_all};
+ghost use Rattle.cy_words.specs.PlayWords.{are_lists, play_asked, play_given, play_known};
+ghost use Rattle.cy_words.specs.PlayWords.{play_of_all};
 ghost use Rattle.cy_words.specs.PlayWords.{play_words, stop_at, stop_or_none, where_play};
 ghost use Rattle.cy_words.specs.PlayViews.{play_words_of};
-ghost use Rattle.cy_words.specs.private.OptionViews.{values_of};
+ghost use Rattle.cy_words.specs.VerifyWords.{is_apart, where_apart};
+ghost use Rattle.cy_words.specs.private.OptionViews.{table_of, values_of};
 
 use crate::options::{Kind, Known, Values};
 use cy_request::{Components, StopAt};
@@ -202,66 +204,92 @@ impl<'a> Play<'a> {
     {
         if self.is_in_form() { Some(self) } else { None }
     }
+
+    // Whether, beside that, the record that is read is none of those that say which components
+    // there are.
+    #[tactic(auto, unfolding(crate::specs::VerifyWords::is_apart))]
+    fn is_apart(&self) -> bool
+        ensures { result ≡ is_apart (play_words_of self.now) }
+    {
+        self.is_in_form() && is_no_config(self.input, &self.components)
+    }
+
+    // The play, where its names are apart.
+    pub(crate) fn where_apart(self) -> Option<Self>
+        ensures { option_map play_words_of result ≡ where_apart (play_words_of self.entry) }
+    {
+        if self.is_apart() { Some(self) } else { None }
+    }
 }
 
 // The value of an option.
-fn value<'a>(values: Values<'_, 'a>, name: &str) -> Option<&'a str>
-    ensures { option_map (λ v. v.now) result ≡ values_of play_known values.entry name.now }
+fn value<'a>(known: &[Known], values: Values<'_, 'a>, name: &str) -> Option<&'a str>
+    requires { length known.now ≤ 16 }
+    ensures { option_map (λ v. v.now) result
+        ≡ values_of (table_of known.now) values.entry name.now }
 {
-    values.of(&PLAY, name)
+    values.of(known, name)
 }
 
 // Whether an option is given.
-fn is_given(values: Values, name: &str) -> bool
-    ensures { result ≡ is_some (values_of play_known values.entry name.now) }
+fn is_given(known: &[Known], values: Values, name: &str) -> bool
+    requires { length known.now ≤ 16 }
+    ensures { result ≡ is_some (values_of (table_of known.now) values.entry name.now) }
 {
-    value(values, name).is_some()
+    value(known, values, name).is_some()
 }
 
 // The number that an option gives, or what stands for it where it isn't given.
-fn number(values: Values, absent: u64, name: &str) -> Option<u64>
-    ensures { result ≡ number_or absent (values_of play_known values.entry name.now) }
+fn number(known: &[Known], values: Values, absent: u64, name: &str) -> Option<u64>
+    requires { length known.now ≤ 16 }
+    ensures { result
+        ≡ number_or absent (values_of (table_of known.now) values.entry name.now) }
 {
-    number_or(absent, value(values, name))
+    number_or(absent, value(known, values, name))
 }
 
 // The stop that the option of this name gives, if it is given.
-fn stop_asked<'a>(values: Values<'_, 'a>, name: &str) -> Option<Option<StopAt<'a>>>
+fn stop_asked<'a>(known: &[Known], values: Values<'_, 'a>, name: &str) -> Option<Option<StopAt<'a>>>
+    requires { length known.now ≤ 16 }
     ensures { option_map (option_map stop_at_of) result
-        ≡ stop_or_none (values_of play_known values.entry name.now) }
+        ≡ stop_or_none (values_of (table_of known.now) values.entry name.now) }
 {
-    stop_or_none(value(values, name))
+    stop_or_none(value(known, values, name))
 }
 
 // Whether an option has no list with an empty name.
-fn has_list(values: Values, name: &str) -> bool
-    ensures { result ≡ is_list_or_none (values_of play_known values.entry name.now) }
+fn has_list(known: &[Known], values: Values, name: &str) -> bool
+    requires { length known.now ≤ 16 }
+    ensures { result ≡ is_list_or_none (values_of (table_of known.now) values.entry name.now) }
 {
-    is_list_or_none(value(values, name))
+    is_list_or_none(value(known, values, name))
 }
 
 // Whether the lists of channels have no empty names.
-fn are_lists(values: Values) -> bool
-    ensures { result ≡ are_lists (values_of play_known values.entry) }
+fn are_lists(known: &[Known], values: Values) -> bool
+    requires { length known.now ≤ 16 }
+    ensures { result ≡ are_lists (values_of (table_of known.now) values.entry) }
 {
-    has_list(values, "channels") && has_list(values, "drop")
+    has_list(known, values, "channels") && has_list(known, values, "drop")
 }
 
 // What the options say, where those are given that every play has.
-fn play_with<'a>(values: Values<'_, 'a>) -> Option<Play<'a>>
-    ensures { option_map play_words_of result ≡ play_words (values_of play_known values.entry) }
+fn play_with<'a>(known: &[Known], values: Values<'_, 'a>) -> Option<Play<'a>>
+    requires { length known.now ≤ 16 }
+    ensures { option_map play_words_of result
+        ≡ play_words (values_of (table_of known.now) values.entry) }
 {
-    let dag = value(values, "dag")?;
-    let input = value(values, "record")?;
-    let output = value(values, "out")?;
-    let trace = value(values, "trace")?;
-    let begin = number(values, 0, "begin")?;
-    let end = number(values, u64::MAX, "end")?;
-    let stop = stop_asked(values, "stop")?;
-    let sched = value(values, "sched");
-    let only = value(values, "channels");
-    let drop = value(values, "drop");
-    let serial = is_given(values, "serial");
+    let dag = value(known, values, "dag")?;
+    let input = value(known, values, "record")?;
+    let output = value(known, values, "out")?;
+    let trace = value(known, values, "trace")?;
+    let begin = number(known, values, 0, "begin")?;
+    let end = number(known, values, u64::MAX, "end")?;
+    let stop = stop_asked(known, values, "stop")?;
+    let sched = value(known, values, "sched");
+    let only = value(known, values, "channels");
+    let drop = value(known, values, "drop");
+    let serial = is_given(known, values, "serial");
     Some(Play {
         components: Components::Files { dag, sched },
         input,
@@ -276,13 +304,23 @@ fn play_with<'a>(values: Values<'_, 'a>) -> Option<Play<'a>>
     })
 }
 
+/// What the options say of a play, where its lists are lists.
+#[tactic(auto, unfolding(crate::specs::PlayWords::play_given))]
+pub(crate) fn play_of<'a>(known: &[Known], values: Values<'_, 'a>) -> Option<Play<'a>>
+    requires { length known.now ≤ 16 }
+    ensures { option_map play_words_of result
+        ≡ play_given (values_of (table_of known.now) values.entry) }
+{
+    if !are_lists(known, values) {
+        return None;
+    }
+    play_with(known, values)
+}
+
 /// What the options ask for.
 #[tactic(auto, unfolding(crate::specs::PlayWords::play_asked))]
 pub(crate) fn play_asked<'a>(values: Values<'_, 'a>) -> Option<Play<'a>>
     ensures { option_map play_words_of result ≡ play_asked (values_of play_known values.entry) }
 {
-    if !are_lists(values) {
-        return None;
-    }
-    play_with(values)?.where_in_form()
+    play_of(&PLAY, values)?.where_in_form()
 }

@@ -12,6 +12,7 @@ use crate::make_words::{MAKE, Make, make_asked};
 use crate::options::{Kind, Known, Values, options_met};
 use crate::pass_words::{PASS, pass_asked};
 use crate::play_words::{PLAY, Play, play_asked};
+use crate::verify_words::{VERIFY, verify_asked};
 use cy_msg::Text;
 
 /// The most bytes of a word.
@@ -46,18 +47,21 @@ pub enum Command<'a> {
     Play(Play<'a>),
     /// To make the files of a play, and to play them.
     Make(Make<'a>),
+    /// To judge a trace and a record that are said to be of a play.
+    Verify(Play<'a>),
 }
 
 /// A form of words: the name that stands first, and what is known of the words behind it.
 pub(crate) type Form = (&'static str, &'static [Known]);
 
 /// The forms that there are.
-pub(crate) const FORMS: [Form; 5] = [
+pub(crate) const FORMS: [Form; 6] = [
     ("play", &PLAY),
     ("pass", &PASS),
     ("check", &CHECK),
     ("info", &INFO),
     ("make", &MAKE),
+    ("verify", &VERIFY),
 ];
 
 /// What values ask for behind the name of a form.
@@ -72,6 +76,7 @@ pub(crate) fn asked_of<'a>(name: &str, values: Values<'_, 'a>) -> Option<Command
         "check" => Some(Command::Check(check_asked(values)?)),
         "info" => Some(Command::Info(info_asked(values)?)),
         "make" => Some(Command::Make(make_asked(values)?)),
+        "verify" => Some(Command::Verify(verify_asked(values)?)),
         _ => None,
     }
 }

@@ -1,6 +1,6 @@
 -- Where no count of faults rose, the answer is what the files call for, or Memory.
 use Rattle.std.proofs.Common.{◌≡◌, ℕ, List, Option, Some, None, refl, sym, ap, ◌∙◌, subst, inl, inr}
-use Rattle.std.specs.Prelude.{◌⊎◌, MatchOption}
+use Rattle.std.specs.Prelude.{◌⊎◌, ⊤, MatchOption}
 use Rattle.std.proofs.lemmas.Option.{MatchOption-at_some}
 use Rattle.cy_store.specs.Files.{Files}
 use Rattle.cy_store.specs.Store.{StoreView, Rose}
@@ -8,10 +8,12 @@ use Rattle.cy_commands.specs.declared.status.Status.{Status}
 use Rattle.cy_commands.specs.declared.status.Status.TheVariants.{Done, Refused, Usage, StoreFault, SinkFault, Limit, Memory}
 use Rattle.cy_store.specs.Reads.{Reads, Accepts, Refuses, Absent}
 use Rattle.cy_replay.specs.declared.error.Refusal.{Refusal}
-use Rattle.cy_commands.specs.Status.{fault_status}
-use Rattle.cy_words.specs.Command.{Command}
+use Rattle.cy_commands.specs.Status.{status_of}
+use Rattle.cy_words.specs.Command.{Check, Command, Info, Make, Play, Verify}
+use Rattle.cy_words.specs.PlayWords.{PlayWords}
 use Rattle.cy_commands.specs.Work.{Work}
-use Rattle.cy_commands.specs.Commands.{IsAbsent, IsAccepted, IsRefused, IsTaken, Making, Outcome, Reading, outcome_of}
+use Rattle.cy_commands.specs.Commands.{IsAbsent, IsAccepted, IsRefused, IsTaken, Judging, Making, Outcome, Reading, outcome_of}
+use Rattle.cy_commands.specs.Commands.VerifyWork.{IsReadToVerify, IsVerified, VerdictsAreOne}
 use Rattle.cy_commands.specs.Due.{IsDue, IsDueFor, IsMisused}
 use Rattle.cyber_cli.specs.Told.{Sinks, IsTold, IsUntold}
 use Rattle.cyber_cli.specs.Ends.{Answers, CallsFor, IsComplete}
@@ -45,6 +47,7 @@ no_sink_fault due line old new answer t e out err =
 taken : (o : Outcome) (m : Files) (work : Work) → IsAccepted o (Some m) work → IsTaken o m
 taken (Reading names reads makes) m work a = (a.read, a.accepted)
 taken (Making makes) m work a = tt
+taken (Judging names comes) m work a = (work, a)
 
 -- what is due is called for, where no faults rose
 called : (c : Command) (old new : StoreView) (m : Files) (due : Status) (line : List ℕ) → old.files ≡ Some m → (Rose old.faults new.faults → ⊥)
@@ -66,40 +69,70 @@ called c old new m SinkFault line told quiet d = absurd d
 called c old new m Limit line told quiet d = inr (line, subst (λ (files : Option Files). IsRefused (outcome_of c) files Limit line) told d.refused)
 called c old new m Memory line told quiet d = inl refl
 
--- what the files come to calls for one status
-abbrev status_of : {A : Type 0} → Reads Refusal A → Status
-status_of (Accepts c) = Done
-status_of (Refuses r) = fault_status r.fault
-status_of (Absent name) = StoreFault
+-- what is no judging
+abbrev IsRead : Outcome → Type 0
+IsRead (Reading names reads makes) = ⊤
+IsRead (Making makes) = ⊤
+IsRead (Judging names comes) = ⊥
 
--- and where none is read, Done is called for
+-- what the files come to calls for one status, and where none is read, Done is called for
 abbrev one_status : Outcome → Files → Status
 one_status (Reading names reads makes) m = status_of (reads m)
 one_status (Making makes) m = Done
+one_status (Judging names comes) m = Done
 
-is_one : (o : Outcome) (m : Files) (due : Status) → CallsFor o m due → due ≡ one_status o m
-is_one (Reading names reads makes) m Done h = ap status_of (sym h.1)
-is_one (Reading names reads makes) m Refused h = h.1.status ∙ ap status_of (sym h.1.refused)
-is_one (Reading names reads makes) m StoreFault h = ap status_of (sym h.1)
-is_one (Reading names reads makes) m Limit h = h.1.status ∙ ap status_of (sym h.1.refused)
-is_one (Making makes) m Done h = refl
-is_one (Making makes) m Refused h = absurd h.1
-is_one (Making makes) m StoreFault h = absurd h.1
-is_one (Making makes) m Limit h = absurd h.1
-is_one o m Usage h = absurd h
-is_one o m SinkFault h = absurd h
-is_one o m Memory h = absurd h
+-- what judged files call for is what they come to
+record JudgedAs (comes : Option Files → Reads Refusal Work → Type 0) (m : Files) (due : Status) : Type 0 where
+  result : Reads Refusal Work
+  came : comes (Some m) result
+  is : due ≡ status_of result
 
-one_call : (o : Outcome) (m : Files) (a b : Status) → CallsFor o m a → CallsFor o m b → a ≡ b
-one_call o m a b x y = is_one o m a x ∙ sym (is_one o m b y)
+judged_as : (names : Option Files → List ℕ → Type 0) (comes : Option Files → Reads Refusal Work → Type 0) (m : Files) (due : Status) → CallsFor (Judging names comes) m due → JudgedAs comes m due
+judged_as names comes m Done h = record { result = Accepts h.0; came = h.1; is = refl }
+judged_as names comes m Refused h = record { result = Refuses h.1.refusal; came = h.1.refused; is = h.1.status }
+judged_as names comes m StoreFault h = record { result = Absent h.0; came = h.1; is = refl }
+judged_as names comes m Limit h = record { result = Refuses h.1.refusal; came = h.1.refused; is = h.1.status }
+judged_as names comes m Usage h = absurd h
+judged_as names comes m SinkFault h = absurd h
+judged_as names comes m Memory h = absurd h
 
-pub complete : (asked : Option Command) (old_store new_store : StoreView) (old new : Sinks) (answer : Status) → Answers asked old_store new_store old new answer
+is_one : (o : Outcome) (m : Files) (due : Status) → IsRead o → CallsFor o m due → due ≡ one_status o m
+is_one (Reading names reads makes) m Done read h = ap status_of (sym h.1)
+is_one (Reading names reads makes) m Refused read h = h.1.status ∙ ap status_of (sym h.1.refused)
+is_one (Reading names reads makes) m StoreFault read h = ap status_of (sym h.1)
+is_one (Reading names reads makes) m Limit read h = h.1.status ∙ ap status_of (sym h.1.refused)
+is_one (Making makes) m Done read h = refl
+is_one (Making makes) m Refused read h = absurd h.1
+is_one (Making makes) m StoreFault read h = absurd h.1
+is_one (Making makes) m Limit read h = absurd h.1
+is_one (Judging names comes) m due read h = absurd read
+is_one o m Usage read h = absurd h
+is_one o m SinkFault read h = absurd h
+is_one o m Memory read h = absurd h
+
+by_reading : (o : Outcome) (m : Files) (a b : Status) → IsRead o → CallsFor o m a → CallsFor o m b → a ≡ b
+by_reading o m a b read x y = is_one o m a read x ∙ sym (is_one o m b read y)
+
+by_judging : VerdictsAreOne → (w : PlayWords) (m : Files) (a b : Status) → CallsFor (outcome_of (Verify w)) m a → CallsFor (outcome_of (Verify w)) m b → a ≡ b
+by_judging one w m a b x y =
+    let p = judged_as (IsReadToVerify w) (IsVerified w) m a x in
+    let q = judged_as (IsReadToVerify w) (IsVerified w) m b y in
+    p.is ∙ one w m p.result q.result p.came q.came ∙ sym q.is
+
+one_call : VerdictsAreOne → (c : Command) (m : Files) (a b : Status) → CallsFor (outcome_of c) m a → CallsFor (outcome_of c) m b → a ≡ b
+one_call one (Check w) m a b x y = by_reading (outcome_of (Check w)) m a b tt x y
+one_call one (Info w) m a b x y = by_reading (outcome_of (Info w)) m a b tt x y
+one_call one (Play w) m a b x y = by_reading (outcome_of (Play w)) m a b tt x y
+one_call one (Make w) m a b x y = by_reading (outcome_of (Make w)) m a b tt x y
+one_call one (Verify w) m a b x y = by_judging one w m a b x y
+
+pub complete : VerdictsAreOne → (asked : Option Command) (old_store new_store : StoreView) (old new : Sinks) (answer : Status) → Answers asked old_store new_store old new answer
     → IsComplete asked old_store new_store old new answer
-complete asked old_store new_store old new answer a c m due is told call store out err =
+complete one asked old_store new_store old new answer a c m due is told call store out err =
     elim (told_so a.due a.line old new answer a.is_told) [
       | inl same ↦ elim (called c old_store new_store m a.due a.line told store is_due) [
         | inl memory ↦ inr (same ∙ memory)
-        | inr calls ↦ inl (same ∙ one_call (outcome_of c) m a.due due calls call)
+        | inr calls ↦ inl (same ∙ one_call one c m a.due due calls call)
       ]
       | inr other ↦ elim other [
         | inl fault ↦ absurd (no_sink_fault a.due a.line old new answer a.is_told fault out err)

@@ -9,7 +9,7 @@ ghost use Rattle.cyber_cli.specs.Ends.{Answers, IsComplete};
 
 use crate::telling::tell;
 use crate::threads::due_played_with_threads;
-use cy_commands::{Begun, Due, Status, begin, due_of};
+use cy_commands::{Begun, Due, Status, begin, due_of, verdicts_are_one};
 use cy_msg::Text;
 use cy_run::Gate;
 use cy_store::{Sink, Store};
@@ -55,6 +55,10 @@ fn due_with_threads<'s, S: Store, G: Gate, R: Threads + Wait + Sync>(
 /// `make N PREFIX` makes the files of a play of N messages, whose names begin with PREFIX, and
 /// plays them.
 ///
+/// `verify --dag F --record F --out F --trace F`, with `--stop` and the options of `play` that
+/// choose messages, says whether the trace is that of a lawful run of such a play, and the record
+/// that of its tape. It makes no file.
+///
 /// The text or the line that tells what was done goes to `out`, and one that tells of a refusal or
 /// a fault goes to `err`. The answer is one of the seven statuses; its contract says which is due,
 /// what stands in the store then, and how it is told. A processor passes `gate` before each call of
@@ -81,6 +85,7 @@ pub fn cyber<S: Store, O: Sink, E: Sink, G: Gate, R: Threads + Wait + Sync>(
 {
     let read = CommandWords::asking(alloc, words);
     let due = due_with_threads(rt, alloc, &read, store, gate);
+    verdicts_are_one();
     tell(&due, out, err)
 }
 
@@ -106,5 +111,6 @@ pub fn cyber_still<S: Store, O: Sink, E: Sink>(
 {
     let read = CommandWords::asking_still(alloc, words);
     let due = due_of(alloc, &read, store);
+    verdicts_are_one();
     tell(&due, out, err)
 }

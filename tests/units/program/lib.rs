@@ -1,4 +1,5 @@
-//! Tests of the record of a tape, of the files of a play, and of the program in memory.
+//! Tests of the record of a tape, of a file compared with it, of the files of a play, and of the
+//! program in memory.
 
 mod cyber;
 mod cyber_make;
@@ -6,3 +7,4 @@ mod cyber_play;
 mod make;
 mod records;
 mod replay;
+mod same;

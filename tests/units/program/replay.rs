@@ -54,20 +54,25 @@ const ALONE_SECTIONS: &[u8] = b"\x04\0\0\0\0\0\0\0\x0b\0\0\0\0\0\0\0\x0a\x03/in\
     \x0a\x10\x08\x01\x10\xab\x10\xb2\x06\x08\x08\x01\x10\x64\x18\x64\x20\x02\
     \x0a\x0a\x08\x02\x10\xc3\x10\xba\x06\x02\x08\x01";
 
-// A record of a message on `/other` and behind it one on `/in`, at 100 with the value 7.
-fn small_record(rt: &HostRuntime) -> Result<Record, Fail> {
+/// A record of a message on `/other` and behind it one on `/in`, at 100 with the value 7.
+pub fn small_record(rt: &HostRuntime) -> Result<Record, Fail> {
+    record_with(rt, b"\x08\x0e")
+}
+
+/// The same with another content of the message on `/in`.
+pub fn record_with(rt: &HostRuntime, content: &[u8]) -> Result<Record, Fail> {
     let mut store = MemStore::new(rt.alloc());
     let mut writer = RecordWriter::start(rt.alloc(), &mut store, "in.rec")?;
     writer.channel(rt.alloc(), &mut store, "/other", "S", b"")?;
     writer.channel(rt.alloc(), &mut store, "/in", "T", b"D")?;
     writer.message(rt.alloc(), &mut store, 0, 90, b"\x08\x02")?;
-    writer.message(rt.alloc(), &mut store, 1, 100, b"\x08\x0e")?;
+    writer.message(rt.alloc(), &mut store, 1, 100, content)?;
     writer.close(rt.alloc(), &mut store)?;
     Ok(load(rt.alloc(), &mut store, "in.rec")?)
 }
 
-// A component that passes `/in` on to `/out`, whose messages have the type `U`.
-fn pass_wiring(rt: &HostRuntime) -> Result<Wiring, Fail> {
+/// A component that passes `/in` on to `/out`, whose messages have the type `U`.
+pub fn pass_wiring(rt: &HostRuntime) -> Result<Wiring, Fail> {
     let mut names = Names::new(rt.alloc());
     names.add(rt.alloc(), "/in")?;
     names.add(rt.alloc(), "/out")?;
@@ -83,8 +88,8 @@ fn pass_wiring(rt: &HostRuntime) -> Result<Wiring, Fail> {
     Ok(Wiring::of_one(names, Items::new(vec![in rt.alloc(); plan]?)))
 }
 
-// The played message of `/in`.
-fn in_message() -> Token {
+/// The played message of `/in`.
+pub fn in_message() -> Token {
     Token {
         channel: 0,
         seq: 1,
@@ -94,8 +99,8 @@ fn in_message() -> Token {
     }
 }
 
-// A message of `/out` with a value, or without one.
-fn out_message(whole: Option<i64>) -> Token {
+/// A message of `/out` with a value, or without one.
+pub fn out_message(whole: Option<i64>) -> Token {
     Token {
         channel: 1,
         seq: 1,
@@ -105,8 +110,8 @@ fn out_message(whole: Option<i64>) -> Token {
     }
 }
 
-// The second message of the record, played.
-fn one_played(rt: &HostRuntime) -> Result<PlayList, Fail> {
+/// The second message of the record, played.
+pub fn one_played(rt: &HostRuntime) -> Result<PlayList, Fail> {
     Ok(PlayList {
         tokens: Items::new(vec![in rt.alloc(); in_message()]?),
         places: Items::new(vec![in rt.alloc(); 1]?),

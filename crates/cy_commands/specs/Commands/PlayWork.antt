@@ -74,9 +74,9 @@ pub record IsPlayed (serial : Bool) (read : Replayed) (list : PlayList) (stop : 
   pub run : IsRunOf serial (routes_of read.wired.plans) stop (scan_of contexts) list.tokens w
   pub lawful : LawfulRun list.tokens (routes_of read.wired.plans) stop w
 
--- What `play` makes of what was read: the record and the trace of one lawful run, with the stop that
--- is asked for, each of the form that is read back, written in their order, after which both files
--- hold them and every other name is as before; and the line with the run's numbers.
+-- What `play` makes of what was read: the record and the trace of one lawful run, with the stop
+-- that is asked for, each of the form that is read back, written in their order, after which both
+-- files hold them and every other name is as before; and the line with the run's numbers.
 pub record IsPlayWork (w : PlayWords) (read : Replayed) (work : Work) : Type 0 where
   pub list : PlayList
   pub listed : IsPlayList read.contents (choice_of w.request.filter read.wired) list

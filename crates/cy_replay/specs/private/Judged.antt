@@ -14,8 +14,8 @@ use Rattle.cy_replay.specs.Setup.{Replayed, replayed}
 use Rattle.cy_replay.specs.Stops.{stop_in}
 use Rattle.cy_replay.specs.Wiring.{Wired}
 
--- What is judged behind a wiring: the component that a stop names, how many messages are played, and
--- how many entries are planned.
+-- What is judged behind a wiring: the component that a stop names, how many messages are played,
+-- and how many entries are planned.
 abbrev pub judged_over : List ℕ → Request → Configured → Contents → Wired → Reads Refusal Replayed
 judged_over file r configured contents wired = do
   found ← stop_in file r.stop wired

@@ -1,7 +1,7 @@
 // What setting up a replay of the chain answers where a file is in the way.
 use super::ran::chain_store;
-use cy_msg::Items;
-use cy_replay::{Fault, Replay, SetupError, set_up};
+use cy_msg::{Bytes, Items, Text};
+use cy_replay::{Fault, Refusal, Replay, SetupError, set_up};
 use cy_request::{Components, Filter, Request, StopAt};
 use cy_store::{MemStore, Store};
 use std::alloc::Global;
@@ -45,6 +45,10 @@ fn kind_of(fault: &Fault) -> &'static str {
         Fault::StopUnknown { .. } => "StopUnknown",
         Fault::Record(_) => "Record",
         Fault::TooMany { .. } => "TooMany",
+        Fault::TraceTooLarge { .. } => "TraceTooLarge",
+        Fault::BadLine { .. } => "BadLine",
+        Fault::Unlawful => "Unlawful",
+        Fault::Differs { .. } => "Differs",
     }
 }
 
@@ -149,5 +153,29 @@ fn refuses_a_stop_of_no_component(rt: HostRuntime) -> Result<(), Fail> {
         let answer = set_up_chain(alloc, &mut store, None, asked);
         assert_eq!(rt; told(alloc, answer)?.as_str(), want, "{component} {text}");
     }
+    Ok(())
+}
+
+// The line of a file that has a fault.
+fn line_of(alloc: Global, fault: Fault) -> Result<Bytes, Fail> {
+    let file = Text::new(alloc, "f")?;
+    let refusal = Refusal { file, fault };
+    Ok(refusal.line(alloc)?)
+}
+
+#[test]
+fn tells_what_is_wrong_with_what_is_judged(rt: HostRuntime) -> Result<(), Fail> {
+    let alloc = rt.alloc();
+    let large = Fault::TraceTooLarge { count: 1_073_741_825 };
+    assert!(rt; large.is_limit());
+    let line = line_of(alloc, large)?;
+    let want = "cyber: f: limit TraceTooLarge passed: 1073741825\n";
+    assert_eq!(rt; line.as_slice(), want.as_bytes());
+    let line = line_of(alloc, Fault::BadLine { line: 3 })?;
+    assert_eq!(rt; line.as_slice(), "cyber: f: line 3: Bad\n".as_bytes());
+    let line = line_of(alloc, Fault::Unlawful)?;
+    assert_eq!(rt; line.as_slice(), "cyber: f: not a lawful run\n".as_bytes());
+    let line = line_of(alloc, Fault::Differs { place: 2270 })?;
+    assert_eq!(rt; line.as_slice(), "cyber: f: differs at 2270\n".as_bytes());
     Ok(())
 }

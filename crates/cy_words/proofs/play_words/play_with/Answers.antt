@@ -2,8 +2,8 @@ use Rattle.std.proofs.Common.{◌≡◌, ◌∙◌, ◌^◌, ◌-◌, List, [], 
 use Rattle.std.specs.Borrow.{Bor}
 use Rattle.cy_request.specs.Request.{OfFiles, stop_at_of}
 use Rattle.cy_words.specs.Options.{Options}
-use Rattle.cy_words.specs.private.OptionViews.{values_of}
-use Rattle.cy_words.specs.PlayWords.{names_in, number_or, play_known, stop_or_none, ◌>>=◌}
+use Rattle.cy_words.specs.private.OptionViews.{table_of, values_of}
+use Rattle.cy_words.specs.PlayWords.{names_in, number_or, stop_or_none, ◌>>=◌}
 use Rattle.cy_words.proofs.play_words.play_with.Goals as goal
 
 names_now : (x : Option (Bor (List ℕ))) → option_map (λ (l : Bor (List ℕ)). names_in l.now) x ≡ option_map names_in (option_map (λ (l : Bor (List ℕ)). l.now) x)
@@ -12,7 +12,7 @@ names_now (Some l) = refl
 
 pub returns : goal.returns
 returns c =
-    let o : Options = values_of play_known c.args.values in
+    let o : Options = values_of (table_of c.args.known.now) c.args.values in
     let dag : Some c.in_ok-dag.dag.now ≡ o (codes "dag") = search rules in
     let input : Some c.in_ok-input.input.now ≡ o (codes "record") = search rules in
     let output : Some c.in_ok-output.output.now ≡ o (codes "out") = search rules in

@@ -13,7 +13,7 @@ returns-clause-answers g c command asked = record {
 
 pub returns-clause-complete : goal.returns-clause-complete
 returns-clause-complete g c command asked =
-    complete command (g.S.Store.shows c.args.store.now) (g.S.Store.shows c.due_with_threads-due.new.store)
+    complete c.verdicts_are_one.ensures command (g.S.Store.shows c.args.store.now) (g.S.Store.shows c.due_with_threads-due.new.store)
     (record { out = g.O.Sink.shows c.args.out.now; err = g.E.Sink.shows c.args.err.now }) (record { out = g.O.Sink.shows c.tell.new.out; err = g.E.Sink.shows c.tell.new.err }) c.tell.result
     (returns-clause-answers g c command asked)
 

@@ -1,0 +1,226 @@
+// The command `verify`.
+ghost use Rattle.std.specs.Prelude.{◌≡◌, IfOk, IfErr, IsOkUnless};
+ghost use Rattle.cy_msg.specs.declared.play_list.PlayList.{PlayList};
+ghost use Rattle.cy_request.specs.Request.{HasReader};
+ghost use Rattle.cy_replay.specs.Setup.{IsSetUp, Replayed, replayed};
+ghost use Rattle.cy_verify.specs.Verdict.{IsTold};
+ghost use Rattle.cy_words.specs.Command as command;
+ghost use Rattle.cy_words.specs.PlayViews.{play_words_of};
+ghost use Rattle.wake_core.specs.WorldOf.{plain_of};
+ghost use Rattle.cy_commands.specs.Commands.VerifyWork.{IsLawful, IsReadToVerify, IsSetOut};
+ghost use Rattle.cy_commands.specs.Commands.VerifyWork.{IsVerified, Judged, line_of};
+ghost use Rattle.cy_commands.specs.Due.{IsDueFor};
+ghost use Rattle.cy_commands.specs.Line.{bytes_of_line};
+ghost use Rattle.cy_commands.specs.private.VerifyEnds.{ComesBeside, Finds, IsJudgedFile};
+ghost use Rattle.cy_commands.specs.private.VerifyEnds.{IsLineBeside, IsRecordIn, IsToldIn};
+ghost use Rattle.cy_commands.specs.private.VerifyEnds.{IsTraceIn, IsUnlawful, IsVerifiedLine};
+ghost use Rattle.cy_commands.specs.private.VerifyEnds.{task_of};
+
+use crate::due::Due;
+use crate::line::Line;
+use crate::play::read_files;
+use crate::status::Status;
+use crate::unset::due_unset;
+use cy_compare::{SameError, same_record};
+use cy_msg::Bytes;
+use cy_recording::{Played, played_places_are_there};
+use cy_replay::{Fault, Replay, SetupError, failed, read_trace_file, refused};
+use cy_store::Store;
+use cy_trace::{
+    Trace, TraceError, lawful_line, read_trace, runs_are_traces, texts_tell_traces,
+    traces_of_runs_fit,
+};
+use cy_verify::{Verdict, VerifyError, verify};
+use cy_words::Play;
+use std::alloc::Global;
+use wake_core::{World, laws};
+
+// What holds of all files of a play that are accepted. Nothing runs.
+fn is_set_out(play: &Play, replay: &Replay)
+    requires { IsSetUp (play_words_of play.now).request replay.now }
+    ensures { IsSetOut (play_words_of play.now) (replayed replay.now) replay.now.list }
+{
+    let list = &replay.list;
+    traces_of_runs_fit(&replay.wiring, list.tokens.as_slice(), list.shadowed);
+}
+
+// Reads the trace.
+fn trace_of<S: Store>(alloc: Global, play: &Play, store: &mut S) -> Result<Trace, SetupError>
+    ensures { (read : Replayed) (list : PlayList) → Finds
+        (IsTraceIn (play_words_of play.now) (S.shows store.old))
+        (Judged (play_words_of play.now) read list (S.shows store.old).files)
+        (λ file. file ≡ (play_words_of play.now).trace)
+        (S.shows store.old) (S.shows store.new) result }
+{
+    let text = read_trace_file(alloc, store, play.trace)?;
+    let trace = read_trace(alloc, text.as_slice());
+    drop(text);
+    match trace {
+        Ok(trace) => Ok(trace),
+        Err(TraceError::Bad { line }) => Err(refused(alloc, play.trace, Fault::BadLine { line })),
+        Err(TraceError::Memory) => Err(SetupError::Memory),
+    }
+}
+
+// The world of which a trace tells, or that no lawful run has it.
+fn world_of(alloc: Global, play: &Play, replay: &Replay, trace: &Trace) -> Result<World, SetupError>
+    requires { IsSetUp (play_words_of play.now).request replay.now }
+    ensures told { IfOk result (λ w. IsTold (task_of replay.now) trace.now (plain_of w)) }
+    ensures error { IfErr result (IsUnlawful (play_words_of play.now) replay.now trace.now) }
+{
+    let counts = replay.counts.as_slice();
+    match verify(
+        alloc,
+        &replay.wiring,
+        counts,
+        &replay.list,
+        replay.stop,
+        trace,
+    ) {
+        Ok(Verdict::Lawful(world)) => Ok(world),
+        Ok(Verdict::Unlawful) => Err(refused(alloc, play.trace, Fault::Unlawful)),
+        Err(VerifyError::Memory) => Err(SetupError::Memory),
+    }
+}
+
+// Reads the trace, and says of which world it tells.
+fn judged_world<S: Store>(
+    alloc: Global,
+    play: &Play,
+    store: &mut S,
+    replay: &Replay,
+) -> Result<World, SetupError>
+    requires set_up { IsSetUp (play_words_of play.now).request replay.now }
+    requires set_out { IsSetOut (play_words_of play.now) (replayed replay.now) replay.now.list }
+    ensures { Finds
+        (λ w. IsToldIn (play_words_of play.now) replay.now (S.shows store.old) (plain_of w))
+        (ComesBeside (play_words_of play.now) replay.now (S.shows store.old))
+        (λ file. file ≡ (play_words_of play.now).trace)
+        (S.shows store.old) (S.shows store.new) result }
+{
+    texts_tell_traces();
+    runs_are_traces();
+    let trace = trace_of(alloc, play, store)?;
+    let world = world_of(alloc, play, replay, &trace);
+    drop(trace);
+    world
+}
+
+// Whether the record is that of the world's tape.
+fn compare<S: Store>(
+    alloc: Global,
+    play: &Play,
+    store: &mut S,
+    replay: &Replay,
+    world: &World,
+) -> Result<(), SetupError>
+    requires set_up { IsSetUp (play_words_of play.now).request replay.now }
+    requires told { IsToldIn (play_words_of play.now) replay.now (S.shows store.old)
+        (plain_of world.now) }
+    ensures { Finds
+        (λ _. IsRecordIn (play_words_of play.now) replay.now (S.shows store.old)
+        (plain_of world.now))
+        (ComesBeside (play_words_of play.now) replay.now (S.shows store.old))
+        (λ file. file ≡ (play_words_of play.now).output)
+        (S.shows store.old) (S.shows store.new) result }
+{
+    played_places_are_there();
+    laws::places();
+    let played = Played {
+        whole: &replay.recorded,
+        wiring: &replay.wiring,
+        list: &replay.list,
+    };
+    match same_record(alloc, store, play.output, &played, world.tape_list()) {
+        Ok(None) => Ok(()),
+        Ok(Some(place)) => Err(refused(alloc, play.output, Fault::Differs { place })),
+        Err(SameError::Store) => Err(failed(alloc, play.output)),
+        Err(SameError::Memory) => Err(SetupError::Memory),
+    }
+}
+
+// The line that tells of the run.
+fn tell(alloc: Global, play: &Play, replay: &Replay, world: &World) -> Result<Bytes, SetupError>
+    requires { IsLawful (play_words_of play.now) (replayed replay.now) replay.now.list
+        (plain_of world.now) }
+    ensures line { IfOk result (λ line. line ≡ line_of (replayed replay.now) replay.now.list
+        (plain_of world.now)) }
+    ensures only_memory { IsOkUnless result SetupError.Memory }
+{
+    match lawful_line(alloc, world, &replay.wiring, replay.list.shadowed) {
+        Ok(line) => Ok(line),
+        Err(TraceError::Memory) => Err(SetupError::Memory),
+        Err(TraceError::Bad { .. }) => unreachable!(),
+    }
+}
+
+// The line that tells of the run, where the record is that of its tape.
+fn compared<S: Store>(
+    alloc: Global,
+    play: &Play,
+    store: &mut S,
+    replay: &Replay,
+    world: &World,
+) -> Result<Bytes, SetupError>
+    requires set_up { IsSetUp (play_words_of play.now).request replay.now }
+    requires told { IsToldIn (play_words_of play.now) replay.now (S.shows store.old)
+        (plain_of world.now) }
+    ensures { Finds (IsLineBeside (play_words_of play.now) replay.now (S.shows store.old))
+        (ComesBeside (play_words_of play.now) replay.now (S.shows store.old))
+        (λ file. file ≡ (play_words_of play.now).output)
+        (S.shows store.old) (S.shows store.new) result }
+{
+    compare(alloc, play, store, replay, world)?;
+    tell(alloc, play, replay, world)
+}
+
+// The line that tells of the run, where the trace is that of a lawful one.
+fn judged<S: Store>(
+    alloc: Global,
+    play: &Play,
+    store: &mut S,
+    replay: &Replay,
+) -> Result<Bytes, SetupError>
+    requires set_up { IsSetUp (play_words_of play.now).request replay.now }
+    requires set_out { IsSetOut (play_words_of play.now) (replayed replay.now) replay.now.list }
+    ensures { Finds (IsLineBeside (play_words_of play.now) replay.now (S.shows store.old))
+        (ComesBeside (play_words_of play.now) replay.now (S.shows store.old))
+        (IsJudgedFile (play_words_of play.now)) (S.shows store.old) (S.shows store.new) result }
+{
+    let world = judged_world(alloc, play, store, replay)?;
+    let line = compared(alloc, play, store, replay, &world);
+    drop(world);
+    line
+}
+
+// Reads all files and judges them.
+fn verified<S: Store>(alloc: Global, play: &Play, store: &mut S) -> Result<Bytes, SetupError>
+    requires { HasReader (play_words_of play.now).request.components }
+    ensures { Finds (IsVerifiedLine (play_words_of play.now) (S.shows store.old))
+        (IsVerified (play_words_of play.now) (S.shows store.old).files)
+        (IsReadToVerify (play_words_of play.now) (S.shows store.old).files)
+        (S.shows store.old) (S.shows store.new) result }
+{
+    let replay = read_files(alloc, store, play)?;
+    is_set_out(play, &replay);
+    let line = judged(alloc, play, store, &replay);
+    drop(replay);
+    line
+}
+
+/// What is due for `verify` of a trace and a record that are said to be of a play: the numbers of
+/// the run, where a lawful one has that trace and its tape that record; or why not. Nothing is
+/// written to the store.
+pub fn run_verify<'a, S: Store>(alloc: Global, play: &Play<'a>, store: &mut S) -> Due<'a>
+    requires { HasReader (play_words_of play.now).request.components }
+    ensures { IsDueFor (command.Verify (play_words_of play.now)) (S.shows store.old)
+        (S.shows store.new) result.status (bytes_of_line result.line) }
+{
+    match verified(alloc, play, store) {
+        Ok(line) => Due {
+            status: Status::Done,
+            line: Line::Made(line),
+        },
+        Err(error) => due_unset(alloc, error),
+    }
+}
