@@ -39,13 +39,21 @@ def threads_of(drive):
     return max(int(drive.get("threads") or 0), 1)
 
 
+def options_of(drive, options, out, trace):
+    """These options of a drive, where it has them, and the files that are written."""
+    words = [word for option in options if drive.get(option) for word in (f"--{option}", drive[option])]
+    return words + ["--out", out, "--trace", trace]
+
+
 def words_of(drive, out, trace):
     """The words of the program for a drive."""
     words = ["play"] if int(drive.get("threads") or 0) else ["play", "--serial"]
-    for option in OPTIONS:
-        if drive.get(option):
-            words += [f"--{option}", drive[option]]
-    return words + ["--out", out, "--trace", trace]
+    return words + options_of(drive, OPTIONS, out, trace)
+
+
+def verify_words_of(drive, out, trace):
+    """The words that verify what the program wrote of a drive."""
+    return ["verify"] + options_of(drive, [it for it in OPTIONS if it != "sched"], out, trace)
 
 
 def files_of(drive):

@@ -5,7 +5,8 @@
 
 writes DIR/NAME/row.json last and in one piece, so that a drive with a row is done. A play that ends with a status, whichever, is done; one
 that a signal ended isn't, and then this ends with status 1. GOOD is the folder of an earlier batch, with whose record this one is compared.
-WORDS are those of a further command of the program, with {record}, {dag}, {out} and {trace} in place of the files.
+WORDS are those of a further command of the program, with {record}, {dag}, {out} and {trace} in place of the files; `verify` alone verifies
+the drive.
 """
 import argparse
 import hashlib
@@ -19,7 +20,7 @@ import time
 from itertools import zip_longest
 
 sys.path.insert(0, os.path.join(os.path.dirname(os.path.abspath(__file__)), "..", "tools"))
-from drives import read_table, row_of, words_of
+from drives import read_table, row_of, verify_words_of, words_of
 from record import each_message, opened
 
 COUNTS = re.compile(r"done: played (?P<played>\d+), shadowed (?P<shadowed>\d+), calls (?P<calls>\d+), written (?P<written>\d+)")
@@ -102,7 +103,8 @@ def play(words, drive):
         row |= {"digest": digest_of(out), "trace digest": digest_of(trace)}
     if row["status"] == 0 and words.verify:
         names = {"record": drive["record"], "dag": drive["dag"], "out": out, "trace": trace}
-        verified = run([words.program] + [FILE.sub(lambda it: names[it[1]], word) for word in shlex.split(words.verify)])
+        further = [FILE.sub(lambda it: names[it[1]], word) for word in shlex.split(words.verify)]
+        verified = run([words.program] + (verify_words_of(drive, out, trace) if further == ["verify"] else further))
         row["verify"] = "verified" if verified["status"] == 0 else f"status {verified['status']}: {verified['line']}"
     row["difference"] = compare(row, folder, words.good, words.drive)
     return row

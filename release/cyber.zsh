@@ -3,6 +3,7 @@
 local -a commands
 commands=(
   'play:play a record through the components of a DAG file'
+  'verify:say whether a trace and a record are those of a lawful run'
   'pass:play a record through one component that passes a channel on'
   'check:print what configuration files say'
   'info:print what a record is'
@@ -22,6 +23,13 @@ case $command in
       '--sched=[a scheduler file]:file:_files' '--channels=[only these channels]:channels:' '--drop=[none of these channels]:channels:' \
       '--begin=[from this time on]:nanoseconds:' '--end=[up to this time]:nanoseconds:' \
       '--stop=[stop a component at a time]:component@nanoseconds:'
+    ;;
+  verify)
+    _arguments '--dag=[the DAG file]:file:_files' '--record=[the record that was played]:file:_files' \
+      '--out=[the record that was written]:file:_files' '--trace=[the trace that was written]:file:_files' \
+      '--channels=[only these channels]:channels:' '--drop=[none of these channels]:channels:' \
+      '--begin=[from this time on]:nanoseconds:' '--end=[up to this time]:nanoseconds:' \
+      '--stop=[the stop of the play]:component@nanoseconds:'
     ;;
   check) _arguments '--dag=[the DAG file]:file:_files' '--sched=[a scheduler file]:file:_files' ;;
   pass) _arguments '1:record:_files' '2:record that is written:_files' '3:trace that is written:_files' '4:channel:' '5:channel:' ;;

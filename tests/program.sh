@@ -77,6 +77,15 @@ both_whole() {
   holds files/trace want/trace
 }
 
+# Looks that `verify` finds the files of a play to be those of a lawful run, and prints the numbers that the play printed.
+is_lawful() { # the folder in which the play ran, the record and the trace as they are named there, and the words of the play but for these
+  local line expected
+  expected=$(sed 's/^done: /lawful: /' out)
+  line=$(cd "$1" && "$program" verify --out "$2" --trace "$3" "${@:4}" 2>&1)
+  [ "$line" = "$expected" ]
+  count $? "$name: verify says '$(head -c 200 <<<"$line")', not '$expected'"
+}
+
 # Looks that a file is a record that is still being written: its header counts nothing and is not complete.
 is_incomplete() { # the file
   local header want='00000000 00000000 2500000000000000 0801 1000 1800 208090dfc04a 2800'
@@ -341,6 +350,7 @@ plays_the_drive() { # the record, the name of what is written, and the line
     --out="$work/drive/$2.rec" --trace "$work/drive/$2.trace") >"$here/out" 2>"$here/err"
   status=$?
   ends 0 "$3" ''
+  is_lawful "$top" "$work/drive/$2.rec" "$work/drive/$2.trace" --dag examples/drive/drive.dag --record "$1"
   [ "$(sed -n 2p "$work/drive/$2.trace")" = "$(sed 's/done: //; s/, calls.*//; s/,//' <<<"$3")" ]
   count $? "$name: the trace's second line is '$(sed -n 2p "$work/drive/$2.trace")'"
 }
@@ -353,6 +363,8 @@ plays_one_component() { # what it shows, the record, further words in one text, 
   # shellcheck disable=SC2086
   run play --dag d.dag --record in.rec --out out.rec --trace trace --serial $3
   ends 0 "$4" ''
+  # shellcheck disable=SC2086
+  is_lawful files out.rec trace --dag d.dag --record in.rec $3
   [ "$(grep '^call' files/trace)" = "$5" ]
   count $? "$name: the calls are '$(grep '^call' files/trace)'"
 }
@@ -367,6 +379,7 @@ plays_with_a_stop() { # what it shows, the class, the name, the component file, 
   (cd files && python3 "$top/tests/replay.py" ../rec ../trace ../line --dag d.dag --record in.rec --stop "$6")
   run play --dag d.dag --record in.rec --out out.rec --trace trace --serial --stop "$6"
   ends 0 "$7" ''
+  is_lawful files out.rec trace --dag d.dag --record in.rec --stop "$6"
   [ "$(tail -n +4 files/trace)" = "$8" ]
   count $? "$name: the trace is '$(tail -n +4 files/trace)'"
   holds files/out.rec rec
@@ -383,6 +396,7 @@ goes_on_after_a_burst() { # what it does then, the word for it, the line, and th
   (cd files && python3 "$top/tests/replay.py" ../rec ../trace ../line --dag d.dag --record in.rec)
   run play --dag d.dag --record in.rec --out out.rec --trace trace --serial
   ends 0 "$3" ''
+  is_lawful files out.rec trace --dag d.dag --record in.rec
   [ "$(grep -v '^tape' files/trace)" = "$4" ]
   count $? "$name: the trace is '$(grep -v '^tape' files/trace)'"
   holds files/out.rec rec
@@ -407,6 +421,7 @@ plays_the_drive_with_a_stop() {
   (cd "$top" && exec "$program" play --serial "${drive[@]}" --out "$here/out.rec" --trace "$here/out.trace" \
     --stop margin@1700000010000000000) >out 2>err
   status=$?
+  is_lawful "$top" "$here/out.rec" "$here/out.trace" "${drive[@]}" --stop margin@1700000010000000000
   ends 0 "$(sed -n '/^### A component is stopped/,$s/^    done: /done: /p' "$top/examples/README.md")" ''
   [ "$(sed -n '/^component "margin"/,/^end/p' out.trace | tail -n 2)" = \
     "$(sed -n '/^    call 465/,/^    end/s/^    //p' "$top/examples/README.md")" ]
@@ -427,22 +442,32 @@ refuses_a_replay() { # what is wrong, the status, the line behind `cyber: `, and
 # Plays records of a drive or others, and compares both files and the line with what a Python script makes of the same files.
 plays_as_described() { # the words, but those for the files that are written
   begin "plays as the rules say: $*"
-  local here=$PWD
+  local here=$PWD words=("$@")
   (cd "$top" && python3 tests/replay.py "$here/rec" "$here/trace" "$here/line" "$@")
   (cd "$top" && exec "$program" play --serial --out "$here/out.rec" --trace "$here/out.trace" "$@") >out 2>err
   status=$?
   ends 0 "$(cat line)" ''
+  # `verify` knows no scheduler.
+  [ "${5:-}" != --sched ] || words=("${@:1:4}" "${@:7}")
+  is_lawful "$top" "$here/out.rec" "$here/out.trace" "${words[@]}"
   holds out.rec rec
   holds out.trace trace
 }
 
 # Whether a play of the drive ended well, with the calls that its trace has: any lawful run may come of threads, so the files are looked at
 # by `info` and by the numbers of the line.
-has_played_the_drive() { # the record, the trace
+has_played_the_drive() { # the record, the trace, the stop in one word where there is one
   grep -Eqx 'done: played 3205, shadowed 0, calls [1-9][0-9]*, written [0-9]+' out &&
     "$program" info "$1" >told && grep -q ' complete yes ' told && ! grep -q '^differs' told &&
     grep -q "messages $(sed 's/.* written //' out)$" told &&
-    [ "$(grep -c '^call ' "$2")" = "$(sed 's/.* calls \([0-9]*\),.*/\1/' out)" ]
+    [ "$(grep -c '^call ' "$2")" = "$(sed 's/.* calls \([0-9]*\),.*/\1/' out)" ] &&
+    verifies_the_drive "$(readlink -f "$1")" "$(readlink -f "$2")" "${@:3}"
+}
+
+# Whether `verify` finds the files of a play of the drive to be those of a lawful run with the numbers of its line.
+verifies_the_drive() { # the record, the trace, and the stop where there is one
+  (cd "$top" && exec "$program" verify "${drive[@]}" --out "$1" --trace "$2" "${@:3}") >verified 2>&1
+  cmp -s verified <(sed 's/^done: /lawful: /' out)
 }
 
 plays_on_threads() { # how often
@@ -455,7 +480,7 @@ plays_on_threads() { # how often
     has_played_the_drive out.rec out.trace || break
   done
   [ "$time" -eq "$1" ]
-  count $? "$name: the run $time was not as expected: $(head -c 200 out err)"
+  count $? "$name: the run $time was not as expected: $(head -c 200 out err verified)"
 }
 
 # Plays the drive on threads with a stop, and looks at the calls of the stopped component and at the ends of all.
@@ -468,11 +493,11 @@ obeys_on_threads() { # how often, and the stop
     : >obeyed
     (cd "$top" && exec timeout 60 "$program" play "${drive[@]}" --sched examples/drive/drive.sched --stop "$2" \
       --out "$here/out.rec" --trace "$here/out.trace") >out 2>err || break
-    has_played_the_drive out.rec out.trace || break
+    has_played_the_drive out.rec out.trace "--stop=$2" || break
     python3 "$top/tests/obeys.py" out.trace out.rec wiring "$2" >obeyed || break
   done
   [ "$time" -eq "$1" ]
-  count $? "$name: the run $time was not as expected: $(head -c 200 out err obeyed)"
+  count $? "$name: the run $time was not as expected: $(head -c 200 out err verified obeyed)"
 }
 
 # Plays the drive as a user of its own, of whom so many threads may run at once, the player's among them. What has no thread beside the
@@ -494,7 +519,7 @@ plays_where_threads_are_few() { # how many
     --out out.rec --trace out.trace) >out 2>err
   count $? "$name: it ended otherwise: $(head -c 200 err)"
   has_played_the_drive files/out.rec files/out.trace
-  count $? "$name: the run was not as expected: $(head -c 200 out err)"
+  count $? "$name: the run was not as expected: $(head -c 200 out err verified)"
 }
 
 # One message leaves no choice: threads write what one thread writes.
@@ -506,6 +531,7 @@ plays_one_message_alike() {
     'readers { channel: "/in" }' >files/d.dag
   echo 'out: "/out"' >files/p.conf
   run play --dag d.dag --record in.rec --out a.rec --trace a.trace
+  is_lawful files a.rec a.trace --dag d.dag --record in.rec
   cp out line
   run play --serial --dag d.dag --record in.rec --out b.rec --trace b.trace
   ends 0 "$(cat line)" ''
@@ -527,6 +553,7 @@ makes_as_described() { # how many messages, as the word has it
     && python3 "$top/tests/replay.py" m.out m.trace ../line --dag m.dag --record m.record)
   run make "$1" m
   ends 0 "$(cat line)" ''
+  is_lawful files m.out m.trace --dag m.dag --record m.record
   diff -rq files want >differ
   count $? "$name: $(head -n 1 differ)"
 }
@@ -536,6 +563,7 @@ makes_a_large_play() {
   run make 100000 big
   grep -q '^done: played 100000, shadowed 0, calls ' out
   count $? "$name: standard output got '$(head -c 200 out)'"
+  is_lawful files big.out big.trace --dag big.dag --record big.record
   [ "$(sed -n '/^component "adder"/,/^end/p' files/big.trace | tail -n 1)" = 'end DATA_WAIT next 66666' ]
   count $? "$name: adder doesn't end with 66666"
   mv files first
@@ -940,6 +968,7 @@ fails_without_standard_error 'is full' '2>/dev/full'
 fails_without_standard_error 'is closed' '2>&-'
 
 . "$top/tests/program/refused.sh"
+. "$top/tests/program/verify.sh"
 
 echo "$passed passed, $failed failed"
 [ "$failed" -eq 0 ]

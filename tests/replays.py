@@ -1,6 +1,6 @@
 #!/usr/bin/env python3
 """Plays random records through random components, and compares what the program writes with what replay.py makes of the files.
-One in five is played by `pass`; of the others a third has a stop.
+One in five is played by `pass`; of the others a third has a stop. Where the program has the command `verify`, what it wrote is verified.
 
     replays.py PROGRAM COUNT SEED
 
@@ -14,7 +14,7 @@ import tempfile
 
 HERE = os.path.dirname(os.path.abspath(__file__))
 sys.path.insert(0, os.path.join(HERE, "..", "tools"))
-from record import content_of, record
+from record import content_of, forms_of, record
 
 KINDS = {"Pass": 1, "Filter": 1, "Sum": 1, "Count": 1, "Max": 1, "Window": 1, "Change": 1, "Select": 3, "Hold": 1, "Take": 1}
 CHANNELS = ["/a", "/b", "/c", "/d"]
@@ -122,7 +122,46 @@ def write_pass(chance):
     return ["--record", "in.rec", "--pass", *chance.sample(CHANNELS + ["/x"], 2)]
 
 
-def is_as_expected(program, words):
+def without(words, *names):
+    """The words without some options and their values, of one word or two."""
+    kept, is_value = [], False
+    for word in words:
+        if not is_value and word.partition("=")[0] not in names:
+            kept.append(word)
+        is_value = not is_value and word in names
+    return kept
+
+
+def verify_words(words, out, trace):
+    """The words that verify the files of a play with these words: those of `play` but for the scheduler."""
+    return ["--out", out, "--trace", trace, *without(words, "--sched")]
+
+
+def has_verify(program):
+    """Whether a program has the command `verify`: to one without it these words are of no known form."""
+    words = ["verify", "--dag", "none.dag", "--record", "none.rec", "--out", "none.out", "--trace", "none.trace"]
+    return subprocess.run([program, *words], capture_output=True).returncode != 2
+
+
+def write_passing(source, target):
+    """Makes the DAG file that says what `pass` does, and gives the words that name it."""
+    config = f'name: "pass" config_file_path: "pass.conf" readers {{ channel: "{source}" }}'
+    with open("pass.dag", "w", encoding="utf-8") as file:
+        file.write(f'module_config {{ components {{ class_name: "PassComponent" config {{ {config} }} }} }}')
+    with open("in.rec", "rb") as record_file, open("pass.conf", "w", encoding="utf-8") as file:
+        kind, _ = forms_of(record_file.read()).get(source.encode(), (b"", b""))
+        file.write(f'out: "{target}" out_type: "{kind.decode()}"')
+    return ["--dag", "pass.dag", "--record", "in.rec"]
+
+
+def is_lawful(program, words):
+    """Whether `verify` finds the files of a play to be those of a lawful run, and tells its numbers."""
+    told = subprocess.run([program, "verify", *verify_words(words, "out.rec", "out.trace")], capture_output=True)
+    with open("out.line", "rb") as file:
+        return told.returncode == 0 and told.stdout == file.read().replace(b"done: ", b"lawful: ")
+
+
+def is_as_expected(program, words, verifies):
     subprocess.run([sys.executable, f"{HERE}/replay.py", "want.rec", "want.trace", "want.line", *words], check=True)
     asked = ["play", "--serial", "--out", "out.rec", "--trace", "out.trace", *words]
     if "--pass" in words:
@@ -131,25 +170,28 @@ def is_as_expected(program, words):
     with open("out.line", "wb") as file:
         file.write(played.stdout)
     pairs = [("out.rec", "want.rec"), ("out.trace", "want.trace"), ("out.line", "want.line")]
-    return played.returncode == 0 and all(open(a, "rb").read() == open(b, "rb").read() for a, b in pairs)
+    if played.returncode != 0 or any(open(a, "rb").read() != open(b, "rb").read() for a, b in pairs):
+        return False
+    return not verifies or is_lawful(program, write_passing(*words[-2:]) if "--pass" in words else words)
 
 
 def main():
     program, count, seed = os.path.abspath(sys.argv[1]), int(sys.argv[2]), int(sys.argv[3])
-    differ = 0
+    differ, verifies = 0, has_verify(program)
     for number in range(count):
         folder = tempfile.mkdtemp()
         os.chdir(folder)
         chance = random.Random(f"{seed} {number}")
         words = write_pass(chance) if number % 5 == 4 else write_files(chance)
-        if is_as_expected(program, words):
+        if is_as_expected(program, words, verifies):
             subprocess.run(["rm", "-r", folder], check=True)
             continue
         differ += 1
         print(f"replay {number} differs: {' '.join(words)} in {folder}")
         break
-    print(f"{count} replays, {'one differs' if differ else 'none differs'}")
+    print(f"{count} replays{' with verify' if verifies else ''}, {'one differs' if differ else 'none differs'}")
     return min(differ, 1)
 
 
-sys.exit(main())
+if __name__ == "__main__":
+    sys.exit(main())

@@ -1,10 +1,11 @@
 #!/usr/bin/env bash
 # Plays the files of `make 3000` and the drive again and again, on one, two and four processors that share a context and that are
 # pinned, and looks at each play: it ends with Done within 60 seconds, `info` finds its record complete and nothing in it that
-# differs, its trace has the form of a trace, both have the counts of its line, and tests/fetches.py finds that its calls go by the fetch
-# rule. Each of these twelve kinds is played with a stop too, in the midst of its record; then tests/obeys.py looks at how the components
+# differs, its trace has the form of a trace, both have the counts of its line, tests/fetches.py finds that its calls go by the fetch
+# rule, and `verify` finds that they are those of a lawful run. Each of these twelve kinds is played with a stop too, in the midst of its record; then tests/obeys.py looks at how the components
 # end, and at the calls of the one that was stopped. And each is played with components that go on at the oldest tuple, with a stop and
-# without. The gate doesn't run it.
+# without. Last the files of `make 100000` are played on four processors, of which the machine lends one, two and four, and verified.
+# The gate doesn't run it.
 # Usage: tests/stress.sh [COUNT [PROGRAM]]: so many plays of each of the 48 kinds, 1000 where nothing is said.
 set -euo pipefail
 top=$(cd "$(dirname "$0")/.." && pwd)
@@ -50,8 +51,16 @@ pinned() { # how many, and the components
   echo '} }'
 }
 
+# Whether `verify` finds the files of a play to be those of a lawful run, and prints the numbers that the play printed.
+is_lawful() { # the line of the play, and the words of the play but for the scheduler
+  local line=$1
+  shift
+  (cd "$top" && exec "$program" verify "$@" --out "$work/out.record" --trace "$work/out.trace") >verified 2>&1
+  [ "$(cat verified)" = "lawful: ${line#done: }" ] || { echo "verify: $(cat verified)"; return 1; }
+}
+
 # One play, and all that is to be seen of it.
-looks_well() { # what `check` prints of the components, how many messages are played, and the words
+looks_well() { # what `check` prints of the components, how many messages are played, and the words, of which the third pair is `--sched`
   local check=$1 played=$2 line counts info version=1
   shift 2
   rm -f out.record out.trace
@@ -66,6 +75,7 @@ looks_well() { # what `check` prints of the components, how many messages are pl
   if grep -q ' overflow OLDEST$' "$check"; then version=2; fi
   awk -v V="$version" -v P="$played" -v S=0 -v C="${counts[1]}" -v T="${counts[2]}" -f trace.awk out.trace || return 1
   python3 "$top/tests/fetches.py" out.trace "$check" || return 1
+  is_lawful "$line" "${@:1:4}" "${@:7}" || return 1
   calls=${counts[1]}
 }
 
@@ -117,6 +127,15 @@ copy_dag() { # the file, and the folder
   done
 }
 
+# Plays the files of `make 100000` where the machine has so many processors for it.
+plays_many() { # how many
+  local line words=(--dag many.dag --record many.record)
+  line=$(timeout 600 taskset -c "0-$(($1 - 1))" "$program" play "${words[@]}" --sched sched --out out.record --trace out.trace) ||
+    { echo "many, $1 lent: status $?; the files stay in $work"; exit 1; }
+  is_lawful "$line" "${words[@]/#many/$work/many}" || { echo "many, $1 lent: its files stay in $work"; exit 1; }
+  echo "many, $1 lent: $line"
+}
+
 mkdir made
 "$program" make 3000 "$work/made/made" >/dev/null
 copy_dag "$work/made/made.dag" made.oldest
@@ -137,6 +156,12 @@ for processors in 1 2 4; do
   plays_all "made, $processors pinned" "${made_dags[@]}" "$made_stop" "${made[@]}"
   pinned "$processors" smooth margin limit late frames >sched
   plays_all "drive, $processors pinned" "${drive_dags[@]}" "$drive_stop" "${drive[@]}"
+done
+# The DAG file has the names of its component files as `make` was given them.
+"$program" make 100000 "$work/many" >/dev/null
+classic 4 >sched
+for processors in 1 2 4; do
+  plays_many "$processors"
 done
 cd /
 rm -rf "$work"

@@ -1,6 +1,6 @@
 #!/usr/bin/env bash
 # Tests what stands around the program: tools/, release/ and batch/. Usage: tests/tools.sh [--install] [SECTION...], by default all of
-# timeline, pictures, messages, release and batch.
+# timeline, pictures, messages, why_not, release and batch.
 # What a section needs beside Python's standard library is taken from the machine. With --install it is installed else: by apt-get where
 # root asks for it on a Debian, or by pip into a virtual environment in $TOOLS_ENVIRONMENT (by default in the user's cache). Where it is
 # not to be had the section is skipped, which is said. Without --install nothing is installed.
@@ -285,12 +285,77 @@ install_package() { # the package
     [ ! -s out ]
     count $? "$name: files are not as packed: $(cat out)"
     copy_libraries "$program" empty
-    call=(chroot empty /usr/bin/cyber)
+    call=(/usr/sbin/chroot "$PWD/empty" /usr/bin/cyber)
   else
     try 0 dpkg-deb -x "$1" empty
     call=("$PWD/empty/usr/bin/cyber")
   fi
   cp -r empty/usr/share/doc/zektrob/examples empty/
+}
+
+# Calls the tool for the trace of a drive, or of a burst, that sed changes.
+ask_why() { # the status, drive or burst, what sed does, and further words
+  sed "$3" "$2.trace" >changed.trace
+  try "$1" env -C "$top" python3 tools/why_not.py --dag "examples/$2/$2.dag" --record "examples/$2/$2.rec" \
+    --out "$PWD/$2.rec" --trace "$PWD/changed.trace" "${@:4}"
+}
+
+# Looks that it says why that isn't lawful.
+says_why() { # the pattern behind `line`, drive or burst, what sed does, and further words
+  ask_why 1 "${@:2}"
+  says out ".*/changed.trace: line $1"
+}
+
+why_not() {
+  local each run
+  begin 'a lawful run is found to be one, and in each other trace the first thing that no lawful run has'
+  for run in drive burst; do
+    (cd "$top" && python3 tests/replay.py "$OLDPWD/$run.rec" "$OLDPWD/$run.trace" "$OLDPWD/line" \
+      --dag "examples/$run/$run.dag" --record "examples/$run/$run.rec")
+    ask_why 0 "$run" ''
+    says out 'lawful: a lawful run has this trace and this record'
+  done
+  ask_why 0 burst '9,16s/DATA_WAIT/FINISHED/' --stop total@8
+  says_why '1: version 2, where .* version 1\. .*' drive '1s/1/2/; s/^component .*/& overflow NEWEST/'
+  says_why '2: played 3205 and shadowed 1, where 3205 messages are played and 0 shadowed\. .*' drive '2s/0$/1/'
+  says_why '3: component "margin" .*, where "smooth" overflow NEWEST has to stand\. .*' drive '3s/smooth/margin/'
+  says_why '3: this is no line of a trace, .*' drive '1s/1/2/'
+  says_why '5: this is no line of a trace, .*' drive '5s/1/01/'
+  says_why '2390: /imu/yaw 2 is played where the play list has /imu/yaw 1\. .*' drive '2390s/1/2/'
+  says_why '7960: /imu/yaw 2000 of the play list isn.t played\. .*' drive '/^tape "\/imu\/yaw" 2000$/d'
+  says_why '7: the output of call 3 of "smooth" has the number 4, and is output 3\. .*' drive '7s/3@/4@/'
+  says_why '1004: the output of call 1000 of "smooth" doesn.t stand on the tape\. .*' drive '/^tape "\/smooth\/sum" 1000$/d'
+  says_why '4: 1001 messages came to reader 0 of "smooth", and the tape has 1000 of /wheel/speed\. .*' drive '4s/0/00/'
+  says_why '1987: call 4 of "late" has the tail 4, and the call before it 5\. .*' drive '1986s,3/3,3/5,'
+  says_why '7: call 3 of "smooth" has the tail 5000, and what came to it makes 1000 tuples\. .*' drive '7s,3/3,3/5000,'
+  says_why '7: call 3 of "smooth" takes tuple 3, where a fetch at 3 of 4 tuples finds 4\. .*' drive '7s,3/3,3/4,'
+  says_why '7: call 3 of "smooth" has the messages 4, and tuple 3 is made of 3\. .*' drive '7s, 3 3@, 4 3@,'
+  says_why '7: call 3 of "smooth" has the output @1700000000040037977=24204, and WindowComponent puts out @.*=24203\. .*' drive '7s/3$/4/'
+  says_why '1005: the next fetch of "smooth" is at 1000, and not at 1001\. .*' drive '1005s/1001/1000/'
+  says_why '1005: "smooth" is FINISHED, and neither its last call nor a stop ended it\. .*' drive '1005s/DATA_WAIT/FINISHED/'
+  says_why '15: "total" is in DATA_WAIT, and a fetch at 8 of 8 tuples finds tuple 8\. .*' burst '15,16d; 14a end DATA_WAIT next 8
+$d' --stop control@8
+  says_why '2388: /smooth/sum 1, of call 1 of "smooth", stands before /wheel/speed 1 \(line 2389\), .*' drive '2388{h; d}; 2389G'
+  says_why '22: /control 1, of call 1 of "control", was held back until 6, and /speed 6 \(line 23\) is played behind it at 6\. .*' \
+    burst '22{h; d}; 23{H; d}; 24G'
+  says_why '13: call 3 of "total" has a late message, as call 2 has: .* line 20\. .*' burst '' --stop total@3
+  begin 'where a record differs is said too, and what can not be read'
+  cp "$top"/examples/pass/one.rec in.rec
+  python3 "$top/tests/replay.py" pass.rec pass.trace line --record in.rec --pass /in /out
+  printf '%s\n' 'module_config { components { class_name: "PassComponent" config { name: "pass"' \
+    "config_file_path: 'pass.conf' readers < channel: '/' 'in' > } } }" >pass.dag
+  printf '%s\n' 'out: "/\157ut" # as "/out"' >pass.conf
+  for each in '5 in the header' '2164 in message 1 of the tape, /in 1' '2181 in message 2 of the tape, /out 1' '2270 in the index.*'; do
+    cp pass.rec changed.rec
+    printf x | dd of=changed.rec bs=1 seek="${each%% *}" conv=notrunc status=none
+    try 1 python3 "$top/tools/why_not.py" --dag pass.dag --record in.rec --out changed.rec --trace pass.trace
+    says out "changed.rec: the trace is lawful, but the record differs from that of its tape at byte ${each%% *}, ${each#* }"
+  done
+  fails_in_one_line 2 'why_not: .*none.*' python3 "$top/tools/why_not.py" --dag pass.dag --record in.rec --out none --trace pass.trace
+  fails_in_one_line 2 'why_not: line: not a record' python3 "$top/tools/why_not.py" --dag pass.dag --record line --out none --trace pass.trace
+  fails_in_one_line 2 'why_not: line: not in the text form: .*' \
+    python3 "$top/tools/why_not.py" --dag line --record in.rec --out pass.rec --trace pass.trace
+  try 0 python3 "$top/tools/why_not.py" --help
 }
 
 release() {
@@ -334,11 +399,7 @@ tours_the_package() {
   fi
   "$top/release/make.sh" --out "$PWD" "$program" >/dev/null
   install_package ./*.deb
-  if [ "${call[0]}" = chroot ]; then
-    try 0 python3 "$top/tests/tools/tour.py" empty/examples/README.md . /usr/sbin/chroot empty /usr/bin/cyber
-  else
-    try 0 python3 "$top/tests/tools/tour.py" empty/examples/README.md empty "${call[@]}"
-  fi
+  try 0 python3 "$top/tests/tools/tour.py" empty/examples/README.md empty "${call[@]}"
   says out '[0-9]+ lines typed'
 }
 
@@ -385,7 +446,7 @@ reads_manual() { # the page
   MANWIDTH=100 man --warnings -l "$1" >page 2>warnings
   [ ! -s warnings ]
   count $? "$name: the manual page: $(head -n 3 warnings)"
-  for it in NAME SYNOPSIS PLAY PASS CHECK INFO MAKE; do
+  for it in NAME SYNOPSIS PLAY VERIFY PASS CHECK INFO MAKE; do
     says page "$it"
   done
 }
@@ -400,7 +461,7 @@ completes() { # the folder with the completions
   count $? "$name: bash completes other options: $(cat difference)"
   # shellcheck disable=SC2016
   bash -c '. "$1"; COMP_WORDS=(cyber ""); COMP_CWORD=1; _cyber; echo "${COMPREPLY[*]}"' - "$1/bash-completion/completions/cyber" >commands
-  says commands 'play pass check info make'
+  says commands 'play verify pass check info make'
   grep -o -- "'--[a-z]*" "$1/zsh/vendor-completions/_cyber" | tr -d "'" | sort -u | diff - <(echo "$options") >difference
   count $? "$name: zsh completes other options: $(cat difference)"
   if command -v zsh >/dev/null; then
@@ -489,13 +550,13 @@ changes_drives() {
   mv batch.out good
   sed -n '1p;4,7p' drives.csv >few.csv
   cp 4.rec 5.rec
-  try 0 "${call[@]}" --config program="$program" table=few.csv good=good verify='info {out}'
+  try 0 "${call[@]}" --config program="$program" table=few.csv good=good verify=verify
   says out '4 drives: 4 well, 0 failed, 0 not done, 1 unlike the good run'
   says batch.out/summary.csv 'd5,0,.*,verified,"message 1: /a at 10 0x0808, was /a at 10 0x080a","done: .*"'
   says batch.out/summary.csv 'd3,0,.*,verified,,"done: .*"'
   cp 4.rec 6.rec
   times >first
-  try 0 "${call[@]}" --config program="$program" table=few.csv good=good verify='info {out}'
+  try 0 "${call[@]}" --config program="$program" table=few.csv good=good verify=verify
   times | comm -13 first - | cut -d ' ' -f 1 >changed
   [ "$(cat changed)" = batch.out/d6/row.json ]
   count $? "$name: played again: $(cat changed)"
@@ -582,7 +643,7 @@ if [ "${1:-}" = --install ]; then
   install=yes
   shift
 fi
-[ $# -gt 0 ] || set -- timeline pictures messages release batch
+[ $# -gt 0 ] || set -- timeline pictures messages why_not release batch
 for section in "$@"; do
   "$section"
 done

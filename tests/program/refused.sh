@@ -25,8 +25,11 @@ plays_as_many_as_may_be_played() {
   lacks files/trace
   run play --serial --dag d.dag --record in.rec --out out.rec --trace trace --stop q@1
   ends 1 '' 'cyber: d.dag: StopUnknown "q"'
+  run verify --dag d.dag --record in.rec --out out.rec --trace trace
+  ends 5 '' 'cyber: in.rec: limit TooManyPlayed passed: 4194305'
   run play --serial --dag d.dag --record in.rec --out out.rec --trace trace --end 1
   ends 0 'done: played 4194304, shadowed 0, calls 0, written 4194304' ''
+  is_lawful files out.rec trace --dag d.dag --record in.rec --end 1
   [ "$(tail -n 1 files/trace)" = 'tape "/a" 4194304' ]
   count $? "$name: the trace ends with '$(tail -n 1 files/trace)'"
   rm -r files
@@ -45,8 +48,11 @@ plays_as_many_as_may_be_planned() {
   lacks files/trace
   run play --serial --dag d.dag --record in.rec --out out.rec --trace trace --stop q@1
   ends 1 '' 'cyber: d.dag: StopUnknown "q"'
+  run verify --dag d.dag --record in.rec --out out.rec --trace trace
+  ends 5 '' 'cyber: in.rec: limit TooMany passed: 16777217'
   run play --serial --dag d.dag --record in.rec --out out.rec --trace trace --end 2
   ends 0 'done: played 258112, shadowed 0, calls 64, written 258176' ''
+  is_lawful files out.rec trace --dag d.dag --record in.rec --end 2
   [ "$(grep '^call' files/trace | sort | uniq -c)" = '     64 call 1/1 1 86036 86036 86036 1@2=4' ]
   count $? "$name: the calls are not 64 sums of 4"
   rm -r files
