@@ -13,3 +13,4 @@ pub mod Starting
 pub mod Stopping
 pub mod Unput
 pub mod Beginning
+pub mod Stopped

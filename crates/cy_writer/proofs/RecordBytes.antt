@@ -23,7 +23,7 @@ file_after-append : (bytes : List ℕ) (xs ys : List (ℕ × List ℕ)) → file
 file_after-append bytes [] ys = refl
 file_after-append bytes (x ∷ xs) ys = file_after-append (written_at bytes x.0 x.1) xs ys
 
-after_placed : (pieces : List (List ℕ)) (bytes : List ℕ) (at : ℕ) → length bytes ≡ at → file_after bytes (placed at pieces) ≡ bytes ++ flat_map (λ piece. piece) pieces
+pub after_placed : (pieces : List (List ℕ)) (bytes : List ℕ) (at : ℕ) → length bytes ≡ at → file_after bytes (placed at pieces) ≡ bytes ++ flat_map (λ piece. piece) pieces
 after_placed [] bytes at e = sym (append-nil bytes)
 after_placed (piece ∷ rest) bytes at e =
     ap (λ b. file_after b (placed (at + length piece) rest)) (written_at-end bytes piece at e)
@@ -42,7 +42,7 @@ after_all first last pieces at e f =
 
 -- the pieces of a record
 
-flat-parts : (parts : List Part) (last : List ℕ) → flat_map (λ piece. piece) (map (λ part. part.bytes) parts ++ last ∷ []) ≡ bytes_of parts ++ last
+pub flat-parts : (parts : List Part) (last : List ℕ) → flat_map (λ piece. piece) (map (λ part. part.bytes) parts ++ last ∷ []) ≡ bytes_of parts ++ last
 flat-parts [] last = append-nil last
 flat-parts (part ∷ rest) last = ap (λ l. part.bytes ++ l) (flat-parts rest last) ∙ sym (append_assoc part.bytes (bytes_of rest) last)
 

@@ -10,3 +10,4 @@ pub mod RecordWrites
 pub mod File
 pub mod Messages
 pub mod Record
+pub mod Unfinished

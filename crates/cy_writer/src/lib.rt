@@ -24,7 +24,7 @@ pub use error::WriteError;
 pub use file::write_file;
 pub use laws::{
     chunks_end_in_time, messages_stand_in_their_chunks, messages_stay_in_order,
-    record_writes_leave_the_record,
+    record_writes_leave_the_record, stopped_writes_leave_a_front, stopped_writes_leave_other_files,
 };
 pub use messages::{Messages, Stamp};
 pub use record::{ChannelRef, write_record};
