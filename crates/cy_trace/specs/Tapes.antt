@@ -15,3 +15,7 @@ entry_by names m = record { name = name_by names m.name; seq = m.seq }
 -- Messages, by the numbers of their names.
 abbrev pub told_by : List TapeName → List NamedSeq → List TapeEntry
 told_by names messages = map (entry_by names) messages
+
+-- A message of a name and a number.
+abbrev pub entry_of : List ℕ × ℕ → TapeEntry
+entry_of p = record { name = p.0; seq = p.1 }

@@ -1,9 +1,11 @@
 // The tape of a trace.
 ghost use Rattle.std.specs.Prelude.{◌≡◌, ◌<◌, [], length};
 ghost use Rattle.std.specs.List.{All};
-ghost use Rattle.cy_trace.specs.Tapes.{told_by};
+ghost use Rattle.std.specs.Prelude.{slice_get, Some};
+ghost use Rattle.cy_trace.specs.Tapes.{told_by, entry_of};
 
 use crate::named::{NamedSeq, TapeName};
+use cy_msg::Text;
 use std::alloc::Global;
 use std::marker::Model;
 
@@ -46,5 +48,22 @@ impl Tape {
         ensures named { All (λ m. m.name < length result.0.now) result.1.now }
     {
         (self.names.as_slice(), self.messages.as_slice())
+    }
+
+    /// How many messages there are.
+    pub fn count(&self) -> usize
+        ensures { result ≡ length self.now }
+    {
+        self.messages.len()
+    }
+
+    /// The name and the number of the message at a place.
+    #[inline(always)]
+    pub fn entry(&self, place: usize) -> (&Text, u32)
+        requires { place < length self.now }
+        ensures { slice_get self.now place ≡ Some (entry_of (result.0.now, result.1)) }
+    {
+        let message = self.messages[place];
+        (&self.names[message.name as usize].text, message.seq)
     }
 }
