@@ -25,3 +25,6 @@ pub mod SameArrivals
 pub mod SameCalls
 pub mod SameTape
 pub mod Telling
+pub mod FrontLaws
+pub mod Taking
+pub mod TapeLaws

@@ -187,7 +187,7 @@ components_run prefix (d ∷ ds) rest suits =
     ∙ components_run (with_components prefix (d ∷ [])) ds rest suits.1
     ∙ ap (λ (zs : List TraceComponent). run (Between (holding prefix zs)) rest) (append_assoc prefix.components (d ∷ []) ds)
 
-tape_run : (prefix : Prefix) (es fs : List TapeEntry) → run (Taped prefix es) (map Tape fs) ≡ Some (Taped prefix (es ++ fs))
+pub tape_run : (prefix : Prefix) (es fs : List TapeEntry) → run (Taped prefix es) (map Tape fs) ≡ Some (Taped prefix (es ++ fs))
 unfolding after_line
 tape_run prefix es [] = ap (λ (zs : List TapeEntry). Some (Taped prefix zs)) (sym (append-nil es))
 tape_run prefix es (f ∷ fs) = tape_run prefix (es ++ f ∷ []) fs ∙ ap (λ (zs : List TapeEntry). Some (Taped prefix zs)) (append_assoc es (f ∷ []) fs)

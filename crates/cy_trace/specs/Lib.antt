@@ -5,6 +5,7 @@ pub mod LineOrder
 pub mod LineReading
 pub mod Numerals
 pub mod Summary
+pub mod Tapes
 pub mod Telling
 pub mod TraceForm
 pub mod TraceOfRun

@@ -1,3 +1,4 @@
 pub mod TapeLines
 pub mod OutsAfter
 pub mod Kept
+pub mod Fronts

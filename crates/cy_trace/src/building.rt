@@ -1,13 +1,15 @@
 // A trace while its lines are read.
-ghost use Rattle.std.specs.Prelude.{◌≡◌, ◌++◌, ◌∷◌, [], Some, option_map};
+ghost use Rattle.std.specs.Prelude.{◌≡◌, ◌≤◌, ◌+◌, ◌++◌, ◌∷◌, [], Some, option_map, length};
 ghost use Rattle.cy_trace.specs.LineReading.{Gives};
 ghost use Rattle.cy_trace.specs.LineOrder.{finish, next, after_line, overflow_by, trace_with};
 ghost use Rattle.cy_trace.specs.LineOrder.{with_components};
 ghost use Rattle.cy_trace.specs.declared.building.Building.TheVariants as building;
+ghost use Rattle.cy_trace.specs.private.Fronts.{ReadsOn};
 
 use crate::fault::Fault;
+use crate::front_call::take_calls;
 use crate::line::{Line, line_of};
-use crate::{TapeEntry, Trace, TraceCall, TraceComponent};
+use crate::{Tape, TapeEntry, Trace, TraceCall, TraceComponent};
 use cy_fuse::Overflow;
 use cy_msg::{Items, Text};
 use std::alloc::Global;
@@ -35,7 +37,16 @@ pub(crate) enum Building {
     /// The roles or a call of a component.
     Called(Prefix, Text, Overflow, Items<u8>, Items<TraceCall>),
     /// A message of the tape.
-    Taped(Prefix, Items<TapeEntry>),
+    Taped(Prefix, Tape),
+}
+
+/// A trace whose lines are read: those so far, what is left of the text, and the number of the next
+/// line, from 1.
+#[derive(Drop)]
+pub(crate) struct Reading<'a> {
+    pub(crate) building: Building,
+    pub(crate) rest: &'a [u8],
+    pub(crate) line: u32,
 }
 
 // The items with one more.
@@ -75,10 +86,10 @@ impl Prefix {
     }
 
     // The lines with one more message of the tape.
-    fn taped(self, tape: Items<TapeEntry>, entry: TapeEntry) -> Result<Building, Fault>
+    fn taped(self, alloc: Global, tape: Tape, entry: TapeEntry) -> Result<Building, Fault>
         ensures { Gives result (Some (building.Taped self (tape ++ entry ∷ []))) }
     {
-        match with(tape, entry) {
+        match tape.with(alloc, entry) {
             Ok(tape) => Ok(Building::Taped(self, tape)),
             Err(fault) => {
                 drop(self);
@@ -126,7 +137,7 @@ impl Prefix {
     }
 
     // The trace with this tape.
-    fn finish(self, tape: Items<TapeEntry>) -> Trace
+    fn finish(self, tape: Tape) -> Trace
         ensures { result ≡ trace_with self tape }
     {
         let Prefix {
@@ -196,7 +207,7 @@ fn behind_component(alloc: Global, prefix: Prefix, line: Line) -> Result<Buildin
 {
     match line {
         Line::Component(name, told) => prefix.named(name, told),
-        Line::Tape(entry) => prefix.taped(none(alloc), entry),
+        Line::Tape(entry) => prefix.taped(alloc, Tape::new(alloc), entry),
         line => {
             drop(prefix);
             drop(line);
@@ -262,11 +273,11 @@ fn behind_call(
 }
 
 #[tactic(auto, unfolding(crate::specs::LineOrder::after_line))]
-fn behind_message(prefix: Prefix, tape: Items<TapeEntry>, line: Line) -> Result<Building, Fault>
+fn behind_message(alloc: Global, prefix: Prefix, tape: Tape, line: Line) -> Result<Building, Fault>
     ensures { Gives result (after_line (building.Taped prefix tape) line) }
 {
     match line {
-        Line::Tape(entry) => prefix.taped(tape, entry),
+        Line::Tape(entry) => prefix.taped(alloc, tape, entry),
         line => {
             drop(prefix);
             drop(tape);
@@ -291,7 +302,7 @@ impl Building {
             Building::Called(prefix, name, overflow, roles, calls) => {
                 behind_call(prefix, name, overflow, roles, calls, line)
             }
-            Building::Taped(prefix, tape) => behind_message(prefix, tape, line),
+            Building::Taped(prefix, tape) => behind_message(alloc, prefix, tape, line),
         }
     }
 
@@ -309,13 +320,47 @@ impl Building {
         }
     }
 
+    /// Reads on where the next lines are calls or messages of the tape, as most lines of a trace are:
+    /// those that are found so are taken as they stand.
+    pub(crate) fn read_on<'a>(self, bytes: &'a [u8], line: u32) -> Reading<'a>
+        requires { line + length bytes.now ≤ 4294967295 }
+        ensures { ReadsOn self bytes.now line result.building result.rest.now result.line }
+    {
+        match self {
+            Building::Called(prefix, name, overflow, roles, calls) => {
+                let mut calls = calls.into_vec();
+                let (rest, line) = take_calls(&mut calls, bytes, line);
+                let building = Building::Called(prefix, name, overflow, roles, Items::new(calls));
+                Reading {
+                    building,
+                    rest,
+                    line,
+                }
+            }
+            Building::Taped(prefix, mut tape) => {
+                let (rest, line) = tape.take_lines(bytes, line);
+                let building = Building::Taped(prefix, tape);
+                Reading {
+                    building,
+                    rest,
+                    line,
+                }
+            }
+            building => Reading {
+                building,
+                rest: bytes,
+                line,
+            },
+        }
+    }
+
     /// The trace, where its last line may have been read.
     #[tactic(auto, unfolding(crate::specs::LineOrder::finish))]
     pub(crate) fn finish(self, alloc: Global) -> Option<Trace>
         ensures { result ≡ finish self }
     {
         match self {
-            Building::Between(prefix) => Some(prefix.finish(none(alloc))),
+            Building::Between(prefix) => Some(prefix.finish(Tape::new(alloc))),
             Building::Taped(prefix, tape) => Some(prefix.finish(tape)),
             building => {
                 drop(building);

@@ -6,13 +6,11 @@ ghost use Rattle.cy_trace.specs.Numerals.{number, signed};
 ghost use Rattle.cy_trace.specs.LineReading.{GivesItems, numbers, words_left};
 
 use crate::fault::Fault;
+use crate::seqs::MOST_MESSAGES;
 use crate::word::{cut, cut_last, is_word, long, short, signed};
-use crate::{TraceCall, TraceOutput};
+use crate::{Seqs, TraceCall, TraceOutput};
 use cy_msg::Items;
 use std::alloc::Global;
-
-// The most messages that a call takes.
-const MOST_MESSAGES: usize = 4;
 
 // The position and the tail of a call.
 #[tactic(auto, unfolding(crate::specs::LineReading::place))]
@@ -88,14 +86,14 @@ fn numbers(alloc: Global, bytes: &[u8]) -> Result<Vec<u32>, Fault>
 
 // The numbers of the messages of a call, with single spaces between.
 #[tactic(auto, unfolding(crate::specs::LineReading::seqs))]
-fn seqs(alloc: Global, bytes: &[u8]) -> Result<Items<u32>, Fault>
+fn seqs(alloc: Global, bytes: &[u8]) -> Result<Seqs, Fault>
     ensures { Gives result (seqs bytes.now) }
 {
     let seqs = numbers(alloc, bytes)?;
     if seqs.len() > MOST_MESSAGES {
         return Err(Fault::Bad);
     }
-    Ok(Items::new(seqs))
+    Ok(Seqs::of(&seqs))
 }
 
 /// A call.

@@ -4,19 +4,26 @@
 //! `specs/Telling` says that the trace of a lawful run determines it.
 #![tactic(auto)]
 
+mod added;
 mod building;
 mod call;
 mod error;
 mod fault;
+mod front;
+mod front_call;
 mod laws;
 mod line;
 mod lines;
 mod name;
+mod named;
 mod numeral;
 mod page;
 mod read;
+mod seqs;
 mod start;
 mod summary;
+mod tape;
+mod tape_lines;
 mod text;
 mod trace;
 mod typed;
@@ -27,8 +34,11 @@ pub use laws::{
     first_bad_is_one, lines_read_back, runs_are_read_back, runs_are_traces, texts_tell_traces,
     traces_tell_runs,
 };
+pub use named::{NamedSeq, TapeName};
 pub use read::read_trace;
+pub use seqs::Seqs;
 pub use summary::{lawful_line, summary_line};
+pub use tape::Tape;
 pub use text::trace_text;
 pub use trace::{TapeEntry, Trace, TraceCall, TraceComponent, TraceOutput};
 pub use typed::{trace_is_read_back, traces_of_runs_fit};

@@ -35,12 +35,14 @@ pub fn read_trace(alloc: Global, bytes: &[u8]) -> Result<Trace, TraceError>
             drop(building);
             return Err(TraceError::Bad { line });
         };
-        building = match building.next(alloc, text) {
-            Ok(building) => building,
+        let next = match building.next(alloc, text) {
+            Ok(next) => next,
             Err(fault) => return Err(error_at(line, fault)),
         };
-        rest = more;
-        line += 1;
+        let read = next.read_on(more, line + 1);
+        building = read.building;
+        rest = read.rest;
+        line = read.line;
     }
     match building.finish(alloc) {
         Some(trace) => Ok(trace),

@@ -1,4 +1,5 @@
 // A trace, as its lines have it.
+use crate::{Seqs, Tape};
 use cy_fuse::Overflow;
 use cy_msg::{Items, Text};
 
@@ -21,7 +22,7 @@ pub struct TraceCall {
     /// How many tuples had been fused then.
     pub tail: u64,
     /// The numbers of its one to four messages, in the order of the readers.
-    pub seqs: Items<u32>,
+    pub seqs: Seqs,
     /// What it put out, if anything.
     pub out: Option<TraceOutput>,
 }
@@ -62,5 +63,5 @@ pub struct Trace {
     /// not played.
     pub shadowed: u32,
     pub components: Items<TraceComponent>,
-    pub tape: Items<TapeEntry>,
+    pub tape: Tape,
 }

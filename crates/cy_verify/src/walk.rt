@@ -11,8 +11,8 @@ use crate::VerifyError;
 use crate::follower::Follower;
 use cy_comp::{Plan, Routine, Wiring};
 use cy_fuse::Visitor;
-use cy_msg::{Items, PlayList, Stop, Token};
-use cy_trace::{TapeEntry, Trace, TraceComponent};
+use cy_msg::{Items, PlayList, Stop, Text, Token};
+use cy_trace::{Trace, TraceComponent};
 use std::alloc::Global;
 use wake_core::{CoreError, Fixed, Parts, World, laws};
 
@@ -41,6 +41,7 @@ impl Walk {
     ghost use Rattle.wake_core.specs.declared.entries.TheConstants.{MOST_PLANNED};
     ghost use Rattle.wake_core.specs.Fields.{IsWithin};
     ghost use Rattle.cy_trace.specs.TraceOfRun.{tape_entry};
+    ghost use Rattle.cy_trace.specs.Tapes.{entry_of};
     ghost use Rattle.cy_trace.specs.declared.trace.TraceComponent.{TraceComponent};
     ghost use Rattle.cy_verify.specs.Verdict.{MayJudge};
     ghost use Rattle.cy_verify.specs.declared.error.VerifyError.TheVariants as VerifyError;
@@ -116,21 +117,23 @@ impl Walk {
         list: &PlayList,
         told: &[TraceComponent],
         writer: usize,
-        entry: &TapeEntry,
+        name: &Text,
+        seq: u32,
     ) -> bool
         requires walked { IsWalked (task_in wiring.now list.now self.old) told.now self.old }
         requires writer { writer < length wiring.now.plans }
         requires told { length told.now ≡ length wiring.now.plans }
         requires named { (p : Plan) → slice_get wiring.now.plans writer ≡ Some p
-            → slice_get wiring.now.names p.out ≡ Some entry.now.name }
+            → slice_get wiring.now.names p.out ≡ Some name.now }
         ensures walked { result ≡ true
             → IsWalked (task_in wiring.now list.now self.new) told.now self.new }
-        ensures puts { result ≡ true → Puts wiring.now.names entry.now self.old self.new }
+        ensures puts { result ≡ true → Puts wiring.now.names (entry_of (name.now, seq)) self.old
+            self.new }
         ensures same { self.new.fixed ≡ self.old.fixed }
         ensures leads { (w : Plain) (p : Plan) (token : Token)
             → IsLed (task_in wiring.now list.now self.old) told.now w self.old
             → IsNext w self.old token → slice_get wiring.now.plans writer ≡ Some p
-            → token.channel ≡ p.out → token.seq ≡ entry.now.seq
+            → token.channel ≡ p.out → token.seq ≡ seq
             → (result ≡ true)
             × IsLed (task_in wiring.now list.now self.new) told.now w self.new }
     {
@@ -139,7 +142,7 @@ impl Walk {
         let Some(token) = self.followers[writer].output(plan, &told[writer], tape) else {
             return false;
         };
-        self.put(token, entry.seq)
+        self.put(token, seq)
     }
 
     // Follows an entry of the tape on a channel that no component writes.
@@ -149,20 +152,22 @@ impl Walk {
         list: &PlayList,
         told: &[TraceComponent],
         channel: u32,
-        entry: &TapeEntry,
+        name: &Text,
+        seq: u32,
     ) -> bool
         requires may { MayJudge (task_in wiring.now list.now self.old) }
         requires walked { IsWalked (task_in wiring.now list.now self.old) told.now self.old }
-        requires named { slice_get wiring.now.names channel ≡ Some entry.now.name }
+        requires named { slice_get wiring.now.names channel ≡ Some name.now }
         ensures walked { result ≡ true
             → IsWalked (task_in wiring.now list.now self.new) told.now self.new }
-        ensures puts { result ≡ true → Puts wiring.now.names entry.now self.old self.new }
+        ensures puts { result ≡ true → Puts wiring.now.names (entry_of (name.now, seq)) self.old
+            self.new }
         ensures same { self.new.fixed ≡ self.old.fixed }
         ensures leads { (w : Plain) (token : Token)
             → IsLed (task_in wiring.now list.now self.old) told.now w self.old
             → IsNext w self.old token → token.channel ≡ channel
             → writes_from 0 (routes_of wiring.now.plans) channel ≡ None
-            → token.seq ≡ entry.now.seq
+            → token.seq ≡ seq
             → (result ≡ true)
             × IsLed (task_in wiring.now list.now self.new) told.now w self.new }
     {
@@ -173,7 +178,7 @@ impl Walk {
             return false;
         }
         self.played += 1;
-        self.put(*token, entry.seq)
+        self.put(*token, seq)
     }
 
     // Follows an entry of the tape.
@@ -182,7 +187,8 @@ impl Walk {
         wiring: &Wiring,
         list: &PlayList,
         told: &[TraceComponent],
-        entry: &TapeEntry,
+        name: &Text,
+        seq: u32,
     ) -> bool
         requires may { MayJudge (task_in wiring.now list.now self.old) }
         requires once { IsOnce wiring.now.names }
@@ -190,20 +196,21 @@ impl Walk {
         requires told { length told.now ≡ length wiring.now.plans }
         ensures walked { result ≡ true
             → IsWalked (task_in wiring.now list.now self.new) told.now self.new }
-        ensures puts { result ≡ true → Puts wiring.now.names entry.now self.old self.new }
+        ensures puts { result ≡ true → Puts wiring.now.names (entry_of (name.now, seq)) self.old
+            self.new }
         ensures same { self.new.fixed ≡ self.old.fixed }
         ensures leads { (w : Plain) (token : Token)
             → IsLed (task_in wiring.now list.now self.old) told.now w self.old
-            → IsNext w self.old token → tape_entry wiring.now.names token ≡ entry.now
+            → IsNext w self.old token → tape_entry wiring.now.names token ≡ entry_of (name.now, seq)
             → (result ≡ true)
             × IsLed (task_in wiring.now list.now self.new) told.now w self.new }
     {
-        let Some(channel) = wiring.names.number_of(entry.name.as_str()) else {
+        let Some(channel) = wiring.names.number_of(name.as_str()) else {
             return false;
         };
         match writer_of(wiring.plans.as_slice(), channel) {
-            Some(writer) => self.put_output(wiring, list, told, writer, entry),
-            None => self.put_played(wiring, list, told, channel, entry),
+            Some(writer) => self.put_output(wiring, list, told, writer, name, seq),
+            None => self.put_played(wiring, list, told, channel, name, seq),
         }
     }
 
@@ -227,8 +234,9 @@ impl Walk {
             → (result ≡ true) × (self.new.tape.items ≡ w.tape)
             × IsLed (task_in wiring.now list.now self.new) trace.now.components w self.new }
     {
-        for entry in trace.tape.as_slice() {
-            if !self.put_entry(wiring, list, trace.components.as_slice(), entry) {
+        for place in 0..trace.tape.count() {
+            let (name, seq) = trace.tape.entry(place);
+            if !self.put_entry(wiring, list, trace.components.as_slice(), name, seq) {
                 return false;
             }
         }

@@ -1,6 +1,6 @@
 // Texts of traces, and texts that are of none.
 use cy_fuse::Overflow;
-use cy_trace::{TapeEntry, TraceCall, TraceError, TraceOutput, read_trace};
+use cy_trace::{Trace, TraceCall, TraceError, TraceOutput, read_trace};
 use std::alloc::Global;
 use std::test::Fail;
 
@@ -48,8 +48,9 @@ fn is_call(
         && call.out == out
 }
 
-fn is_entry(entry: &TapeEntry, name: &str, seq: u32) -> bool {
-    entry.name.as_str() == name && entry.seq == seq
+fn is_entry(trace: &Trace, place: usize, name: &str, seq: u32) -> bool {
+    let (its_name, its_seq) = trace.tape.entry(place);
+    its_name.as_str() == name && its_seq == seq
 }
 
 #[test]
@@ -72,10 +73,8 @@ fn reads_a_trace(rt: HostRuntime) -> Result<(), Fail> {
         value: Some(7),
     };
     assert!(rt; is_call(call, 1, 1, &[1], Some(out)));
-    let [first, second] = trace.tape.as_slice() else {
-        return Err(Fail::from("two messages"));
-    };
-    assert!(rt; is_entry(first, "/in", 1) && is_entry(second, "/out", 1));
+    assert_eq!(rt; trace.tape.count(), 2);
+    assert!(rt; is_entry(&trace, 0, "/in", 1) && is_entry(&trace, 1, "/out", 1));
     Ok(())
 }
 
@@ -167,7 +166,7 @@ end DATA_WAIT next 18446744073709551615
     assert!(rt; is_call(greatest, 3, 3, &[1, 2], out(1, 0, Some(i64::MAX))));
     assert!(rt; is_call(zero, 4, 4, &[0, 0, 0], out(2, 5, Some(0))));
     assert!(rt; is_call(untold, 5, 5, &[1], out(3, 6, None)));
-    assert!(rt; trace.tape.as_slice().is_empty());
+    assert_eq!(rt; trace.tape.count(), 0);
     Ok(())
 }
 

@@ -1,8 +1,9 @@
-use Rattle.std.proofs.Common.{◌<◌, length, sym, ◌∙◌, arith}
+use Rattle.std.proofs.Common.{◌+◌, ◌<◌, length, sym, ◌∙◌, arith}
 use Rattle.std.proofs.lemmas.Bool.{eqb-true, eqb-false}
 use Rattle.std.proofs.lemmas.Option.{same_Some}
 use Rattle.cy_trace.proofs.Prefixes.{no_newline, not_next, stepped, finishes_as, finished, ends_early, bad_at, failed, refused}
 use Rattle.cy_trace.proofs.Order.{lines_so_far}
+use Rattle.cy_trace.proofs.Taking.{read_further}
 use Rattle.cy_trace.proofs.read.read_trace.Goals as goal
 use Rattle.cy_trace.specs.declared.error.TraceError.TheVariants as trace_error
 
@@ -24,7 +25,9 @@ returns-in-Err c =
 pub loop-rest-preserved : goal.loop-rest-preserved
 loop-rest-preserved c =
     let l = c.loop-rest in
-    stepped c.args.bytes.now l.rest.now l.building l.line l.invariant c.in-Some.text.now c.in-Some.more.now c.in-Ok.building c.in-Some.ensures.parts c.in-Ok.ensures
+    let at = stepped c.args.bytes.now l.rest.now l.building l.line l.invariant c.in-Some.text.now c.in-Some.more.now c.in-Ok.next c.in-Some.ensures.parts c.in-Ok.ensures in
+    let read = c.read_on-read.result in
+    read_further c.args.bytes.now c.in-Some.more.now read.rest.now c.in-Ok.next read.building (l.line + 1) read.line at c.read_on-read.ensures
 
 pub returns-in-Some-finish : goal.returns-in-Some-finish
 returns-in-Some-finish c =

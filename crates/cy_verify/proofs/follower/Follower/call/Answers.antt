@@ -33,7 +33,7 @@ pub returns-clause-called : goal.returns-clause-called
 returns-clause-called c = λ is.
     made c.fetches_find.ensures.find (route_of c.args.plan.now) c.args.told.now c.args.tape.now c.args.self.now c.listen.new.self c.requires.may c.requires.follows c.listen.ensures.stays (rw (← c.as_slice-else-self.ensures) (c.if-not-listen.ensures.listens refl))
     c.cursor-cursor.result c.cursor-cursor.ensures c.in-Some-try_fetch.tuple c.in-Some-try_fetch.position c.in-Some-try_fetch.tail (sym c.try_fetch.ensures.found ∙ c.in-Some-try_fetch.is)
-    c.requires.numbered c.in-Some.call.now (rw (← c.as_slice.ensures, ← c.calls.ensures) (there_is c.as_slice.result.now (length c.calls.result.now) c.in-Some.call.now c.in-Some.ensures.lookup.3.0 c.in-Some.ensures.lookup.1)) c.if-self.false (c.if-not-listen.ensures.tail refl) c.if-position-call.false (sym c.as_slice-else-position-call.ensures ∙ c.if-not-has_numbers.ensures.numbers refl) c.took.new.self c.took.ensures.taken c.is_last-self.result (c.is_last-self.ensures ∙ ap (λ (o : Outcome). is_last (Some o)) c.took.ensures.outcome)
+    c.requires.numbered c.in-Some.call.now (rw (← c.as_slice.ensures, ← c.calls.ensures) (there_is c.as_slice.result.now (length c.calls.result.now) c.in-Some.call.now c.in-Some.ensures.lookup.3.0 c.in-Some.ensures.lookup.1)) c.if-self.false (c.if-not-listen.ensures.tail refl) c.if-position-call.false (sym c.as_slice-else-position-call.ensures.value ∙ c.if-not-has_numbers.ensures.numbers refl) c.took.new.self c.took.ensures.taken c.is_last-self.result (c.is_last-self.ensures ∙ ap (λ (o : Outcome). is_last (Some o)) c.took.ensures.outcome)
     (c.is_told.ensures.told is ∙ ap (output_of_call c.listen.new.self.outputs) c.pending.ensures)
 
 pub returns-clause-one : goal.returns-clause-one
@@ -62,7 +62,7 @@ returns-then-position-call-clause-leads c = λ stopped r lead can. elim c.then-p
   | then-position-call-via-then-position-call w ↦ absurd (w.if-position-call.true (told_position (route_of c.args.plan.now) c.args.told.now stopped r c.args.tape.now c.args.self.now lead can c.fetches_find.ensures.find c.requires.may c.requires.follows c.listen.new.self c.listen.ensures.stays (rw (← c.as_slice-else-self.ensures) (c.if-not-listen.ensures.listens refl))
       (rw (← c.as_slice-else-self.ensures) (c.listen.ensures.awaited r.arrivals (rw c.as_slice-else-self.ensures (awaits_told (route_of c.args.plan.now) c.args.told.now stopped r c.args.tape.now c.args.self.now lead can c.in-Some.call.now (rw (← c.as_slice.ensures, ← c.calls.ensures) (there_is c.as_slice.result.now (length c.calls.result.now) c.in-Some.call.now c.in-Some.ensures.lookup.3.0 c.in-Some.ensures.lookup.1))))).1)
       c.in-Some.call.now (rw (← c.as_slice.ensures, ← c.calls.ensures) (there_is c.as_slice.result.now (length c.calls.result.now) c.in-Some.call.now c.in-Some.ensures.lookup.3.0 c.in-Some.ensures.lookup.1)) (c.if-not-listen.ensures.tail refl) c.cursor-cursor.result c.cursor-cursor.ensures c.in-Some-try_fetch.tuple c.in-Some-try_fetch.position c.in-Some-try_fetch.tail (sym c.try_fetch.ensures.found ∙ c.in-Some-try_fetch.is)))
-  | then-position-call-via-else-position-call+then-not-has_numbers w ↦ absurd (wrong (w.has_numbers.ensures.equal (w.as_slice-else-position-call.ensures ∙ told_seqs (route_of c.args.plan.now) c.args.told.now stopped r c.args.tape.now c.args.self.now lead can c.fetches_find.ensures.find c.requires.may c.requires.follows c.listen.new.self c.listen.ensures.stays (rw (← c.as_slice-else-self.ensures) (c.if-not-listen.ensures.listens refl))
+  | then-position-call-via-else-position-call+then-not-has_numbers w ↦ absurd (wrong (w.has_numbers.ensures.equal (w.as_slice-else-position-call.ensures.value ∙ told_seqs (route_of c.args.plan.now) c.args.told.now stopped r c.args.tape.now c.args.self.now lead can c.fetches_find.ensures.find c.requires.may c.requires.follows c.listen.new.self c.listen.ensures.stays (rw (← c.as_slice-else-self.ensures) (c.if-not-listen.ensures.listens refl))
       (rw (← c.as_slice-else-self.ensures) (c.listen.ensures.awaited r.arrivals (rw c.as_slice-else-self.ensures (awaits_told (route_of c.args.plan.now) c.args.told.now stopped r c.args.tape.now c.args.self.now lead can c.in-Some.call.now (rw (← c.as_slice.ensures, ← c.calls.ensures) (there_is c.as_slice.result.now (length c.calls.result.now) c.in-Some.call.now c.in-Some.ensures.lookup.3.0 c.in-Some.ensures.lookup.1))))).1)
       c.in-Some.call.now (rw (← c.as_slice.ensures, ← c.calls.ensures) (there_is c.as_slice.result.now (length c.calls.result.now) c.in-Some.call.now c.in-Some.ensures.lookup.3.0 c.in-Some.ensures.lookup.1)) (c.if-not-listen.ensures.tail refl) c.cursor-cursor.result c.cursor-cursor.ensures c.in-Some-try_fetch.tuple c.in-Some-try_fetch.position c.in-Some-try_fetch.tail (sym c.try_fetch.ensures.found ∙ c.in-Some-try_fetch.is))) w.if-not-has_numbers.true)
 ]

@@ -1,5 +1,5 @@
-use Rattle.std.proofs.Common.{◌≡◌, Bool, true, false, length, refl, sym, ◌∙◌, ap}
-use Rattle.cy_verify.proofs.Heard.{there_is}
+use Rattle.std.proofs.Common.{◌≡◌, Bool, true, false, length, refl, sym, ◌∙◌, ap, arith}
+use Rattle.cy_trace.specs.Tapes.{entry_of}
 use Rattle.cy_verify.proofs.WalkLed.{next_entry, put_whole, put_led_first, same_number}
 use Rattle.cy_verify.proofs.Walked.{put_first, put_next, same_may, taken_all}
 use Rattle.cy_verify.proofs.walk.Walk.put_all.Goals as goal
@@ -7,43 +7,43 @@ use Rattle.cy_verify.proofs.walk.Walk.put_all.Goals as goal
 wrong : {b : Bool} → b ≡ true → b ≡ false → ⊥
 wrong e n = cc
 
-pub loop-entry-init : goal.loop-entry-init
-loop-entry-init c = put_led_first (put_first c.requires.walked c.requires.empty)
+pub loop-place-init : goal.loop-place-init
+loop-place-init c = put_led_first (put_first c.requires.walked c.requires.empty)
 
 pub put_entry-requires-clause-may : goal.put_entry-requires-clause-may
-put_entry-requires-clause-may c = same_may c.args.wiring.now c.args.list.now c.args.self.now c.loop-entry.self c.loop-entry.invariant.to.same c.requires.may
+put_entry-requires-clause-may c = same_may c.args.wiring.now c.args.list.now c.args.self.now c.loop-place.self c.loop-place.invariant.to.same c.requires.may
 
 pub put_entry-requires-clause-walked : goal.put_entry-requires-clause-walked
-put_entry-requires-clause-walked c = rw c.as_slice.ensures c.loop-entry.invariant.to.walked
+put_entry-requires-clause-walked c = rw c.as_slice.ensures c.loop-place.invariant.to.walked
 
 pub returns-then-not-put_entry-clause-same : goal.returns-then-not-put_entry-clause-same
-returns-then-not-put_entry-clause-same c = c.put_entry.ensures.same ∙ c.loop-entry.invariant.to.same
+returns-then-not-put_entry-clause-same c = c.put_entry.ensures.same ∙ c.loop-place.invariant.to.same
 
-pub loop-entry-preserved : goal.loop-entry-preserved
-loop-entry-preserved c = record {
-  to = put_next c.loop-entry.entry-index c.entry-item.result (rw (← c.as_slice-entry-items.ensures) (there_is c.as_slice-entry-items.result.now c.loop-entry.entry-index c.entry-item.result c.loop-entry-test.true c.entry-item.is))
-      c.loop-entry.invariant.to (rw (← c.as_slice.ensures) (c.if-not-put_entry.ensures.walked refl)) (c.if-not-put_entry.ensures.puts refl) c.put_entry.ensures.same;
+pub loop-place-preserved : goal.loop-place-preserved
+loop-place-preserved c = record {
+  to = put_next c.loop-place.place (entry_of (c.entry-seq.result.0.now, c.entry-seq.result.1)) c.entry-seq.ensures
+      c.loop-place.invariant.to (rw (← c.as_slice.ensures) (c.if-not-put_entry.ensures.walked refl)) (c.if-not-put_entry.ensures.puts refl) c.put_entry.ensures.same;
   led = λ p led told.
-      let next = next_entry c.entry-item.result c.loop-entry.invariant.to (rw (← c.as_slice-entry-items.ensures) (there_is c.as_slice-entry-items.result.now c.loop-entry.entry-index c.entry-item.result c.loop-entry-test.true c.entry-item.is)) p told in
-      rw (← c.as_slice.ensures) (c.put_entry.ensures.leads p next.0 (rw c.as_slice.ensures (c.loop-entry.invariant.led p led told)) next.1 next.2).1;
+      let next = next_entry (entry_of (c.entry-seq.result.0.now, c.entry-seq.result.1)) c.loop-place.invariant.to c.entry-seq.ensures p told in
+      rw (← c.as_slice.ensures) (c.put_entry.ensures.leads p next.0 (rw c.as_slice.ensures (c.loop-place.invariant.led p led told)) next.1 next.2).1;
 }
 
 pub returns-then-not-put_entry-clause-leads : goal.returns-then-not-put_entry-clause-leads
 returns-then-not-put_entry-clause-leads c = λ p led told.
-    let next = next_entry c.entry-item.result c.loop-entry.invariant.to (rw (← c.as_slice-entry-items.ensures) (there_is c.as_slice-entry-items.result.now c.loop-entry.entry-index c.entry-item.result c.loop-entry-test.true c.entry-item.is)) p told in
-    absurd (wrong (c.put_entry.ensures.leads p next.0 (rw c.as_slice.ensures (c.loop-entry.invariant.led p led told)) next.1 next.2).0 c.if-not-put_entry.true)
+    let next = next_entry (entry_of (c.entry-seq.result.0.now, c.entry-seq.result.1)) c.loop-place.invariant.to c.entry-seq.ensures p told in
+    absurd (wrong (c.put_entry.ensures.leads p next.0 (rw c.as_slice.ensures (c.loop-place.invariant.led p led told)) next.1 next.2).0 c.if-not-put_entry.true)
 
 pub returns-clause-leads : goal.returns-clause-leads
 returns-clause-leads c = λ p led told.
-    let here = c.loop-entry.invariant.led p led told in
-    let whole = put_whole c.loop-entry.invariant.to (rw (← c.as_slice-entry-items.ensures) c.loop-entry-test.false) p told here in
-    (same_number c.loop-entry.self.played (length c.as_slice-2.result.now) (whole.1 ∙ ap length (sym c.as_slice-2.ensures)), whole.0, here)
+    let here = c.loop-place.invariant.led p led told in
+    let whole = put_whole c.loop-place.invariant.to (omega (arith, c.count-place-end.ensures, c.loop-place-test.false)) p told here in
+    (same_number c.loop-place.self.played (length c.as_slice-2.result.now) (whole.1 ∙ ap length (sym c.as_slice-2.ensures)), whole.0, here)
 
 pub returns-clause-walked : goal.returns-clause-walked
-returns-clause-walked c = λ _. c.loop-entry.invariant.to.walked
+returns-clause-walked c = λ _. c.loop-place.invariant.to.walked
 
 pub returns-clause-told : goal.returns-clause-told
-returns-clause-told c = λ _. c.loop-entry.invariant.to.told ∙ taken_all c.loop-entry.entry-index c.args.trace.now.tape (rw (← c.as_slice-entry-items.ensures) c.loop-entry-test.false)
+returns-clause-told c = λ _. c.loop-place.invariant.to.told ∙ taken_all c.loop-place.place c.args.trace.now.tape (omega (arith, c.count-place-end.ensures, c.loop-place-test.false))
 
 pub returns-clause-same : goal.returns-clause-same
-returns-clause-same c = c.loop-entry.invariant.to.same
+returns-clause-same c = c.loop-place.invariant.to.same

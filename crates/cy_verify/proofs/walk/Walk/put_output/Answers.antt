@@ -1,6 +1,7 @@
 use Rattle.std.proofs.Common.{◌≡◌, ◌++◌, ◌∷◌, [], true, Some, None, sym, ◌∙◌, ap, get_or, List}
 use Rattle.cy_msg.specs.declared.token.Token.{Token}
 use Rattle.cy_comp.specs.declared.plan.Plan.{Plan}
+use Rattle.cy_trace.specs.Tapes.{entry_of}
 use Rattle.cy_verify.specs.declared.walk.Walk.{Walk}
 use Rattle.wake_core.specs.WorldOf.{stop_in}
 use Rattle.cy_verify.specs.private.Led.{ended_in}
@@ -29,7 +30,7 @@ pub returns-clause-puts : goal.returns-clause-puts
 returns-clause-puts c = λ is.
     output_puts c.args.wiring.now c.args.list.now c.args.told.now c.args.self.now c.requires.walked c.requires.told c.args.writer c.requires.writer c.index-as_slice-writer.result
     (c.index-as_slice-writer.is ∙ ap (λ (ps : List Plan). get_or ps c.args.writer c.index-as_slice-writer.result) c.as_slice.ensures) c.index-told-writer.result c.index-told-writer.is c.index_mut.result.now c.index_mut.ensures.value
-    c.in-Some.token c.output.new.self c.args.entry.now (rw (← c.as_slice-tape.ensures.value) (c.output.ensures.sends c.in-Some.token c.in-Some.is))
+    c.in-Some.token c.output.new.self (entry_of (c.args.name.now, c.args.seq)) (rw (← c.as_slice-tape.ensures.value) (c.output.ensures.sends c.in-Some.token c.in-Some.is))
     (c.requires.named c.index-as_slice-writer.result (there_is c.args.wiring.now.plans c.args.writer c.index-as_slice-writer.result c.requires.writer (c.index-as_slice-writer.is ∙ ap (λ (ps : List Plan). get_or ps c.args.writer c.index-as_slice-writer.result) c.as_slice.ensures)))
     (c.put.ensures.number is) c.put.new.self (c.put.ensures.put is)
 

@@ -1,6 +1,7 @@
 use Rattle.std.proofs.Common.{◌≡◌, ◌≤◌, arith, ◌++◌, ◌∷◌, [], true, Some, sym, ◌∙◌, ap, length, slice_get}
 use Rattle.std.proofs.lemmas.Option.{slice_get_within}
 use Rattle.cy_msg.specs.declared.token.Token.{Token}
+use Rattle.cy_trace.specs.Tapes.{entry_of}
 use Rattle.cy_verify.specs.declared.walk.Walk.{Walk}
 use Rattle.cy_verify.proofs.Heard.{there_is}
 use Rattle.wake_core.specs.Run.{routes_of, writes_from}
@@ -18,7 +19,7 @@ pub returns-clause-puts : goal.returns-clause-puts
 returns-clause-puts c = λ is.
     played_puts c.args.wiring.now c.args.list.now c.args.told.now c.args.self.now c.requires.walked c.requires.may c.args.list.now.numbered c.in-Some.token.now
     (rw (← c.as_slice.ensures) (there_is c.as_slice.result.now c.args.self.now.played c.in-Some.token.now c.in-Some.ensures.lookup.3.0 c.in-Some.ensures.lookup.1))
-    c.args.entry.now (ap (slice_get c.args.wiring.now.names) c.if-token-channel.false ∙ c.requires.named) (c.put.ensures.number is) c.put.new.self (c.put.ensures.put is)
+    (entry_of (c.args.name.now, c.args.seq)) (ap (slice_get c.args.wiring.now.names) c.if-token-channel.false ∙ c.requires.named) (c.put.ensures.number is) c.put.new.self (c.put.ensures.put is)
 
 pub returns-in_default-clause-leads : goal.returns-in_default-clause-leads
 returns-in_default-clause-leads c = λ w token led next its unwritten number.
