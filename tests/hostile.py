@@ -6,7 +6,8 @@
 Each of COUNT cases has the files of a replay as replays.py makes them, of which one or two are changed by damage.py: the record, a
 configuration file, or what a play wrote. They are given to the commands that read them. Of each run is looked at:
 
-- it ends with status 0, 1, 3 or 5, which are all that files can bring about, and not by a signal; 3 only where a file is none;
+- it ends with status 0, 1, 3 or 5, which are all that files can bring about, and not by a signal; 3 only where a file is none. A queue takes
+  its room before the first message, so 6 may come where the DAG file has a number of seven digits or more;
 - its line or text stands on the stream where it belongs, in its form, and the other stream got nothing;
 - no file is made or changed unless it is Done, and then only the two that are written; they are a record and a trace of the numbers that
   the line has, and `verify` finds them lawful;
@@ -51,7 +52,10 @@ LINES = {
     1: re.compile(rb"cyber: (.+): (?!the store failed)[^\n]+\n", re.DOTALL),
     3: re.compile(rb"cyber: (.+): the store failed\n", re.DOTALL),
     5: re.compile(rb"cyber: (.+): (?:limit \w+ passed: \d+|line \d+ column \d+: TooDeep|at \d+: TooLong \d+)\n", re.DOTALL),
+    6: re.compile(rb"cyber: (out of memory)\n"),
 }
+MEMORY = 6
+LONG_QUEUE = re.compile(rb"[1-9a-fA-F][0-9a-fA-F]{6}")
 TEXTS = {
     "play": re.compile(b"done: " + SUMMARY),
     "pass": re.compile(b"done: " + SUMMARY),
@@ -60,6 +64,7 @@ TEXTS = {
     "check": re.compile(rb"(?:[^\n]+\n)*ok\n"),
 }
 WRITTEN = ("out.rec", "out.trace")
+TOLD = {0: "Done", 1: "Refused", 3: "StoreFault", 5: "Limit", MEMORY: "Memory"}  # the statuses that files can bring about
 
 
 @dataclass
@@ -138,13 +143,14 @@ def require(is_well, what):
 def looks_as_promised(ran, changed):
     """Looks at the status, at both streams, and at the files that changed."""
     require(ran.status >= 0, f"signal {-ran.status}")
-    require(ran.is_done or ran.status in LINES, f"status {ran.status}: {ran.err[:200]}")
+    require(ran.status in TOLD, f"status {ran.status}: {ran.err[:200]}")
     if ran.is_done:
         require(TEXTS[ran.words[0]].fullmatch(ran.out), f"standard output got {ran.out[:200]}")
         require(not ran.err, f"Done, and standard error got {ran.err[:200]}")
         must = {it.encode() for it in WRITTEN} if ran.words[0] in ("play", "pass") else set()
         require(changed == must, f"Done, and there changed {changed}")
         return
+    require(ran.status != MEMORY or LONG_QUEUE.search(read("m.dag")), "there is no memory")
     found = LINES[ran.status].fullmatch(ran.err)
     require(found, f"status {ran.status}, and standard error got {ran.err[:200]}")
     require(not ran.out, f"status {ran.status}, and standard output got {ran.out[:200]}")
@@ -307,15 +313,12 @@ def try_case(suite, seed, number):
 
 
 def report(suite, count, faults, seconds):
-    names = {0: "Done", 1: "Refused", 3: "StoreFault", 5: "Limit"}
-    statuses = Counter()
-    for (_, status), number in suite.counts.items():
-        statuses[names[status]] += number
-    commands = Counter()
-    for (command, _), number in suite.counts.items():
+    commands, statuses = Counter(), Counter()
+    for (command, status), number in suite.counts.items():
         commands[command] += number
-    tell = lambda counts: ", ".join(f"{name} {number}" for name, number in counts.most_common())
-    print(f"{count} hostile cases, {sum(commands.values())} runs ({tell(commands)}; {tell(statuses)}) in {seconds:.0f} s, {faults or 'none'} amiss")
+        statuses[TOLD[status]] += number
+    told = "; ".join(", ".join(f"{name} {number}" for name, number in it.most_common()) for it in (commands, statuses))
+    print(f"{count} hostile cases, {sum(commands.values())} runs ({told}) in {seconds:.0f} s, {faults or 'none'} amiss")
     print(f"a run on a small record takes {suite.base / MB:.1f} MB; at most {suite.memory[0] / MB:.1f} MB above that and the files: {suite.memory[1]}")
     print(f"at most {suite.seconds[0]:.3f} seconds of a processor: {suite.seconds[1]}")
 
