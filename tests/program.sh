@@ -7,56 +7,10 @@ program=$(readlink -f "${1:-$top/crates/cyber/out/cyber}")
 [ -x "$program" ] || { echo "tests/program.sh: no program at $program" >&2; exit 1; }
 work=$(mktemp -d)
 trap 'rm -rf "$work"' EXIT
-passed=0
-failed=0
+. "$top/tests/program/counting.sh"
 
 USAGE='cyber: the words are not of a known form'
 OUTPUT='cyber: the output failed'
-
-# Counts one comparison, and tells of one that failed.
-count() { # whether it is well: 0, and what was compared
-  if [ "$1" -eq 0 ]; then
-    passed=$((passed + 1))
-  else
-    failed=$((failed + 1))
-    echo "FAILED: $2"
-  fi
-}
-
-# Begins a test in an empty folder.
-begin() { # what it shows
-  name=$1
-  cd "$(mktemp -d -p "$work")" || exit 1
-}
-
-# Runs the program in the folder `files`, with the two streams in files.
-run() { # the words
-  mkdir -p files
-  (cd files && exec "$program" "$@") >out 2>err
-  status=$?
-}
-
-# Compares the status, and what the two streams got: a line, or nothing.
-ends() { # the status, the line on standard output and that on standard error
-  [ "$status" -eq "$1" ]
-  count $? "$name: status $status, not $1"
-  printf '%s' "${2:+$2$'\n'}" | cmp -s - out
-  count $? "$name: standard output got '$(head -c 200 out)', not '$2'"
-  printf '%s' "${3:+$3$'\n'}" | cmp -s - err
-  count $? "$name: standard error got '$(head -c 200 err)', not '$3'"
-}
-
-# Compares a file with another.
-holds() { # the file, and one with what it has to hold
-  cmp -s "$1" "$2"
-  count $? "$name: $1 is not as expected"
-}
-
-# Looks that a file is not there.
-lacks() { # the file
-  [ ! -e "$1" ]
-  count $? "$name: $1 is there"
-}
 
 # Makes what `pass` must write for the record in `files`, in the folder `want`.
 wanted() { # the two channels
@@ -84,15 +38,6 @@ is_lawful() { # the folder in which the play ran, the record and the trace as th
   line=$(cd "$1" && "$program" verify --out "$2" --trace "$3" "${@:4}" 2>&1)
   [ "$line" = "$expected" ]
   count $? "$name: verify says '$(head -c 200 <<<"$line")', not '$expected'"
-}
-
-# Looks that a file is a record that is still being written: its header counts nothing and is not complete.
-is_incomplete() { # the file
-  local header want='00000000 00000000 2500000000000000 0801 1000 1800 208090dfc04a 2800'
-  want+=' 3000 3800 4000 4800 5000 5800 6000 6800 708084af5f 7800'
-  header=$(head -c 53 "$1" | od -An -v -tx1 | tr -d ' \n')
-  [ "$header" = "${want// /}" ]
-  count $? "$name: $1 does not begin with the header of an incomplete record"
 }
 
 plays_a_record() { # its name, and how many bytes and lines are written for it
@@ -196,17 +141,6 @@ names_the_trace() { # what befalls it, its name, and a command that does it
   holds files/out.rec want/rec
 }
 
-stops_in_mid_record() {
-  begin 'leaves an incomplete record where the file may not grow'
-  given thousand.rec
-  # The program is told of the limit, and not stopped by a signal.
-  (trap '' XFSZ && ulimit -f 8 && cd files && exec "$program" pass in.rec out.rec trace /in /out) >out 2>err
-  status=$?
-  ends 3 '' 'cyber: out.rec: the store failed'
-  is_incomplete files/out.rec
-  lacks files/trace
-}
-
 tells_of_standard_output() { # what befalls it, and a redirection that does it
   begin "tells of a standard output that $1"
   given two.rec
@@ -224,20 +158,6 @@ fails_without_standard_error() { # what befalls it, and a redirection that does 
   (cd files && eval "exec \"\$program\" pass $2") >out
   status=$?
   ends 4 '' ''
-}
-
-# Runs the program as nobody, who may not do all that root may.
-as_nobody() { # the words
-  if [ "$(id -u)" -ne 0 ]; then
-    run "$@"
-    return
-  fi
-  cp "$program" program
-  chmod 711 "$work" .
-  chmod 755 program
-  chown 65534 files
-  (cd files && exec setpriv --reuid=65534 --regid=65534 --clear-groups ../program "$@") >out 2>err
-  status=$?
 }
 
 names_what_may_not_be_used() {
@@ -958,7 +878,6 @@ names_the_out_file 'a device that is full' /dev/full ''
 names_the_trace 'a folder' trace 'mkdir trace'
 names_the_trace 'in a folder that is not there' missing/trace ''
 names_the_trace 'a device that is full' /dev/full ''
-stops_in_mid_record
 names_what_may_not_be_used
 
 tells_of_standard_output 'is full' '>/dev/full'
@@ -969,6 +888,18 @@ fails_without_standard_error 'is closed' '2>&-'
 
 . "$top/tests/program/refused.sh"
 . "$top/tests/program/verify.sh"
+
+# Runs a script of its own over the program, and tells what it found amiss.
+stands() { # what it shows, the script, and its words behind the program
+  begin "$1"
+  "$top/tests/$2" "$program" "${@:3}" >report 2>&1
+  count $? "$name: $(cat report)"
+  grep '^left out' report
+}
+
+stands 'answers damaged files' hostile.py 300 1
+stands 'answers odd words' hostile_words.py
+stands 'answers where the machine sets limits' limits.sh
 
 echo "$passed passed, $failed failed"
 [ "$failed" -eq 0 ]
