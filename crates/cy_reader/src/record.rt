@@ -11,7 +11,7 @@ ghost use Rattle.cy_reader.specs.Play.{message_at, time_at};
 
 use crate::facts::{Facts, channel_counts, count_parts, head_places, index_found};
 use crate::header::LONGEST_FILE;
-use crate::heads::{Walk, heads_of, index_at};
+use crate::heads::{Heads, KeptIndex, PlacedHead, heads_of};
 use crate::loading::{Loading, parts_of};
 use crate::{LoadError, info};
 use cy_msg::{Bytes, Text};
@@ -27,9 +27,12 @@ use std::marker::Model;
 #[derive(Drop)]
 pub struct Record {
     name: Text,
-    file: Bytes,
+    size: u64,
     header: Header,
-    walk: Walk,
+    heads: Vec<PlacedHead>,
+    index: Option<KeptIndex>,
+    // What is kept of the file, in which the contents of messages stand.
+    bodies: Vec<Bytes>,
     loading: Loading,
 }
 
@@ -40,10 +43,10 @@ impl Model for Record {
 
     ghost Value = { Contents };
 
-    ghost view = { λ r. shown (kept_source r.name r.file r.header r.walk)
-        (met_of r.file r.loading) };
+    ghost view = { λ r. shown (kept_source r.name r.size r.header r.heads.items r.index)
+        (met_of r.bodies.items r.loading) };
 
-    ghost invariant = { λ r. IsKept r.file r.walk r.loading };
+    ghost invariant = { λ r. IsKept r.bodies.items r.index r.loading };
 }
 
 // The bytes of a file, which are not more than are read.
@@ -62,13 +65,17 @@ fn record_in(alloc: Global, name: &str, file: Bytes) -> Result<Record, LoadError
     ensures not_store { IfErr result (λ e. e ≢ LoadError.Store) }
 {
     let (header, loading) = parts_of(alloc, file.as_slice())?;
-    let walk = heads_of(alloc, file.as_slice())?;
+    let Heads { heads, index } = heads_of(alloc, file.as_slice())?;
     let name = Text::from_string(String::from_str(alloc, name)?);
+    let size = file.as_slice().len() as u64;
+    let bodies = vec![in alloc; file]?;
     Ok(Record {
         name,
-        file,
+        size,
         header,
-        walk,
+        heads,
+        index,
+        bodies,
         loading,
     })
 }
@@ -142,10 +149,10 @@ impl Record {
         ensures { IfSome (slice_get self.now.messages place) (λ m. result.now ≡ m.content) }
     {
         let message = self.loading.messages[place as usize];
-        let file = self.file.as_slice();
-        let start = file.len().min(message.start as usize);
-        let end = start + (file.len() - start).min(message.length as usize);
-        &file[start..end]
+        let body = self.bodies[message.body as usize].as_slice();
+        let start = body.len().min(message.start as usize);
+        let end = start + (body.len() - start).min(message.length as usize);
+        &body[start..end]
     }
 
     // What `info` tells beside the channels and the header.
@@ -155,11 +162,10 @@ impl Record {
     {
         let messages = self.loading.messages.as_slice();
         let channels = self.loading.channels.list.len();
-        let heads = self.walk.heads.as_slice();
-        let index = index_at(self.file.as_slice(), self.walk.end);
-        let size = self.file.as_slice().len() as u64;
+        let heads = self.heads.as_slice();
+        let index = self.index.as_ref();
         Ok(Facts {
-            counted: count_parts(channels, messages, heads, index, size),
+            counted: count_parts(channels, messages, heads, index, self.size),
             counts: channel_counts(alloc, messages, channels)?,
             index: index_found(alloc, index)?,
             places: head_places(alloc, heads)?,
@@ -171,8 +177,7 @@ impl Record {
         requires { AreFacts self.now facts.now }
         ensures { OnOk result (to.new.items ≡ to.old.items ++ info_text self.now) }
     {
-        let size = self.file.as_slice().len() as u64;
-        info::push_file(to, self.name.as_str(), size)?;
+        info::push_file(to, self.name.as_str(), self.size)?;
         info::push_front(to, &self.header, &facts.counted)?;
         info::push_index(to, &facts.index)?;
         info::push_channels(
