@@ -80,6 +80,15 @@ rest_stands from file at k bytes w few =
       stands = subst (λ (p : ℕ). Stands file p (drop k bytes)) place (rest_there file (at - from) k bytes w.stands few);
     }
 
+-- bytes stand in themselves
+pub self_within : (at : ℕ) (bytes : List ℕ) → IsWithin at bytes at bytes
+self_within at bytes =
+    let nought : 0 ≡ at - at = omega arith in
+    record {
+      behind = omega arith;
+      stands = subst (λ (p : ℕ). Stands bytes p bytes) nought (record { inside = omega arith; same = sym (take_all (length bytes) bytes (omega arith)) });
+    }
+
 -- the bytes of a value
 abbrev pub ValueStands : ℕ → List ℕ → WireValue → Type 0
 ValueStands from file (Varint value) = Unit {0}

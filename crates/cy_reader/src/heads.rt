@@ -102,7 +102,7 @@ fn index_at(alloc: Global, file: &[u8], at: usize) -> Result<Option<KeptIndex>, 
 
 // The head of a file's header.
 #[tactic(auto, unfolding(crate::specs::Heads::header_head))]
-fn header_head(file: &[u8]) -> PlacedHead
+pub(crate) fn header_head(file: &[u8]) -> PlacedHead
     requires { 16 ≤ length file.now }
     ensures { result ≡ header_head file.now }
 {

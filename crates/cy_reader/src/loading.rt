@@ -1,13 +1,15 @@
 // Reads the channels and messages of a file's sections.
 ghost use Rattle.std.specs.Prelude.{◌≡◌, ◌≢◌, ◌≤◌, ◌<◌, ◌^◌, ◌+◌, ◌-◌, ◌++◌, ◌∷◌, [], length};
-ghost use Rattle.std.specs.Prelude.{IfOk, IfErr, OnOk, IsOkUnless};
+ghost use Rattle.std.specs.Prelude.{List, IfOk, IfErr, OnOk, IsOkUnless};
 ghost use Rattle.cy_msg.specs.Answer.{AnswersOr};
 ghost use Rattle.cy_section.specs.Messages.{seen};
 ghost use Rattle.cy_reader.specs.Record.{message_met, body_met};
+ghost use Rattle.cy_reader.specs.Record.{Message as MessageMet};
 ghost use Rattle.cy_reader.specs.Record.{section_met, sections_met, parts_of, header_end, nothing};
 ghost use Rattle.cy_reader.specs.private.Kept.{IsLoaded};
 ghost use Rattle.cy_reader.specs.private.Loading.{IsSound, IsShort, Leads, unless_ended, noted};
-ghost use Rattle.cy_reader.specs.private.Loading.{met_of, with_body};
+ghost use Rattle.cy_reader.specs.private.Loading.{AreSmall, IsTied, Grows, met_of, met_with};
+ghost use Rattle.cy_reader.specs.private.Loading.{with_body, IsShortSection};
 ghost use Rattle.cy_reader.specs.Stands.{Stands, IsWithin};
 ghost use Rattle.cy_reader.specs.Sections.{sections_from};
 ghost use Rattle.cy_reader.specs.private.Found.{seen_section};
@@ -151,6 +153,36 @@ pub(crate) fn body_met(
     Ok(())
 }
 
+// Keeps what a section has that is no chunk's body.
+#[tactic(auto, unfolding(crate::specs::Record::section_met))]
+pub(crate) fn plain_met(
+    alloc: Global,
+    channels: &mut Channels,
+    section: &SectionView<'_>,
+) -> Result<(), LoadError>
+    requires kept { AreSmall channels.old.list.items × IsTied channels.old }
+    requires other { section.now.kind ≢ SectionKind.ChunkBody }
+    requires short { IsShortSection section.now }
+    ensures met { (messages : List MessageMet) → Leads result (met_with channels.new messages)
+        (section_met (seen_section section.now) (met_with channels.old messages)) }
+    ensures kept { OnOk result (Grows channels.old channels.new) }
+    ensures not_store { IfErr result (λ e. e ≢ LoadError.Store) }
+{
+    let at = section.body_at as u64;
+    match section.kind {
+        SectionKind::ChunkBody => unreachable!(),
+        SectionKind::Header | SectionKind::Index => Ok(()),
+        SectionKind::ChunkHeader => {
+            read_chunk_header(section.body, at)?;
+            Ok(())
+        }
+        SectionKind::Channel => {
+            let channel = read_channel(alloc, section.body, at)?;
+            give(alloc, channels, channel)
+        }
+    }
+}
+
 // Keeps what a section has.
 #[tactic(auto, unfolding(crate::specs::Record::section_met), using(crate::proofs::Sound::sounds))]
 fn section_met(
@@ -168,18 +200,9 @@ fn section_met(
     ensures still_sound { OnOk result (IsSound (length (with_body body.now)) loading.new) }
     ensures not_store { IfErr result (λ e. e ≢ LoadError.Store) }
 {
-    let at = section.body_at as u64;
     match section.kind {
-        SectionKind::Header | SectionKind::Index => Ok(()),
-        SectionKind::ChunkHeader => {
-            read_chunk_header(section.body, at)?;
-            Ok(())
-        }
         SectionKind::ChunkBody => body_met(alloc, body, loading, section),
-        SectionKind::Channel => {
-            let channel = read_channel(alloc, section.body, at)?;
-            give(alloc, &mut loading.channels, channel)
-        }
+        _ => plain_met(alloc, &mut loading.channels, section),
     }
 }
 

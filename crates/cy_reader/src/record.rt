@@ -5,13 +5,18 @@ ghost use Rattle.std.specs.Prelude.{◌≢◌, IfOk, IfErr, IsOkUnless};
 ghost use Rattle.cy_msg.specs.Answer.{AnswersOr};
 ghost use Rattle.cy_reader.specs.Record.{record_of};
 ghost use Rattle.cy_reader.specs.Info.{info_text};
+ghost use Rattle.cy_reader.specs.private.Cutting.{AreWithin};
 ghost use Rattle.cy_reader.specs.private.Facts.{AreFacts};
+ghost use Rattle.cy_reader.specs.private.Front.{cut_record};
 ghost use Rattle.cy_reader.specs.Load.{FileAnswer, LoadAnswer};
 ghost use Rattle.cy_reader.specs.Play.{message_at, time_at};
 
+use crate::cutting::{CutFile, cut_file};
 use crate::facts::{Facts, channel_counts, count_parts, head_places, index_found};
+use crate::front::{Front, front_of};
+use crate::gathering::{heads_in, parts_met};
 use crate::header::LONGEST_FILE;
-use crate::heads::{Heads, KeptIndex, PlacedHead, heads_of};
+use crate::heads::{Heads, KeptIndex, PlacedHead, heads_of, push_index};
 use crate::loading::{Loading, parts_of};
 use crate::{LoadError, info};
 use cy_msg::{Bytes, Text};
@@ -80,13 +85,49 @@ fn record_in(alloc: Global, name: &str, file: Bytes) -> Result<Record, LoadError
     })
 }
 
-/// Reads the record of a name. It reads the file whole, in pieces of at most 1,048,576 bytes, and
-/// keeps it beside 24 bytes a message and 24 bytes a section.
-pub fn load<S: Store>(alloc: Global, store: &mut S, name: &str) -> Result<Record, LoadError>
+/// Reads the record of a name as `load` does, but the file whole, in pieces of at most 1,048,576
+/// bytes, and keeps it beside 24 bytes a message and 24 bytes a section.
+pub fn load_whole<S: Store>(alloc: Global, store: &mut S, name: &str) -> Result<Record, LoadError>
     ensures { LoadAnswer (S.shows store.old) (S.shows store.new) name.now result }
 {
     let file = file_bytes(alloc, store, name)?;
     record_in(alloc, name, file)
+}
+
+// The record of a file's front and sections.
+#[tactic(auto, unfolding(crate::specs::private::Front::cut_record))]
+fn record_of_cut(alloc: Global, name: &str, front: Front, cut: CutFile) -> Result<Record, LoadError>
+    requires { AreWithin cut }
+    ensures record { AnswersOr LoadError.Memory (λ r. r) result (cut_record name.now front cut) }
+    ensures not_store { IfErr result (λ e. e ≢ LoadError.Store) }
+{
+    let CutFile { parts, end } = cut;
+    let mut heads = heads_in(alloc, front.head, parts.as_slice())?;
+    let (bodies, loading) = parts_met(alloc, parts)?;
+    let index = end?;
+    push_index(&mut heads, index.as_ref())?;
+    let name = Text::from_string(String::from_str(alloc, name)?);
+    Ok(Record {
+        name,
+        size: front.size,
+        header: front.header,
+        heads,
+        index,
+        bodies,
+        loading,
+    })
+}
+
+/// Reads the record of a name, section by section: heads of 16 bytes, and bodies in pieces of at
+/// most 1,048,576 bytes. Nothing is reserved or read for a section that is too long or that the
+/// file ends before. It keeps the bodies of the chunks and of the index, beside 24 bytes a message
+/// and 24 bytes a section.
+pub fn load<S: Store>(alloc: Global, store: &mut S, name: &str) -> Result<Record, LoadError>
+    ensures { LoadAnswer (S.shows store.old) (S.shows store.new) name.now result }
+{
+    let front = front_of(alloc, store, name)?;
+    let cut = cut_file(alloc, store, name, front.size)?;
+    record_of_cut(alloc, name, front, cut)
 }
 
 impl Record {

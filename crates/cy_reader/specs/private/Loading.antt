@@ -13,6 +13,7 @@ use Rattle.cy_reader.specs.declared.channels.Channels.{Channels}
 use Rattle.cy_reader.specs.declared.loading.Body.{Body}
 use Rattle.cy_reader.specs.declared.loading.Message.{Message}
 use Rattle.cy_reader.specs.declared.loading.Loading.{Loading}
+use Rattle.cy_reader.specs.declared.sections.SectionView.{SectionView}
 use Rattle.cy_reader.specs.Record as meaning
 use Rattle.cy_reader.specs.Record.{Met, size_of, number_of, most_channels}
 use Rattle.cy_reader.specs.Record.{largest_channels}
@@ -65,6 +66,11 @@ pub record IsShort (b : Body) : Type 0 where
   pub short : length b.bytes.now < 2 ^ 32
   pub inside : b.at + length b.bytes.now < 2 ^ 64
 
+-- A section whose places and whose bytes numbers of these sizes count.
+pub record IsShortSection (s : SectionView) : Type 0 where
+  pub inside : s.body_at + length s.body.now < 2 ^ 64
+  pub short : length s.body.now < 2 ^ 32
+
 -- What is kept of a message on a channel of this number, whose content stands in a body.
 abbrev pub noted : Body → ℕ → MessageView → Message
 noted b channel m = record {
@@ -82,6 +88,10 @@ message_of bodies m = record {
   time = m.time;
   content = take m.length (drop m.start (slice_index_or bodies m.body []));
 }
+
+-- What was met: the channels that are kept, and these messages; and those that are kept.
+abbrev pub met_with : Channels → List meaning.Message → Met
+met_with channels messages = record { channels = channels.list.items; messages = messages }
 
 abbrev pub met_of : List (List ℕ) → Loading → Met
 met_of bodies l = record {
