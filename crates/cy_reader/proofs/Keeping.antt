@@ -1,5 +1,8 @@
 -- What a record keeps of its file is what it shows of it.
-use Rattle.std.proofs.Common.{◌≡◌, ◌≢◌, ℕ, suc, ◌+◌, List, [], ◌∷◌, ◌++◌, length, refl, sym, ap, ◌∙◌, append_assoc, append-nil, inl, inr, Option, Some, None, Result, Ok, Err, arith, IfErr}
+use Rattle.std.proofs.Common.{Bor, ◌≡◌, ◌≢◌, ℕ, suc, ◌+◌, List, [], ◌∷◌, ◌++◌, length, refl, sym, ap, ◌∙◌, append_assoc, append-nil, inl, inr, Option, Some, None, Result, Ok, Err, arith, IfErr}
+use Rattle.std.specs.Option.{option_map, option_copied}
+use Rattle.cy_reader.specs.declared.heads.KeptIndex.{KeptIndex}
+use Rattle.cy_reader.specs.private.Kept.{seen_index}
 use Rattle.std.specs.Prelude.{map, min, take, drop, ◌-◌, ◌≤◌}
 use Rattle.std.proofs.lemmas.List.{take_min, length-drop}
 use Rattle.std.proofs.lemmas.Bool.{le-ltb}
@@ -12,7 +15,7 @@ use Rattle.cy_section.specs.declared.types.Header.{Header}
 use Rattle.cy_reader.specs.declared.error.LoadError.{LoadError}
 use Rattle.cy_reader.specs.declared.error.LoadError.TheVariants.{Store, Memory}
 use Rattle.cy_reader.specs.declared.heads.PlacedHead.{PlacedHead}
-use Rattle.cy_reader.specs.Sections.{WholeSection, section_at, sections_in, sections_from, and_those_behind}
+use Rattle.cy_reader.specs.Sections.{WholeSection, section_at, sections_in, and_those_behind}
 use Rattle.cy_reader.specs.Heads.{PlacedIndex, whole_in, whole_at, end_of, section_head, index_at, index_of, heads_of}
 use Rattle.cy_reader.specs.Record.{Met, Contents, shown, parts_of, source_of, record_of, header_end}
 use Rattle.cy_reader.specs.Load.{FileAnswer, LoadAnswer}
@@ -65,12 +68,17 @@ index_is file at size held inside read is =
     let body : take held rest ≡ take size rest = ap (λ k. take k rest) room ∙ take_min size rest in
     rw (le-ltb (length file) (at + 16) inside, body, read) refl
 
+-- an index that is lent
+pub index_lent : (o : Option (Bor KeptIndex)) → option_map (λ i. seen_index i.now) o ≡ option_map seen_index (option_copied o)
+index_lent None = refl
+index_lent (Some i) = refl
+
 -- the record of a file's parts
-pub kept_is : (name file kept : List ℕ) (header : Header) (met : Met) (heads : List PlacedHead) (end : ℕ) → parts_of file ≡ Ok (header, met) → kept ≡ name → heads ≡ heads_of file header_end
-    → end ≡ end_of header_end (sections_from file header_end).sections
-    → record_of name file ≡ Ok (shown (record { name = kept; size = length file; header = header; heads = heads; index = index_at file end }) met)
-unfolding record_of source_of index_of
-kept_is name file kept header met heads end parts same walk stop = rw (parts, same, walk, stop) refl
+pub kept_is : (name file kept : List ℕ) (size : ℕ) (header : Header) (met : Met) (heads : List PlacedHead) (index : Option PlacedIndex) → parts_of file ≡ Ok (header, met) → kept ≡ name → size ≡ length file
+    → heads ≡ heads_of file header_end → index ≡ index_of file header_end
+    → record_of name file ≡ Ok (shown (record { name = kept; size = size; header = header; heads = heads; index = index }) met)
+unfolding record_of source_of
+kept_is name file kept size header met heads index parts same long all last = rw (parts, same, long, all, last) refl
 
 pub parts_refused : (name file : List ℕ) (e : LoadError) → parts_of file ≡ Err e → record_of name file ≡ Err e
 unfolding record_of

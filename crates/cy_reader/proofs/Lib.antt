@@ -10,3 +10,8 @@ pub mod Telling
 pub mod SectionRows
 pub mod Tiled
 pub mod NamedChannels
+pub mod Bodies
+pub mod Ahead
+pub mod Fronts
+pub mod CutTo
+pub mod FrontRead

@@ -65,7 +65,7 @@ numbered-alike f g n most (x ∷ xs) few same =
 
 -- the first message
 abbrev pub first_of : List Message → Message
-first_of messages = get_or messages 0 (record { channel = 0; time = 0; start = 0; length = 0 })
+first_of messages = get_or messages 0 (record { channel = 0; body = 0; time = 0; start = 0; length = 0 })
 
 abbrev pub first_time : List Message → ℕ
 first_time messages = (first_of messages).time
@@ -179,11 +179,11 @@ info-told (Ok x) w facts o a b d e f n are file front index channels header entr
     ∙ rw (channels-told w facts are, entries-told w facts are facts.index, are.counted, are.index) refl
 
 -- what is found of a record that is kept
-pub facts-are : (source : Source) (file : List ℕ) (loading : Loading) (facts : Facts) (index : Option PlacedIndex) (heads : List PlacedHead) (channels size : ℕ) (ms : List Message)
+pub facts-are : (source : Source) (bodies : List (List ℕ)) (loading : Loading) (facts : Facts) (index : Option PlacedIndex) (heads : List PlacedHead) (channels size : ℕ) (ms : List Message)
     → index ≡ source.index → heads ≡ source.heads → channels ≡ length loading.channels.list.items → ms ≡ loading.messages.items → size ≡ source.size
     → facts.counted ≡ counted index heads channels (map (λ m. m.time) ms) size → AreCounts (map (λ m. m.channel) ms) channels facts.counts.items → facts.index ≡ index_found index → ArePlaces heads facts.places
-    → AreFacts (shown source (met_of file loading)) facts
-facts-are source file loading facts index heads channels size ms ei eh ec em es is counts found places = record {
+    → AreFacts (shown source (met_of bodies loading)) facts
+facts-are source bodies loading facts index heads channels size ms ei eh ec em es is counts found places = record {
   counted = is ∙ ap (λ (x : Option PlacedIndex). counted x heads channels (map (λ m. m.time) ms) size) ei
       ∙ ap (λ (x : List PlacedHead). counted source.index x channels (map (λ m. m.time) ms) size) eh
       ∙ ap (λ (x : ℕ). counted source.index source.heads x (map (λ m. m.time) ms) size) ec
@@ -197,8 +197,8 @@ facts-are source file loading facts index heads channels size ms ei eh ec em es 
   places = λ position number. places position number ∙ ap (λ (x : List PlacedHead). is_head x position number) eh;
 }
   where
-    times : map (λ m. m.time) ms ≡ times_of (map (message_of file) loading.messages.items)
-    times = ap (λ (l : List Message). map (λ m. m.time) l) em ∙ sym (map-map (message_of file) (λ m. m.time) (λ m. m.time) (λ m. refl) loading.messages.items)
+    times : map (λ m. m.time) ms ≡ times_of (map (message_of bodies) loading.messages.items)
+    times = ap (λ (l : List Message). map (λ m. m.time) l) em ∙ sym (map-map (message_of bodies) (λ m. m.time) (λ m. m.time) (λ m. refl) loading.messages.items)
 
-    numbers : map (λ m. m.channel) ms ≡ channels_of (map (message_of file) loading.messages.items)
-    numbers = ap (λ (l : List Message). map (λ m. m.channel) l) em ∙ sym (map-map (message_of file) (λ m. m.channel) (λ m. m.channel) (λ m. refl) loading.messages.items)
+    numbers : map (λ m. m.channel) ms ≡ channels_of (map (message_of bodies) loading.messages.items)
+    numbers = ap (λ (l : List Message). map (λ m. m.channel) l) em ∙ sym (map-map (message_of bodies) (λ m. m.channel) (λ m. m.channel) (λ m. refl) loading.messages.items)

@@ -1,7 +1,12 @@
--- Bytes that stand in a file.
-use Rattle.std.specs.Prelude.{◌≡◌, ℕ, ◌+◌, ◌≤◌, List, length, take, drop}
+-- Bytes that stand in a file, or in what is kept of it.
+use Rattle.std.specs.Prelude.{◌≡◌, ℕ, ◌+◌, ◌-◌, ◌≤◌, List, length, take, drop}
 
 -- These bytes stand in the file at a place.
 pub record Stands (file : List ℕ) (at : ℕ) (bytes : List ℕ) : Type 0 where
   pub inside : at + length bytes ≤ length file
   pub same : bytes ≡ take (length bytes) (drop at file)
+
+-- These bytes stand at a place of the file, of which these are kept, from another place on.
+pub record IsWithin (from : ℕ) (kept : List ℕ) (at : ℕ) (bytes : List ℕ) : Type 0 where
+  pub behind : from ≤ at
+  pub stands : Stands kept (at - from) bytes

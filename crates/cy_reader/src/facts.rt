@@ -3,13 +3,13 @@ ghost use Rattle.std.specs.Prelude.{◌≡◌, ◌<◌, ◌^◌, ◌+◌, All, l
 ghost use Rattle.std.specs.Prelude.{IsOkUnless};
 ghost use Rattle.std.specs.Prelude.{slice_index_or as get_or};
 ghost use Rattle.std.specs.Option.{option_map};
-ghost use Rattle.cy_reader.specs.private.Kept.{seen_index};
+ghost use Rattle.cy_reader.specs.private.Kept.{IsPlaced, seen_index};
 ghost use Rattle.cy_reader.specs.Info.{least, greatest, chunk_bodies, index_place, counted};
 ghost use Rattle.cy_reader.specs.Info.{index_found};
 ghost use Rattle.cy_reader.specs.private.Facts.{AreCounts, ArePlaces};
 
 use crate::LoadError;
-use crate::heads::{IndexView, PlacedHead};
+use crate::heads::{KeptIndex, PlacedHead};
 use crate::loading::Message;
 use cy_msg::Items;
 use cy_section::{HEAD_SIZE, Index, IndexEntry, SectionError, SectionKind, read_index};
@@ -93,8 +93,8 @@ fn chunk_bodies(heads: &[PlacedHead]) -> u64
 }
 
 // The place of an index's head, 0 where there is none.
-fn index_place(index: Option<IndexView<'_>>) -> u64
-    ensures { result ≡ index_place (option_map seen_index index.entry) }
+fn index_place(index: Option<&KeptIndex>) -> u64
+    ensures { result ≡ index_place (option_map (λ i. seen_index i.now) index.entry) }
 {
     match index {
         Some(index) => index.at,
@@ -107,10 +107,10 @@ pub(crate) fn count_parts(
     channels: usize,
     messages: &[Message],
     heads: &[PlacedHead],
-    index: Option<IndexView<'_>>,
+    index: Option<&KeptIndex>,
     size: u64,
 ) -> Counted
-    ensures { result ≡ counted (option_map seen_index index.entry) heads.now channels
+    ensures { result ≡ counted (option_map (λ i. seen_index i.now) index.entry) heads.now channels
         (map (λ m. m.time) messages.now) size }
 {
     Counted {
@@ -154,21 +154,20 @@ pub(crate) fn channel_counts(
 }
 
 // What was found of the index.
-pub(crate) fn index_found(
-    alloc: Global,
-    index: Option<IndexView<'_>>,
-) -> Result<IndexFound, LoadError>
-    requires { IfSome index (λ i. i.at + 16 + length i.body.now < 2 ^ 64) }
-    ensures found { IfOk result (λ found. found ≡ index_found (option_map seen_index index.entry)) }
+pub(crate) fn index_found(alloc: Global, index: Option<&KeptIndex>) -> Result<IndexFound, LoadError>
+    requires { IfSome index (λ i. IsPlaced i.now) }
+    ensures found { IfOk result (λ found. found
+        ≡ index_found (option_map (λ i. seen_index i.now) index.entry)) }
     ensures only_memory { IsOkUnless result LoadError.Memory }
 {
     let Some(index) = index else {
         return Ok(IndexFound::Absent);
     };
-    if (index.body.len() as u64) < index.size {
+    let body = index.body.as_slice();
+    if (body.len() as u64) < index.size {
         return Ok(IndexFound::Cut);
     }
-    match read_index(alloc, index.body, index.at + HEAD_SIZE as u64) {
+    match read_index(alloc, body, index.at + HEAD_SIZE as u64) {
         Ok(Index { entries }) => Ok(IndexFound::Present(entries)),
         Err(SectionError::Memory) => Err(LoadError::Memory),
         Err(_) => Ok(IndexFound::Unreadable),

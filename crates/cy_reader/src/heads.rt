@@ -1,17 +1,19 @@
 // Finds the heads of a file's sections, and its index.
-ghost use Rattle.std.specs.Prelude.{◌≡◌, ◌≤◌, ◌+◌, length, drop, IfOk, IfSome, IsOkUnless};
+ghost use Rattle.std.specs.Prelude.{◌≡◌, ◌≤◌, ◌+◌, ◌++◌, length, drop, IfOk, IfSome};
+ghost use Rattle.std.specs.Prelude.{IsOkUnless, OnOk};
 ghost use Rattle.std.specs.Option.{option_map};
 ghost use Rattle.byteorder.specs.Endian.{little_number};
 ghost use Rattle.cy_reader.specs.private.Found.{seen_section};
 ghost use Rattle.cy_reader.specs.Heads.{whole_at, index_at, header_head, whole_heads};
-ghost use Rattle.cy_reader.specs.Heads.{heads_of};
-ghost use Rattle.cy_reader.specs.private.Kept.{EndsThere, seen_index};
+ghost use Rattle.cy_reader.specs.Heads.{heads_of, index_of, index_head};
+ghost use Rattle.cy_reader.specs.private.Kept.{EndsThere, IsPlaced, seen_index};
 ghost use Rattle.cy_reader.specs.Record.{header_end};
 ghost use Rattle.cy_reader.specs.Stands.{Stands};
 
 use crate::LoadError;
 use crate::sections::{SectionView, section_at};
 use byteorder::{ByteOrder, LittleEndian};
+use cy_msg::Bytes;
 use cy_section::{HEAD_SIZE, HEADER_SIZE, SectionKind};
 use std::alloc::Global;
 
@@ -23,19 +25,27 @@ pub struct PlacedHead {
     pub size: u64,
 }
 
-// The heads of a file's sections, and where the sections end.
+// The heads of a file's sections without the index, and where the sections end.
 #[derive(Drop)]
-pub(crate) struct Walk {
-    pub heads: Vec<PlacedHead>,
-    pub end: usize,
+struct Walk {
+    heads: Vec<PlacedHead>,
+    end: usize,
 }
 
-// The index, where its head stands: the size that its head has, and what the file has of its body.
-#[derive(Clone, Copy)]
-pub(crate) struct IndexView<'a> {
+// The index: the place of its head, the size that its head has, and its body or what the file has
+// of it.
+#[derive(Drop)]
+pub(crate) struct KeptIndex {
     pub at: u64,
     pub size: u64,
-    pub body: &'a [u8],
+    pub body: Bytes,
+}
+
+// The heads of all sections of a file, and its index.
+#[derive(Drop)]
+pub(crate) struct Heads {
+    pub heads: Vec<PlacedHead>,
+    pub index: Option<KeptIndex>,
 }
 
 // The section that stands whole at a place, none where there is none.
@@ -60,30 +70,39 @@ fn size_at(file: &[u8], at: usize) -> u64
     LittleEndian::read_u64(&file[at + 8..])
 }
 
+// Bytes in memory of their own.
+fn copy_of(alloc: Global, bytes: &[u8]) -> Result<Bytes, LoadError>
+    ensures copy { IfOk result (λ copy. copy ≡ bytes.now) }
+    ensures only_memory { IsOkUnless result LoadError.Memory }
+{
+    Ok(Bytes::from_vec(bytes.to_vec(alloc)?))
+}
+
 // The index whose head stands at a place, none where the file ends before its head does.
 #[tactic(auto, unfolding(crate::specs::Heads::index_at))]
-pub(crate) fn index_at(file: &[u8], at: usize) -> Option<IndexView<'_>>
+fn index_at(alloc: Global, file: &[u8], at: usize) -> Result<Option<KeptIndex>, LoadError>
     requires { at ≤ length file.now }
-    ensures index { option_map seen_index result ≡ index_at file.now at }
-    ensures inside { IfSome result (λ i. (i.at ≡ at) × (at + 16 + length i.body.now
-        ≤ length file.now)) }
+    ensures index { IfOk result (λ found. option_map seen_index found ≡ index_at file.now at) }
+    ensures placed { IfOk result (λ found. IfSome found (λ i. (i.at ≡ at) × IsPlaced i)) }
+    ensures only_memory { IsOkUnless result LoadError.Memory }
 {
     if file.len() - at < HEAD_SIZE {
-        return None;
+        return Ok(None);
     }
     let size = size_at(file, at);
     let start = at + HEAD_SIZE;
     let held = ((file.len() - start) as u64).min(size) as usize;
-    Some(IndexView {
+    let body = copy_of(alloc, &file[start..start + held])?;
+    Ok(Some(KeptIndex {
         at: at as u64,
         size,
-        body: &file[start..start + held],
-    })
+        body,
+    }))
 }
 
 // The head of a file's header.
 #[tactic(auto, unfolding(crate::specs::Heads::header_head))]
-fn header_head(file: &[u8]) -> PlacedHead
+pub(crate) fn header_head(file: &[u8]) -> PlacedHead
     requires { 16 ≤ length file.now }
     ensures { result ≡ header_head file.now }
 {
@@ -115,21 +134,37 @@ fn whole_heads(alloc: Global, file: &[u8]) -> Result<Walk, LoadError>
     Ok(Walk { heads, end: at })
 }
 
-// The heads of all sections of a file, that of its index included.
-#[tactic(auto, unfolding(crate::specs::Heads::heads_of, crate::specs::Heads::index_of))]
-pub(crate) fn heads_of(alloc: Global, file: &[u8]) -> Result<Walk, LoadError>
-    requires { header_end ≤ length file.now }
-    ensures heads { IfOk result (λ w. w.heads.items ≡ heads_of file.now header_end) }
-    ensures ends { IfOk result (λ w. EndsThere file.now w.end) }
+// Adds the head of an index, where there is one.
+pub(crate) fn push_index(
+    heads: &mut Vec<PlacedHead>,
+    index: Option<&KeptIndex>,
+) -> Result<(), LoadError>
+    ensures pushed { OnOk result (heads.new.items
+        ≡ heads.old.items ++ index_head (option_map (λ i. seen_index i.now) index.entry)) }
     ensures only_memory { IsOkUnless result LoadError.Memory }
 {
-    let mut walk = whole_heads(alloc, file)?;
-    if let Some(index) = index_at(file, walk.end) {
-        walk.heads.push(PlacedHead {
+    if let Some(index) = index {
+        heads.push(PlacedHead {
             at: index.at,
             kind: SectionKind::Index,
             size: index.size,
         })?;
     }
-    Ok(walk)
+    Ok(())
+}
+
+// The heads of all sections of a file, that of its index included, and the index.
+#[tactic(auto, unfolding(crate::specs::Heads::heads_of, crate::specs::Heads::index_of))]
+pub(crate) fn heads_of(alloc: Global, file: &[u8]) -> Result<Heads, LoadError>
+    requires { header_end ≤ length file.now }
+    ensures heads { IfOk result (λ h. h.heads.items ≡ heads_of file.now header_end) }
+    ensures index { IfOk result (λ h. option_map seen_index h.index
+        ≡ index_of file.now header_end) }
+    ensures placed { IfOk result (λ h. IfSome h.index IsPlaced) }
+    ensures only_memory { IsOkUnless result LoadError.Memory }
+{
+    let Walk { mut heads, end } = whole_heads(alloc, file)?;
+    let index = index_at(alloc, file, end)?;
+    push_index(&mut heads, index.as_ref())?;
+    Ok(Heads { heads, index })
 }

@@ -9,8 +9,11 @@
 
 mod channel_set;
 mod channels;
+mod cutting;
 mod error;
 mod facts;
+mod front;
+mod gathering;
 mod header;
 mod heads;
 mod info;
@@ -28,4 +31,4 @@ pub use facts::{Counted, IndexFound};
 pub use heads::PlacedHead;
 pub use known::Known;
 pub use laws::sections_tile;
-pub use record::{Record, load};
+pub use record::{Record, load, load_whole};

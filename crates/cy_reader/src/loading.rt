@@ -1,13 +1,16 @@
 // Reads the channels and messages of a file's sections.
-ghost use Rattle.std.specs.Prelude.{◌≡◌, ◌≢◌, ◌≤◌, ◌<◌, ◌^◌, ◌+◌, ◌++◌, ◌∷◌, [], length};
-ghost use Rattle.std.specs.Prelude.{IfOk, IfErr, OnOk, IsOkUnless};
+ghost use Rattle.std.specs.Prelude.{◌≡◌, ◌≢◌, ◌≤◌, ◌<◌, ◌^◌, ◌+◌, ◌-◌, ◌++◌, ◌∷◌, [], length};
+ghost use Rattle.std.specs.Prelude.{List, IfOk, IfErr, OnOk, IsOkUnless};
 ghost use Rattle.cy_msg.specs.Answer.{AnswersOr};
 ghost use Rattle.cy_section.specs.Messages.{seen};
 ghost use Rattle.cy_reader.specs.Record.{message_met, body_met};
+ghost use Rattle.cy_reader.specs.Record.{Message as MessageMet};
 ghost use Rattle.cy_reader.specs.Record.{section_met, sections_met, parts_of, header_end, nothing};
 ghost use Rattle.cy_reader.specs.private.Kept.{IsLoaded};
-ghost use Rattle.cy_reader.specs.private.Loading.{IsSound, Leads, unless_ended, noted, met_of};
-ghost use Rattle.cy_reader.specs.Stands.{Stands};
+ghost use Rattle.cy_reader.specs.private.Loading.{IsSound, IsShort, Leads, unless_ended, noted};
+ghost use Rattle.cy_reader.specs.private.Loading.{AreSmall, IsTied, Grows, met_of, met_with};
+ghost use Rattle.cy_reader.specs.private.Loading.{with_body, IsShortSection};
+ghost use Rattle.cy_reader.specs.Stands.{Stands, IsWithin};
 ghost use Rattle.cy_reader.specs.Sections.{sections_from};
 ghost use Rattle.cy_reader.specs.private.Found.{seen_section};
 ghost use Rattle.cy_wire.specs.Field.{fields_of};
@@ -17,6 +20,7 @@ use crate::LoadError;
 use crate::channels::{Channels, give, mention};
 use crate::header::file_header;
 use crate::sections::{SectionView, section_at};
+use cy_msg::Bytes;
 use cy_section::{
     HEADER_SIZE, Header, MessageReader, MessageView, SectionKind, read_channel, read_chunk_header,
 };
@@ -32,26 +36,39 @@ pub(crate) struct Loading {
     pub messages: Vec<Message>,
 }
 
-// A message: the number of its channel, its time, and where its content stands in the file.
+// A message: the number of its channel, its time, and where its content stands: in which of the
+// bodies that are kept, and from which of its bytes on.
 #[derive(Clone, Copy, Drop)]
 pub(crate) struct Message {
     pub channel: u32,
+    pub body: u32,
     pub time: u64,
     pub start: u32,
     pub length: u32,
 }
 
-// Keeps a message on a channel of this number.
+// A body that is to be kept behind others, and its place in the file.
+#[derive(Clone, Copy)]
+pub(crate) struct Body<'a> {
+    pub before: &'a [Bytes],
+    pub at: u64,
+    pub bytes: &'a [u8],
+}
+
+// Keeps a message of a body, on a channel of this number.
 #[inline(always)]
 fn note_message(
     messages: &mut Vec<Message>,
+    body: &Body<'_>,
     channel: u32,
     message: &MessageView<'_>,
 ) -> Result<(), LoadError>
     requires few { length messages.old.items < 2 ^ 32 }
-    requires inside { message.now.content_at + length message.now.content.now < 2 ^ 32 }
+    requires short { IsShort body.now }
+    requires stands { Stands body.now.bytes.now (message.now.content_at - body.now.at)
+        message.now.content.now }
     ensures ok { OnOk result (messages.new.items
-        ≡ messages.old.items ++ noted channel message.now ∷ []) }
+        ≡ messages.old.items ++ noted body.now channel message.now ∷ []) }
     ensures few { OnOk result (length messages.old.items + 1 < 2 ^ 32) }
     ensures only_memory { IsOkUnless result LoadError.Memory }
 {
@@ -61,28 +78,31 @@ fn note_message(
     }
     messages.push(Message {
         channel,
+        body: body.before.len() as u32,
         time: message.time,
-        start: message.content_at as u32,
+        // An absent content has the place 0.
+        start: message.content_at.saturating_sub(body.at) as u32,
         length: message.content.len() as u32,
     })?;
     Ok(())
 }
 
-// Keeps a message, and the channel that it names.
+// Keeps a message of a body, and the channel that it names.
 #[tactic(auto, unfolding(crate::specs::Record::message_met), using(crate::proofs::Sound::sounds))]
 #[inline(always)]
 fn message_met(
     alloc: Global,
-    file: &[u8],
+    body: &Body<'_>,
     loading: &mut Loading,
     message: &MessageView<'_>,
 ) -> Result<(), LoadError>
-    requires sound { IsSound loading.old }
-    requires stands { Stands file.now message.now.content_at message.now.content.now }
-    requires short { length file.now < 2 ^ 32 }
-    ensures met { Leads result (met_of file.now loading.new) (message_met (seen message.now)
-        (met_of file.now loading.old)) }
-    ensures still_sound { OnOk result (IsSound loading.new) }
+    requires sound { IsSound (length (with_body body.now)) loading.old }
+    requires stands { Stands body.now.bytes.now (message.now.content_at - body.now.at)
+        message.now.content.now }
+    requires short { IsShort body.now }
+    ensures met { let bodies = with_body body.now in Leads result (met_of bodies loading.new)
+        (message_met (seen message.now) (met_of bodies loading.old)) }
+    ensures still_sound { OnOk result (IsSound (length (with_body body.now)) loading.new) }
     ensures not_store { IfErr result (λ e. e ≢ LoadError.Store) }
 {
     let channel = mention(alloc, &mut loading.channels, message.channel_name)?;
@@ -90,7 +110,7 @@ fn message_met(
     if count > LONGEST_CONTENT {
         return Err(LoadError::ContentTooLarge { count });
     }
-    note_message(&mut loading.messages, channel, message)
+    note_message(&mut loading.messages, body, channel, message)
 }
 
 // Reads the messages that are left, for the fault that may end them.
@@ -103,26 +123,29 @@ fn read_out(messages: MessageReader<'_>) -> Result<(), LoadError>
     Ok(())
 }
 
-// Keeps the messages of a chunk's body. A fault anywhere in it comes before any limit.
+// Keeps the messages of a chunk, which stand in a body. A fault anywhere in it comes before any
+// limit.
 #[inline(never)]
-fn body_met(
+pub(crate) fn body_met(
     alloc: Global,
-    file: &[u8],
+    body: &Body<'_>,
     loading: &mut Loading,
     section: &SectionView<'_>,
 ) -> Result<(), LoadError>
-    requires sound { IsSound loading.old }
-    requires stands { Stands file.now section.now.body_at section.now.body.now }
-    requires short { length file.now < 2 ^ 32 }
-    ensures met { let all = messages_of (fields_of section.now.body_at section.now.body.now) in
-        Leads result (met_of file.now loading.new) (body_met all.fault all.messages
-        (met_of file.now loading.old)) }
-    ensures still_sound { OnOk result (IsSound loading.new) }
+    requires sound { IsSound (length (with_body body.now)) loading.old }
+    requires stands { IsWithin body.now.at body.now.bytes.now section.now.body_at
+        section.now.body.now }
+    requires short { IsShort body.now }
+    ensures met { let bodies = with_body body.now in
+        let all = messages_of (fields_of section.now.body_at section.now.body.now) in
+        Leads result (met_of bodies loading.new)
+        (body_met all.fault all.messages (met_of bodies loading.old)) }
+    ensures still_sound { OnOk result (IsSound (length (with_body body.now)) loading.new) }
     ensures not_store { IfErr result (λ e. e ≢ LoadError.Store) }
 {
     let mut reader = MessageReader::new(section.body, section.body_at as u64);
     while let Some(message) = reader.next_message()? {
-        if let Err(limit) = message_met(alloc, file, loading, &message) {
+        if let Err(limit) = message_met(alloc, body, loading, &message) {
             read_out(reader)?;
             return Err(limit);
         }
@@ -130,34 +153,56 @@ fn body_met(
     Ok(())
 }
 
-// Keeps what a section has.
-#[tactic(auto, unfolding(crate::specs::Record::section_met), using(crate::proofs::Sound::sounds))]
-fn section_met(
+// Keeps what a section has that is no chunk's body.
+#[tactic(auto, unfolding(crate::specs::Record::section_met))]
+pub(crate) fn plain_met(
     alloc: Global,
-    file: &[u8],
-    loading: &mut Loading,
+    channels: &mut Channels,
     section: &SectionView<'_>,
 ) -> Result<(), LoadError>
-    requires sound { IsSound loading.old }
-    requires stands { Stands file.now section.now.body_at section.now.body.now }
-    requires short { length file.now < 2 ^ 32 }
-    ensures met { Leads result (met_of file.now loading.new)
-        (section_met (seen_section section.now) (met_of file.now loading.old)) }
-    ensures still_sound { OnOk result (IsSound loading.new) }
+    requires kept { AreSmall channels.old.list.items × IsTied channels.old }
+    requires other { section.now.kind ≢ SectionKind.ChunkBody }
+    requires short { IsShortSection section.now }
+    ensures met { (messages : List MessageMet) → Leads result (met_with channels.new messages)
+        (section_met (seen_section section.now) (met_with channels.old messages)) }
+    ensures kept { OnOk result (Grows channels.old channels.new) }
     ensures not_store { IfErr result (λ e. e ≢ LoadError.Store) }
 {
     let at = section.body_at as u64;
     match section.kind {
+        SectionKind::ChunkBody => unreachable!(),
         SectionKind::Header | SectionKind::Index => Ok(()),
         SectionKind::ChunkHeader => {
             read_chunk_header(section.body, at)?;
             Ok(())
         }
-        SectionKind::ChunkBody => body_met(alloc, file, loading, section),
         SectionKind::Channel => {
             let channel = read_channel(alloc, section.body, at)?;
-            give(alloc, &mut loading.channels, channel)
+            give(alloc, channels, channel)
         }
+    }
+}
+
+// Keeps what a section has.
+#[tactic(auto, unfolding(crate::specs::Record::section_met), using(crate::proofs::Sound::sounds))]
+fn section_met(
+    alloc: Global,
+    body: &Body<'_>,
+    loading: &mut Loading,
+    section: &SectionView<'_>,
+) -> Result<(), LoadError>
+    requires sound { IsSound (length (with_body body.now)) loading.old }
+    requires stands { IsWithin body.now.at body.now.bytes.now section.now.body_at
+        section.now.body.now }
+    requires short { IsShort body.now }
+    ensures met { let bodies = with_body body.now in Leads result (met_of bodies loading.new)
+        (section_met (seen_section section.now) (met_of bodies loading.old)) }
+    ensures still_sound { OnOk result (IsSound (length (with_body body.now)) loading.new) }
+    ensures not_store { IfErr result (λ e. e ≢ LoadError.Store) }
+{
+    match section.kind {
+        SectionKind::ChunkBody => body_met(alloc, body, loading, section),
+        _ => plain_met(alloc, &mut loading.channels, section),
     }
 }
 
@@ -166,18 +211,24 @@ fn sections_met(alloc: Global, file: &[u8]) -> Result<Loading, LoadError>
     requires long { header_end ≤ length file.now }
     requires short { length file.now < 2 ^ 32 }
     ensures met { let all = sections_from file.now header_end in
-        AnswersOr LoadError.Memory (met_of file.now) result
+        AnswersOr LoadError.Memory (met_of (file.now ∷ [])) result
         (sections_met all.sections all.fault nothing) }
-    ensures sound { IfOk result IsSound }
+    ensures sound { IfOk result (IsSound 1) }
     ensures not_store { IfErr result (λ e. e ≢ LoadError.Store) }
 {
     let mut loading = Loading {
         channels: Channels::new(alloc),
         messages: Vec::new(alloc),
     };
+    // The file is the only body.
+    let body = Body {
+        before: &[],
+        at: 0,
+        bytes: file,
+    };
     let mut at = HEADER_SIZE;
     while let Some(section) = section_at(file, at)? {
-        section_met(alloc, file, &mut loading, &section)?;
+        section_met(alloc, &body, &mut loading, &section)?;
         at = section.body_at + section.body.len();
     }
     Ok(loading)
@@ -186,7 +237,7 @@ fn sections_met(alloc: Global, file: &[u8]) -> Result<Loading, LoadError>
 // The header of a file, and what is met behind it.
 #[tactic(auto, unfolding(crate::specs::Record::parts_of))]
 pub(crate) fn parts_of(alloc: Global, file: &[u8]) -> Result<(Header, Loading), LoadError>
-    ensures parts { AnswersOr LoadError.Memory (λ x. (x.0, met_of file.now x.1)) result
+    ensures parts { AnswersOr LoadError.Memory (λ x. (x.0, met_of (file.now ∷ []) x.1)) result
         (parts_of file.now) }
     ensures loaded { IfOk result (λ x. IsLoaded file.now x.1) }
     ensures not_store { IfErr result (λ e. e ≢ LoadError.Store) }

@@ -5,13 +5,18 @@ ghost use Rattle.std.specs.Prelude.{◌≢◌, IfOk, IfErr, IsOkUnless};
 ghost use Rattle.cy_msg.specs.Answer.{AnswersOr};
 ghost use Rattle.cy_reader.specs.Record.{record_of};
 ghost use Rattle.cy_reader.specs.Info.{info_text};
+ghost use Rattle.cy_reader.specs.private.Cutting.{AreWithin};
 ghost use Rattle.cy_reader.specs.private.Facts.{AreFacts};
+ghost use Rattle.cy_reader.specs.private.Front.{cut_record};
 ghost use Rattle.cy_reader.specs.Load.{FileAnswer, LoadAnswer};
 ghost use Rattle.cy_reader.specs.Play.{message_at, time_at};
 
+use crate::cutting::{CutFile, cut_file};
 use crate::facts::{Facts, channel_counts, count_parts, head_places, index_found};
+use crate::front::{Front, front_of};
+use crate::gathering::{heads_in, parts_met};
 use crate::header::LONGEST_FILE;
-use crate::heads::{Walk, heads_of, index_at};
+use crate::heads::{Heads, KeptIndex, PlacedHead, heads_of, push_index};
 use crate::loading::{Loading, parts_of};
 use crate::{LoadError, info};
 use cy_msg::{Bytes, Text};
@@ -27,9 +32,12 @@ use std::marker::Model;
 #[derive(Drop)]
 pub struct Record {
     name: Text,
-    file: Bytes,
+    size: u64,
     header: Header,
-    walk: Walk,
+    heads: Vec<PlacedHead>,
+    index: Option<KeptIndex>,
+    // What is kept of the file, in which the contents of messages stand.
+    bodies: Vec<Bytes>,
     loading: Loading,
 }
 
@@ -40,10 +48,10 @@ impl Model for Record {
 
     ghost Value = { Contents };
 
-    ghost view = { λ r. shown (kept_source r.name r.file r.header r.walk)
-        (met_of r.file r.loading) };
+    ghost view = { λ r. shown (kept_source r.name r.size r.header r.heads.items r.index)
+        (met_of r.bodies.items r.loading) };
 
-    ghost invariant = { λ r. IsKept r.file r.walk r.loading };
+    ghost invariant = { λ r. IsKept r.bodies.items r.index r.loading };
 }
 
 // The bytes of a file, which are not more than are read.
@@ -62,24 +70,64 @@ fn record_in(alloc: Global, name: &str, file: Bytes) -> Result<Record, LoadError
     ensures not_store { IfErr result (λ e. e ≢ LoadError.Store) }
 {
     let (header, loading) = parts_of(alloc, file.as_slice())?;
-    let walk = heads_of(alloc, file.as_slice())?;
+    let Heads { heads, index } = heads_of(alloc, file.as_slice())?;
     let name = Text::from_string(String::from_str(alloc, name)?);
+    let size = file.as_slice().len() as u64;
+    let bodies = vec![in alloc; file]?;
     Ok(Record {
         name,
-        file,
+        size,
         header,
-        walk,
+        heads,
+        index,
+        bodies,
         loading,
     })
 }
 
-/// Reads the record of a name. It reads the file whole, in pieces of at most 1,048,576 bytes, and
-/// keeps it beside 24 bytes a message and 24 bytes a section.
-pub fn load<S: Store>(alloc: Global, store: &mut S, name: &str) -> Result<Record, LoadError>
+/// Reads the record of a name as `load` does, but the file whole, in pieces of at most 1,048,576
+/// bytes, and keeps it beside 24 bytes a message and 24 bytes a section.
+pub fn load_whole<S: Store>(alloc: Global, store: &mut S, name: &str) -> Result<Record, LoadError>
     ensures { LoadAnswer (S.shows store.old) (S.shows store.new) name.now result }
 {
     let file = file_bytes(alloc, store, name)?;
     record_in(alloc, name, file)
+}
+
+// The record of a file's front and sections.
+#[tactic(auto, unfolding(crate::specs::private::Front::cut_record))]
+fn record_of_cut(alloc: Global, name: &str, front: Front, cut: CutFile) -> Result<Record, LoadError>
+    requires { AreWithin cut }
+    ensures record { AnswersOr LoadError.Memory (λ r. r) result (cut_record name.now front cut) }
+    ensures not_store { IfErr result (λ e. e ≢ LoadError.Store) }
+{
+    let CutFile { parts, end } = cut;
+    let mut heads = heads_in(alloc, front.head, parts.as_slice())?;
+    let (bodies, loading) = parts_met(alloc, parts)?;
+    let index = end?;
+    push_index(&mut heads, index.as_ref())?;
+    let name = Text::from_string(String::from_str(alloc, name)?);
+    Ok(Record {
+        name,
+        size: front.size,
+        header: front.header,
+        heads,
+        index,
+        bodies,
+        loading,
+    })
+}
+
+/// Reads the record of a name, section by section: heads of 16 bytes, and bodies in pieces of at
+/// most 1,048,576 bytes. Nothing is reserved or read for a section that is too long or that the
+/// file ends before. It keeps the bodies of the chunks and of the index, beside 24 bytes a message
+/// and 24 bytes a section.
+pub fn load<S: Store>(alloc: Global, store: &mut S, name: &str) -> Result<Record, LoadError>
+    ensures { LoadAnswer (S.shows store.old) (S.shows store.new) name.now result }
+{
+    let front = front_of(alloc, store, name)?;
+    let cut = cut_file(alloc, store, name, front.size)?;
+    record_of_cut(alloc, name, front, cut)
 }
 
 impl Record {
@@ -142,10 +190,10 @@ impl Record {
         ensures { IfSome (slice_get self.now.messages place) (λ m. result.now ≡ m.content) }
     {
         let message = self.loading.messages[place as usize];
-        let file = self.file.as_slice();
-        let start = file.len().min(message.start as usize);
-        let end = start + (file.len() - start).min(message.length as usize);
-        &file[start..end]
+        let body = self.bodies[message.body as usize].as_slice();
+        let start = body.len().min(message.start as usize);
+        let end = start + (body.len() - start).min(message.length as usize);
+        &body[start..end]
     }
 
     // What `info` tells beside the channels and the header.
@@ -155,11 +203,10 @@ impl Record {
     {
         let messages = self.loading.messages.as_slice();
         let channels = self.loading.channels.list.len();
-        let heads = self.walk.heads.as_slice();
-        let index = index_at(self.file.as_slice(), self.walk.end);
-        let size = self.file.as_slice().len() as u64;
+        let heads = self.heads.as_slice();
+        let index = self.index.as_ref();
         Ok(Facts {
-            counted: count_parts(channels, messages, heads, index, size),
+            counted: count_parts(channels, messages, heads, index, self.size),
             counts: channel_counts(alloc, messages, channels)?,
             index: index_found(alloc, index)?,
             places: head_places(alloc, heads)?,
@@ -171,8 +218,7 @@ impl Record {
         requires { AreFacts self.now facts.now }
         ensures { OnOk result (to.new.items ≡ to.old.items ++ info_text self.now) }
     {
-        let size = self.file.as_slice().len() as u64;
-        info::push_file(to, self.name.as_str(), size)?;
+        info::push_file(to, self.name.as_str(), self.size)?;
         info::push_front(to, &self.header, &facts.counted)?;
         info::push_index(to, &facts.index)?;
         info::push_channels(

@@ -9,7 +9,7 @@ use byteorder::{ByteOrder, LittleEndian};
 use cy_section::{HEAD_SIZE, Head, SectionError, SectionKind, read_head};
 
 /// The longest section that is read, but for the index, in bytes.
-const LONGEST_SECTION: u64 = 536_870_912;
+pub(crate) const LONGEST_SECTION: u64 = 536_870_912;
 
 // A section, where it stands.
 #[derive(Clone, Copy)]

@@ -1,7 +1,7 @@
--- A buffer that is filled with the prefix of a file.
+-- A buffer that is filled with the bytes of a file from a place on.
 use Rattle.std.proofs.Common.{◌≡◌, ℕ, ◌+◌, ◌-◌, ◌≤◌, List, ◌++◌, length, take, drop, Option, Some, None, refl, sym, ap, ◌∙◌, subst, inl, inr, arith, IfSome, length-append, length-drop, take-add}
 use Rattle.std.specs.Prelude.{◌⊎◌, IsSomeAnd}
-use Rattle.std.proofs.lemmas.List.{take_at, take_all, length-take-le}
+use Rattle.std.proofs.lemmas.List.{take_at, take_all, length-take-le, drop-drop}
 use Rattle.std.specs.FinMap.{get}
 use Rattle.cy_store.specs.Files.{Files, Holds}
 use Rattle.cy_store.specs.Store.{StoreView, SameCounts}
@@ -35,15 +35,15 @@ may_always : {P : List ℕ → Type 0} (files : Option Files) (name : List ℕ) 
 may_always None name h = tt
 may_always (Some m) name h = always_found (get m name) h
 
--- So many bytes were read of a file, and no file was changed.
-pub record IsReadTo (name : List ℕ) (n : ℕ) (buffer : List ℕ) (old new : StoreView) : Type 0 where
+-- So many bytes were read of a file from a place on, and no file was changed.
+pub record IsReadTo (name : List ℕ) (at n : ℕ) (buffer : List ℕ) (old new : StoreView) : Type 0 where
   pub within : n ≤ length buffer
-  pub front : MayHold old.files name (λ bytes. take n buffer ≡ take n bytes)
+  pub front : MayHold old.files name (λ bytes. take n buffer ≡ take n (drop at bytes))
   pub same : new.files ≡ old.files
   pub counts : SameCounts old new
 
-pub nothing_read : (name buffer : List ℕ) (view : StoreView) → IsReadTo name 0 buffer view view
-nothing_read name buffer view = record {
+pub nothing_read : (name : List ℕ) (at : ℕ) (buffer : List ℕ) (view : StoreView) → IsReadTo name at 0 buffer view view
+nothing_read name at buffer view = record {
   within = omega arith;
   front = may_always view.files name (λ _. refl);
   same = refl;
@@ -61,32 +61,39 @@ front_more n k buffer was part rest bytes within few size front is =
     ∙ ap (λ l. take n bytes ++ l) (ap (take k) is ∙ take_at read (drop k was) k (omega arith))
     ∙ sym (take-add n k bytes)
 
--- a piece more was read into the part of the buffer that was left
-pub front_read : (name : List ℕ) (n k : ℕ) (buffer was part rest : List ℕ) (old mid : StoreView) → IsReadTo name n buffer old mid → k ≤ length was → length part ≡ length was
-    → Holds mid.files name (λ bytes. part ≡ take k (drop n bytes) ++ drop k was) → Holds old.files name (λ bytes. take (n + k) (take n buffer ++ (part ++ rest)) ≡ take (n + k) bytes)
-front_read name n k buffer was part rest old mid so_far few size value =
-    both_held old.files name (λ bytes. front_more n k buffer was part rest bytes so_far.within few size) so_far.front
-    (subst (λ (files : Option Files). Holds files name (λ bytes. part ≡ take k (drop n bytes) ++ drop k was)) so_far.same value)
+front_behind : (at n k : ℕ) (buffer was part rest bytes : List ℕ) → n ≤ length buffer → k ≤ length was → length part ≡ length was
+    → take n buffer ≡ take n (drop at bytes) → part ≡ take k (drop (at + n) bytes) ++ drop k was → take (n + k) (take n buffer ++ (part ++ rest)) ≡ take (n + k) (drop at bytes)
+front_behind at n k buffer was part rest bytes within few size front is =
+    front_more n k buffer was part rest (drop at bytes) within few size front (is ∙ ap (λ (l : List ℕ). take k l ++ drop k was) (sym (drop-drop n at bytes)))
 
-pub read_more : (name : List ℕ) (n k : ℕ) (buffer was part rest : List ℕ) (old mid new : StoreView) → IsReadTo name n buffer old mid
-    → k ≤ length was → length part ≡ length was → Holds mid.files name (λ bytes. part ≡ take k (drop n bytes) ++ drop k was)
-    → new.files ≡ mid.files → SameCounts mid new → IsReadTo name (n + k) (take n buffer ++ (part ++ rest)) old new
-read_more name n k buffer was part rest old mid new so_far few size value same counts = record {
+-- a piece more was read into the part of the buffer that was left
+pub front_read : (name : List ℕ) (at n k : ℕ) (buffer was part rest : List ℕ) (old mid : StoreView) → IsReadTo name at n buffer old mid → k ≤ length was → length part ≡ length was
+    → Holds mid.files name (λ bytes. part ≡ take k (drop (at + n) bytes) ++ drop k was) → Holds old.files name (λ bytes. take (n + k) (take n buffer ++ (part ++ rest)) ≡ take (n + k) (drop at bytes))
+front_read name at n k buffer was part rest old mid so_far few size value =
+    both_held old.files name (λ bytes. front_behind at n k buffer was part rest bytes so_far.within few size) so_far.front
+    (subst (λ (files : Option Files). Holds files name (λ bytes. part ≡ take k (drop (at + n) bytes) ++ drop k was)) so_far.same value)
+
+pub read_more : (name : List ℕ) (at n k : ℕ) (buffer was part rest : List ℕ) (old mid new : StoreView) → IsReadTo name at n buffer old mid
+    → k ≤ length was → length part ≡ length was → Holds mid.files name (λ bytes. part ≡ take k (drop (at + n) bytes) ++ drop k was)
+    → new.files ≡ mid.files → SameCounts mid new → IsReadTo name at (n + k) (take n buffer ++ (part ++ rest)) old new
+read_more name at n k buffer was part rest old mid new so_far few size value same counts = record {
   within = simp length-append (omega (arith, length-take-le n buffer so_far.within));
-  front = may_hold (λ bytes. take (n + k) (take n buffer ++ (part ++ rest)) ≡ take (n + k) bytes) old.files name (front_read name n k buffer was part rest old mid so_far few size value);
+  front = may_hold (λ bytes. take (n + k) (take n buffer ++ (part ++ rest)) ≡ take (n + k) (drop at bytes)) old.files name (front_read name at n k buffer was part rest old mid so_far few size value);
   same = same ∙ so_far.same;
   counts = record { faults = counts.faults ∙ so_far.counts.faults; misses = counts.misses ∙ so_far.counts.misses };
 }
 
-short : (n k size : ℕ) (was now bytes : List ℕ) → n + length was ≡ size → k ≡ 0 → now ≡ take (n + k) bytes → (length was ≡ 0) ⊎ (length bytes ≤ n) → now ≡ take size bytes
-short n k size was now bytes whole none e (inl full) = e ∙ ap (λ (i : ℕ). take i bytes) (omega arith)
-short n k size was now bytes whole none e (inr all) = e ∙ take_all (n + k) bytes (omega arith) ∙ sym (take_all size bytes (omega arith))
+short : (at n k size : ℕ) (was now bytes : List ℕ) → n + length was ≡ size → k ≡ 0 → now ≡ take (n + k) (drop at bytes) → (length was ≡ 0) ⊎ (length bytes ≤ at + n) → now ≡ take size (drop at bytes)
+short at n k size was now bytes whole none e (inl full) = e ∙ ap (λ (i : ℕ). take i (drop at bytes)) (omega arith)
+short at n k size was now bytes whole none e (inr all) =
+    let few : length (drop at bytes) ≤ n = omega (arith, length-drop at bytes) in
+    e ∙ take_all (n + k) (drop at bytes) (omega arith) ∙ sym (take_all size (drop at bytes) (omega arith))
 
 -- the buffer is full, or nothing was read since the file has no more bytes
-pub read_whole : {A : Type 0} (name : List ℕ) (n k size full : ℕ) (was now : List ℕ) (files : Option Files) → n + length was ≡ size → full ≡ size
-    → Holds files name (λ bytes. now ≡ take (n + k) bytes) → (k ≡ 0) ⊎ (A × (n + k ≡ full)) → (k ≡ 0 → Holds files name (λ bytes. (length was ≡ 0) ⊎ (length bytes ≤ n)))
-    → Holds files name (λ bytes. now ≡ take size bytes)
-read_whole name n k size full was now files whole size_is read (inl none) done =
-    both_held files name (λ bytes. short n k size was now bytes whole none) (may_hold (λ bytes. now ≡ take (n + k) bytes) files name read) (done none)
-read_whole name n k size full was now files whole size_is read (inr (_, all)) done =
-    subst (λ (i : ℕ). Holds files name (λ bytes. now ≡ take i bytes)) (all ∙ size_is) read
+pub read_whole : {A : Type 0} (name : List ℕ) (at n k size full : ℕ) (was now : List ℕ) (files : Option Files) → n + length was ≡ size → full ≡ size
+    → Holds files name (λ bytes. now ≡ take (n + k) (drop at bytes)) → (k ≡ 0) ⊎ (A × (n + k ≡ full)) → (k ≡ 0 → Holds files name (λ bytes. (length was ≡ 0) ⊎ (length bytes ≤ at + n)))
+    → Holds files name (λ bytes. now ≡ take size (drop at bytes))
+read_whole name at n k size full was now files whole size_is read (inl none) done =
+    both_held files name (λ bytes. short at n k size was now bytes whole none) (may_hold (λ bytes. now ≡ take (n + k) (drop at bytes)) files name read) (done none)
+read_whole name at n k size full was now files whole size_is read (inr (_, all)) done =
+    subst (λ (i : ℕ). Holds files name (λ bytes. now ≡ take i (drop at bytes))) (all ∙ size_is) read

@@ -1,6 +1,7 @@
 pub mod Files
 pub mod Memory
 pub mod Output
+pub mod Range
 pub mod Reads
 pub mod Real
 pub mod Store

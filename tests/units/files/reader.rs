@@ -4,3 +4,4 @@
 mod info;
 mod loading;
 mod play;
+mod sections;

@@ -1,25 +1,30 @@
 -- What the program keeps of a record's file.
-use Rattle.std.specs.Prelude.{◌≡◌, ℕ, ◌≤◌, List, length}
+use Rattle.std.specs.Prelude.{◌≡◌, ℕ, ◌+◌, ◌≤◌, ◌<◌, ◌^◌, List, length, Option, IfSome}
+use Rattle.std.specs.Option.{option_map}
 use Rattle.cy_section.specs.declared.types.Header.{Header}
-use Rattle.cy_reader.specs.declared.heads.IndexView.{IndexView}
-use Rattle.cy_reader.specs.declared.heads.Walk.{Walk}
+use Rattle.cy_reader.specs.declared.heads.KeptIndex.{KeptIndex}
+use Rattle.cy_reader.specs.declared.heads.PlacedHead.{PlacedHead}
 use Rattle.cy_reader.specs.declared.loading.Loading.{Loading}
 use Rattle.cy_reader.specs.Sections.{sections_from}
-use Rattle.cy_reader.specs.Heads.{PlacedIndex, index_at, end_of}
+use Rattle.cy_reader.specs.Heads.{PlacedIndex, end_of}
 use Rattle.cy_reader.specs.Record.{Source, longest_file, header_end}
 use Rattle.cy_reader.specs.private.Loading.{IsSound}
 
--- An index, without where its bytes lie in memory.
-abbrev pub seen_index : IndexView → PlacedIndex
-seen_index i = record { at = i.at; size = i.size; body = i.body.now }
+-- An index, as it is kept.
+abbrev pub seen_index : KeptIndex → PlacedIndex
+seen_index i = record { at = i.at; size = i.size; body = i.body }
 
-abbrev pub kept_source : List ℕ → List ℕ → Header → Walk → Source
-kept_source name file header walk = record {
+-- An index whose bytes have places of 64 bits.
+abbrev pub IsPlaced : KeptIndex → Type 0
+IsPlaced i = i.at + 16 + length i.body < 2 ^ 64
+
+abbrev pub kept_source : List ℕ → ℕ → Header → List PlacedHead → Option KeptIndex → Source
+kept_source name size header heads index = record {
   name = name;
-  size = length file;
+  size = size;
   header = header;
-  heads = walk.heads.items;
-  index = index_at file walk.end;
+  heads = heads;
+  index = option_map seen_index index;
 }
 
 -- The sections of a file end at a place in it.
@@ -32,13 +37,12 @@ pub record HasLength (file : List ℕ) : Type 0 where
   pub long : header_end ≤ length file
   pub short : length file ≤ longest_file
 
--- What is kept of such a file is sound.
+-- What is kept of such a file is sound, where the file itself is the only body.
 pub record IsLoaded (file : List ℕ) (l : Loading) : Type 0 where
-  pub sound : IsSound l
+  pub sound : IsSound 1 l
   pub sized : HasLength file
 
--- What is kept is sound, and its sections end in the file, which is not too long.
-pub record IsKept (file : List ℕ) (walk : Walk) (l : Loading) : Type 0 where
-  pub sound : IsSound l
-  pub inside : walk.end ≤ length file
-  pub short : length file ≤ longest_file
+-- What is kept is sound, and the index has a place.
+pub record IsKept (bodies : List (List ℕ)) (index : Option KeptIndex) (l : Loading) : Type 0 where
+  pub sound : IsSound (length bodies) l
+  pub placed : IfSome index IsPlaced

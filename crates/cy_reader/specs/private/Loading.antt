@@ -1,6 +1,7 @@
 -- What the program keeps of a file while it reads it.
-use Rattle.std.specs.Prelude.{◌≡◌, ◌⊎◌, ℕ, ◌≤◌, ◌<◌, ◌^◌, All, List, length, take, drop, map}
-use Rattle.std.specs.Prelude.{sum_by, if◌then◌else◌, String, Option, Some, None, Result, Ok, Err}
+use Rattle.std.specs.Prelude.{◌≡◌, ◌⊎◌, ℕ, ◌+◌, ◌-◌, ◌≤◌, ◌<◌, ◌^◌, All, List, [], ◌∷◌, ◌++◌}
+use Rattle.std.specs.Prelude.{length, take, drop, map, slice_index_or, sum_by, if◌then◌else◌}
+use Rattle.std.specs.Prelude.{String, Option, Some, None, Result, Ok, Err}
 use Rattle.std.specs.HashMap.{HashMap, get_by_text}
 use Rattle.std.specs.Str.{bytes_eq}
 use Rattle.cy_section.specs.declared.error.SectionError.{SectionError}
@@ -9,8 +10,10 @@ use Rattle.cy_reader.specs.declared.error.LoadError.{LoadError}
 use Rattle.cy_reader.specs.declared.error.LoadError.TheVariants as load_error
 use Rattle.cy_reader.specs.declared.known.Known.{Known}
 use Rattle.cy_reader.specs.declared.channels.Channels.{Channels}
+use Rattle.cy_reader.specs.declared.loading.Body.{Body}
 use Rattle.cy_reader.specs.declared.loading.Message.{Message}
 use Rattle.cy_reader.specs.declared.loading.Loading.{Loading}
+use Rattle.cy_reader.specs.declared.sections.SectionView.{SectionView}
 use Rattle.cy_reader.specs.Record as meaning
 use Rattle.cy_reader.specs.Record.{Met, size_of, number_of, most_channels}
 use Rattle.cy_reader.specs.Record.{largest_channels}
@@ -44,37 +47,56 @@ pub record Mentions (name : List ℕ) (old new : Channels) (n : ℕ) : Type 0 wh
   pub number : number_of name new.list.items ≡ Some n
   pub below : n < length new.list.items
 
--- What is kept of a file at any moment: fewer messages than 32 bits count, each on a channel that
--- is kept.
-pub record IsSound (l : Loading) : Type 0 where
+-- What is kept of a file at any moment, beside so many bodies: fewer messages than 32 bits count,
+-- each on a channel that is kept, and its content in one of the bodies.
+pub record IsSound (bodies : ℕ) (l : Loading) : Type 0 where
   pub small : AreSmall l.channels.list.items
   pub tied : IsTied l.channels
   pub few : length l.messages.items < 2 ^ 32
   pub numbered : All (λ m. m.channel < length l.channels.list.items) l.messages.items
+  pub placed : All (λ m. m.body < bodies) l.messages.items
 
--- What is kept of a message on a channel of this number.
-abbrev pub noted : ℕ → MessageView → Message
-noted channel m = record {
+-- The bodies that are kept once this one is, the last of them.
+abbrev pub with_body : Body → List (List ℕ)
+with_body b = b.before.now ++ b.bytes.now ∷ []
+
+-- Numbers of 32 bits count the bodies before a body and its bytes, and 64 bits their places.
+pub record IsShort (b : Body) : Type 0 where
+  pub few : length b.before.now < 2 ^ 32
+  pub short : length b.bytes.now < 2 ^ 32
+  pub inside : b.at + length b.bytes.now < 2 ^ 64
+
+-- A section whose places and whose bytes numbers of these sizes count.
+pub record IsShortSection (s : SectionView) : Type 0 where
+  pub inside : s.body_at + length s.body.now < 2 ^ 64
+  pub short : length s.body.now < 2 ^ 32
+
+-- What is kept of a message on a channel of this number, whose content stands in a body.
+abbrev pub noted : Body → ℕ → MessageView → Message
+noted b channel m = record {
   channel = channel;
+  body = length b.before.now;
   time = m.time;
-  start = m.content_at;
+  start = m.content_at - b.at;
   length = length m.content.now;
 }
 
--- A message, with the content that stands in the file.
-abbrev pub message_of : List ℕ → Message → meaning.Message
-message_of file m = record {
+-- A message, with the content that stands in one of these bodies.
+abbrev pub message_of : List (List ℕ) → Message → meaning.Message
+message_of bodies m = record {
   channel = m.channel;
   time = m.time;
-  content = take m.length
-      (drop m.start file);
+  content = take m.length (drop m.start (slice_index_or bodies m.body []));
 }
 
-abbrev pub met_of : List ℕ → Loading → Met
-met_of file l = record {
+-- What was met: the channels that are kept, and these messages; and those that are kept.
+abbrev pub met_with : Channels → List meaning.Message → Met
+met_with channels messages = record { channels = channels.list.items; messages = messages }
+
+abbrev pub met_of : List (List ℕ) → Loading → Met
+met_of bodies l = record {
   channels = l.channels.list.items;
-  messages = map
-      (message_of file) l.messages.items;
+  messages = map (message_of bodies) l.messages.items;
 }
 
 -- What stands then is what is read; or the answer is what is read in its place, or that there is no

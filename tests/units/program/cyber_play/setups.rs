@@ -65,7 +65,8 @@ fn told(alloc: Global, answer: Result<Replay, SetupError>) -> Result<String, Fai
     })
 }
 
-// Of each file the size is asked, and then it is read.
+// Of each file the size is asked, and then it is read; of the record the header, and the head and
+// the body of each section, of which it has four.
 #[test]
 fn names_the_file_whose_call_failed(rt: HostRuntime) -> Result<(), Fail> {
     let alloc = rt.alloc();
@@ -78,7 +79,9 @@ fn names_the_file_whose_call_failed(rt: HostRuntime) -> Result<(), Fail> {
         (6, "r.conf Store"),
         (7, "a.rec Store"),
         (8, "a.rec Store"),
-        (9, "set up"),
+        (9, "a.rec Store"),
+        (16, "a.rec Store"),
+        (17, "set up"),
     ] {
         let mut store = chain_store(alloc)?;
         store.fail_at(CALLS_BEFORE + call, 0)?;

@@ -1,4 +1,4 @@
-use Rattle.std.proofs.Common.{◌<◌, ◌+◌, ◌-◌, suc, length, refl, arith, inl, inr}
+use Rattle.std.proofs.Common.{◌<◌, ◌+◌, ◌-◌, ◌∷◌, [], suc, length, refl, arith, inl, inr}
 use Rattle.std.proofs.lemmas.List.Elements.{All-nil}
 use Rattle.std.proofs.lemmas.Result.{err_from_is_err_and}
 use Rattle.cy_reader.specs.private.Found.{seen_section}
@@ -16,6 +16,7 @@ loop-loading-init c = (
     tied = c.new.ensures.tied;
     few = rw c.new-2.ensures.items (omega arith);
     numbered = rw c.new-2.ensures.items (All-nil _);
+    placed = rw c.new-2.ensures.items (All-nil _);
   },
   rw (c.new.ensures.none, c.new-2.ensures.items) refl,
 )
@@ -25,7 +26,7 @@ returns-in_err-section-clause-met c =
     let p = err_from_is_err_and c.from_residual.result c.from_residual.ensures.1 in
     let inv = c.loop-loading.invariant in
     let less = one_less inv.0 (omega (arith, inv.1)) in
-    rw (p.1, p.2) (inr (sections_fault c.args.file.now less.0 c.loop-loading.at (met_of c.args.file.now c.loop-loading.loading) c.in_err-section.field-0.0 _ c.in_err-section.ensures.section (rw less.1 at inv.4)))
+    rw (p.1, p.2) (inr (sections_fault c.args.file.now less.0 c.loop-loading.at (met_of (c.args.file.now ∷ []) c.loop-loading.loading) c.in_err-section.field-0.0 _ c.in_err-section.ensures.section (rw less.1 at inv.4)))
 
 pub returns-in_err-section_met-clause-met : goal.returns-in_err-section_met-clause-met
 returns-in_err-section_met-clause-met c =
@@ -35,7 +36,7 @@ returns-in_err-section_met-clause-met c =
     let found = rw c.in-Some.is at c.in_ok-section.ensures.section in
     rw (p.1, p.2) (elim c.in_err-section_met.ensures.met [
       | inl memory ↦ inl memory
-      | inr wrong ↦ inr (section_wrong c.args.file.now less.0 c.loop-loading.at (seen_section c.in-Some.section) (met_of c.args.file.now c.loop-loading.loading) _ _ found wrong (rw less.1 at inv.4))
+      | inr wrong ↦ inr (section_wrong c.args.file.now less.0 c.loop-loading.at (seen_section c.in-Some.section) (met_of (c.args.file.now ∷ []) c.loop-loading.loading) _ _ found wrong (rw less.1 at inv.4))
     ])
 
 pub loop-loading-preserved : goal.loop-loading-preserved
@@ -53,7 +54,7 @@ loop-loading-preserved c =
       room,
       inside,
       c.in_ok-section_met.ensures.still_sound,
-      section_read c.args.file.now less.0 c.loop-loading.at (seen_section c.in-Some.section) (met_of c.args.file.now c.loop-loading.loading) (met_of c.args.file.now c.section_met.new.loading) _ found c.in_ok-section_met.ensures.met (rw less.1 at inv.4),
+      section_read c.args.file.now less.0 c.loop-loading.at (seen_section c.in-Some.section) (met_of (c.args.file.now ∷ []) c.loop-loading.loading) (met_of (c.args.file.now ∷ []) c.section_met.new.loading) _ found c.in_ok-section_met.ensures.met (rw less.1 at inv.4),
     )
 
 pub returns-clause-met : goal.returns-clause-met
@@ -61,4 +62,4 @@ returns-clause-met c =
     let inv = c.loop-loading.invariant in
     let less = one_less inv.0 (omega (arith, inv.1)) in
     let found = rw c.in_default.is at c.in_ok-section.ensures.section in
-    sections_end c.args.file.now less.0 c.loop-loading.at (met_of c.args.file.now c.loop-loading.loading) _ found (rw less.1 at inv.4)
+    sections_end c.args.file.now less.0 c.loop-loading.at (met_of (c.args.file.now ∷ []) c.loop-loading.loading) _ found (rw less.1 at inv.4)

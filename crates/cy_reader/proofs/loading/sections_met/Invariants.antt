@@ -1,4 +1,4 @@
-use Rattle.std.proofs.Common.{◌≡◌, ◌-◌, ◌<◌, ◌≤◌, ℕ, length}
+use Rattle.std.proofs.Common.{◌≡◌, ◌-◌, ◌<◌, ◌≤◌, ◌∷◌, [], ℕ, length}
 use Rattle.cy_reader.specs.Sections.{sections_in, sections_from}
 use Rattle.cy_reader.specs.Record.{header_end, nothing}
 use Rattle.cy_reader.specs.private.Loading.{IsSound, met_of}
@@ -7,8 +7,8 @@ use Rattle.cy_reader.proofs.loading.sections_met.Given as goal
 
 abbrev pub invariant-loop-loading : goal.invariant-loop-loading
 invariant-loop-loading l =
-    (more : ℕ) × (length l.file - l.at < more) × (l.at ≤ length l.file) × IsSound l.loading
-    × (finish (met_of l.file l.loading) (sections_in more l.file l.at) ≡ finish nothing (sections_from l.file header_end))
+    (more : ℕ) × (length l.file - l.at < more) × (l.at ≤ length l.file) × IsSound 1 l.loading
+    × (finish (met_of (l.file ∷ []) l.loading) (sections_in more l.file l.at) ≡ finish nothing (sections_from l.file header_end))
 
 abbrev pub decreases-loop-loading : goal.decreases-loop-loading
 decreases-loop-loading l = length l.file - l.at

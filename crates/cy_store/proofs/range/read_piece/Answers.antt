@@ -1,6 +1,6 @@
 use Rattle.std.proofs.Common.{rules, lit<}
 use Rattle.cy_store.proofs.Pieces.{piece_answer}
-use Rattle.cy_store.proofs.whole.read_piece.Goals as goal
+use Rattle.cy_store.proofs.range.read_piece.Goals as goal
 
 pub returns : goal.returns
 returns g c =

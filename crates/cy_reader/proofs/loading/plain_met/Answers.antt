@@ -1,18 +1,20 @@
 use Rattle.std.proofs.Common.{arith}
 use Rattle.cy_reader.specs.private.Found.{seen_section}
-use Rattle.cy_reader.specs.private.Loading.{met_of}
-use Rattle.cy_reader.proofs.Slices.{channel_short}
+use Rattle.cy_reader.specs.private.Loading.{met_with}
+use Rattle.cy_reader.proofs.Slices.{channel_short, self_within}
 use Rattle.cy_reader.proofs.Meeting.{channel_section, channel_leads}
-use Rattle.cy_reader.proofs.loading.section_met.Goals as goal
+use Rattle.cy_reader.proofs.loading.plain_met.Goals as goal
 
 pub give-requires-clause-size : goal.give-requires-clause-size
 give-requires-clause-size c =
-    let short = channel_short c.args.file.now c.args.section.now.body_at c.args.section.now.body.now c.in_ok-channel-in-Channel.channel c.requires.stands c.in_ok-channel-in-Channel.ensures in
-    let few = c.requires.short in
+    let at = c.args.section.now.body_at in
+    let body = c.args.section.now.body.now in
+    let short = channel_short at body at body c.in_ok-channel-in-Channel.channel (self_within at body) c.in_ok-channel-in-Channel.ensures in
+    let few = c.requires.short.short in
     omega arith
 
 pub returns-in_ok-channel-in-Channel-clause-met : goal.returns-in_ok-channel-in-Channel-clause-met
-returns-in_ok-channel-in-Channel-clause-met c =
-    let contents = met_of c.args.file.now c.args.loading.now in
+returns-in_ok-channel-in-Channel-clause-met c messages =
+    let contents = met_with c.args.channels.now messages in
     rw (channel_section (seen_section c.args.section.now) c.in_ok-channel-in-Channel.channel contents c.in-Channel.is c.in_ok-channel-in-Channel.ensures)
     (channel_leads c.give.result c.in_ok-channel-in-Channel.channel contents c.give.new.channels.list.items c.give.ensures.list)

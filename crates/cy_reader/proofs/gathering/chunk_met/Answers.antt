@@ -1,0 +1,8 @@
+use Rattle.cy_reader.specs.private.Found.{seen_section}
+use Rattle.cy_reader.proofs.Bodies.{chunk_leads}
+use Rattle.cy_reader.proofs.gathering.chunk_met.Goals as goal
+
+pub returns-clause-met : goal.returns-clause-met
+returns-clause-met c =
+    chunk_leads c.body_met.result (seen_section c.view_of.result) c.args.part.now c.args.before.now c.as_slice-bytes.result.now c.args.loading.now c.body_met.new.loading c.view_of.ensures c.as_slice-bytes.ensures c.requires.sound
+    c.body_met.ensures.met

@@ -1,0 +1,220 @@
+// Records that are read section by section, and whole.
+use cy_reader::{LoadError, Record, load, load_whole};
+use cy_section::SectionError;
+use cy_store::{MemStore, Store, StoreError};
+use cy_wire::whole_bytes;
+use cy_writer::RecordWriter;
+use std::alloc::Global;
+use std::process::Abort;
+use std::test::Fail;
+
+// A store that notes what is read of it: how often, the longest piece, and how many bytes in all.
+#[derive(Drop)]
+struct Noting {
+    inner: MemStore,
+    reads: u64,
+    longest: usize,
+    lent: u64,
+}
+
+impl Store for Noting {
+    // Nothing is proved of it, so that its ghost member is left open.
+    ghost shows = { ? };
+
+    fn size(&mut self, name: &str) -> Result<u64, StoreError> {
+        self.inner.size(name)
+    }
+
+    fn read_at(&mut self, name: &str, at: u64, buf: &mut [u8]) -> Result<usize, StoreError> {
+        self.reads += 1;
+        self.longest = self.longest.max(buf.len());
+        let read = self.inner.read_at(name, at, buf)?;
+        self.lent += read as u64;
+        Ok(read)
+    }
+
+    fn create(&mut self, _name: &str) -> Result<(), StoreError> {
+        Err(StoreError::Failed)
+    }
+
+    fn put_at(&mut self, _name: &str, _at: u64, _bytes: &[u8]) -> Result<(), StoreError> {
+        Err(StoreError::Failed)
+    }
+}
+
+// A store that notes, with one file.
+fn noting(alloc: Global, bytes: &[u8]) -> Result<Noting, Fail> {
+    Ok(Noting {
+        inner: store_of(alloc, bytes)?,
+        reads: 0,
+        longest: 0,
+        lent: 0,
+    })
+}
+
+// A store with one file.
+fn store_of(alloc: Global, bytes: &[u8]) -> Result<MemStore, Fail> {
+    let mut store = MemStore::new(alloc);
+    store.create("in.rec")?;
+    store.put_at("in.rec", 0, bytes)?;
+    Ok(store)
+}
+
+// The record of these messages on `/a`, each a time in seconds and the bytes of its content.
+fn record_of(alloc: Global, messages: &[(u64, usize)]) -> Result<Vec<u8>, Fail> {
+    let mut store = MemStore::new(alloc);
+    let mut writer = RecordWriter::start(alloc, &mut store, "in.rec")?;
+    writer.channel(alloc, &mut store, "/a", "", b"")?;
+    for (seconds, size) in messages {
+        let content = vec![in alloc; 7u8; *size]?;
+        writer.message(alloc, &mut store, 0, *seconds * 1_000_000_000, &content)?;
+    }
+    writer.close(alloc, &mut store)?;
+    let bytes = store.file("in.rec").ok_or("the record is there")?;
+    Ok(bytes.to_vec(alloc)?)
+}
+
+// The record that `make` writes of so many messages.
+fn made_record(alloc: Global, count: i64) -> Result<Vec<u8>, Fail> {
+    let mut store = MemStore::new(alloc);
+    let mut writer = RecordWriter::start(alloc, &mut store, "in.rec")?;
+    writer.channel(alloc, &mut store, "/a", "", b"")?;
+    writer.channel(alloc, &mut store, "/b", "", b"")?;
+    for k in 1..=count {
+        let channel = if k % 3 == 0 { 1 } else { 0 };
+        let content = whole_bytes(alloc, (7 * k * k + 13 * k) % 2_001 - 1_000)?;
+        let time = 1_000_000 * k.cast_unsigned();
+        writer.message(alloc, &mut store, channel, time, content.done())?;
+    }
+    writer.close(alloc, &mut store)?;
+    let bytes = store.file("in.rec").ok_or("the record is there")?;
+    Ok(bytes.to_vec(alloc)?)
+}
+
+// A valid header of 2,064 bytes, and what follows it, with zeros up to a length.
+fn behind_header(alloc: Global, rest: &[u8], size: usize) -> Result<Vec<u8>, Fail> {
+    let mut bytes = record_of(alloc, &[])?;
+    bytes.truncate(2_064);
+    bytes.extend_from_slice(rest)?;
+    bytes.resize(size, 0)?;
+    Ok(bytes)
+}
+
+// Whether two records have the same channels, messages and contents.
+fn are_alike(one: &Record, other: &Record) -> bool {
+    if one.channels() != other.channels() || one.messages() != other.messages() {
+        return false;
+    }
+    (0..one.channels()).all(|n| one.channel(n).name.as_str() == other.channel(n).name.as_str())
+        && (0..one.messages())
+            .all(|n| one.message(n) == other.message(n) && one.content(n) == other.content(n))
+}
+
+// What both readings of some bytes answer, which is the same.
+fn answers(rt: &impl Abort, alloc: Global, bytes: &[u8]) -> Result<Option<LoadError>, Fail> {
+    let mut store = store_of(alloc, bytes)?;
+    let read = load(alloc, &mut store, "in.rec");
+    let whole = load_whole(alloc, &mut store, "in.rec");
+    match (read, whole) {
+        (Ok(one), Ok(other)) => {
+            assert!(rt; are_alike(&one, &other));
+            let (one, other) = (one.info(alloc)?, other.info(alloc)?);
+            assert_eq!(rt; one.as_slice(), other.as_slice());
+            Ok(None)
+        }
+        (read, whole) => {
+            let (read, whole) = (read.err(), whole.err());
+            assert_eq!(rt; read, whole);
+            Ok(read)
+        }
+    }
+}
+
+// Three chunks, since more than 20 seconds stand between their messages.
+const THREE_CHUNKS: &[(u64, usize)] = &[(0, 3), (0, 0), (30, 2_500_000), (60, 1)];
+
+#[test]
+fn agrees_with_the_reading_whole(rt: HostRuntime) -> Result<(), Fail> {
+    assert_eq!(rt; answers(&rt, rt.alloc(), record_of(rt.alloc(), THREE_CHUNKS)?.as_slice())?, None);
+    assert_eq!(rt; answers(&rt, rt.alloc(), made_record(rt.alloc(), 3_000)?.as_slice())?, None);
+    let bytes = record_of(rt.alloc(), &[(1, 2), (50, 3)])?;
+    for size in 0..bytes.len() {
+        answers(&rt, rt.alloc(), &bytes[..size])?;
+    }
+    Ok(())
+}
+
+#[test]
+fn answers_the_first_fault_in_the_order_of_the_file(rt: HostRuntime) -> Result<(), Fail> {
+    let mut bytes = record_of(rt.alloc(), &[(0, 1), (30, 2), (60, 3)])?;
+    // A tag of type 3, which is a group's, in the third chunk, and then in the second too.
+    let places = places_of_bodies(rt.alloc(), bytes.as_slice())?;
+    assert_eq!(rt; places.len(), 3);
+    for place in [places[2], places[1]] {
+        bytes[place] = 0x0b;
+        let at = place as u64;
+        let fault = LoadError::Section(SectionError::Wire { at });
+        assert_eq!(rt; answers(&rt, rt.alloc(), bytes.as_slice())?, Some(fault));
+    }
+    Ok(())
+}
+
+// The places of the chunks' bodies, by the heads of a whole record.
+fn places_of_bodies(alloc: Global, bytes: &[u8]) -> Result<Vec<usize>, Fail> {
+    let mut places = Vec::new(alloc);
+    let mut at = 2_064;
+    while bytes[at] != 3 {
+        if bytes[at] == 2 {
+            places.push(at + 16)?;
+        }
+        let size = u16::from(bytes[at + 8]) + 256 * u16::from(bytes[at + 9]);
+        at += 16 + usize::from(size);
+    }
+    Ok(places)
+}
+
+#[test]
+fn reads_no_more_than_it_needs(rt: HostRuntime) -> Result<(), Fail> {
+    // The head of a type that there is none of.
+    let head = [9, 0, 0, 0];
+    let bytes = behind_header(rt.alloc(), head.as_slice(), 16_777_216)?;
+    let mut store = store_of(rt.alloc(), bytes.as_slice())?;
+    // The store was called twice before.
+    store.fail_at(18, 0)?;
+    let fault = LoadError::Section(SectionError::Kind { at: 2_064, value: 9 });
+    let answer = load(rt.alloc(), &mut store, "in.rec").err();
+    assert_eq!(rt; answer, Some(fault));
+    Ok(())
+}
+
+#[test]
+fn reads_nothing_of_a_section_that_is_too_long_or_cut(rt: HostRuntime) -> Result<(), Fail> {
+    // A channel's head with the last four bytes of its size, and what is answered.
+    let too_long = SectionError::TooLong {
+        at: 2_064,
+        value: 536_870_913,
+    };
+    let cut = SectionError::Cut { at: 2_064 };
+    for (size, fault) in [([1, 0, 0, 32], too_long), ([0, 0, 0, 32], cut)] {
+        let [a, b, c, d] = size;
+        let head = [4, 0, 0, 0, 0, 0, 0, 0, a, b, c, d, 0, 0, 0, 0];
+        let bytes = behind_header(rt.alloc(), head.as_slice(), 3_000)?;
+        let mut store = noting(rt.alloc(), bytes.as_slice())?;
+        let answer = load(rt.alloc(), &mut store, "in.rec").err();
+        assert_eq!(rt; answer, Some(LoadError::Section(fault)));
+        // The header's section, and the head.
+        assert_eq!(rt; store.lent, 2_080);
+    }
+    Ok(())
+}
+
+#[test]
+fn reads_a_file_once_in_pieces(rt: HostRuntime) -> Result<(), Fail> {
+    let bytes = record_of(rt.alloc(), THREE_CHUNKS)?;
+    let mut store = noting(rt.alloc(), bytes.as_slice())?;
+    let record = load(rt.alloc(), &mut store, "in.rec")?;
+    assert_eq!(rt; record.messages(), 4);
+    assert_eq!(rt; store.longest, 1_048_576);
+    assert_eq!(rt; store.lent, bytes.len() as u64);
+    Ok(())
+}
