@@ -13,7 +13,7 @@ import sys
 sys.path.insert(0, os.path.join(os.path.dirname(os.path.abspath(__file__)), "..", "tools"))
 from dag import forms_of_outs, read_components
 from judging import Task, Told, first_fault, tape_of
-from playlist import MOST_PLANNED, MOST_PLAYED, Filter, add_choice, choice_of, list_messages, planned_entries
+from playlist import MOST_PLANNED, MOST_PLAYED, Filter, add_choice, choice_of, list_recorded, planned_entries, ticks_of, with_ticks
 from record import forms_of, messages_of, record
 from strict import Bad, quoted, read_trace
 
@@ -37,12 +37,15 @@ def task_of(dag, path, chosen, stop):
     """What the run was to be, and the types and descriptions of the channels."""
     components = read_components(dag)
     data = bytes_of(path)
-    played, shadowed = list_messages(messages_of(data), components, chosen)
+    recorded, shadowed = list_recorded(messages_of(data), components, chosen)
     numbers = {it.name: number for number, it in enumerate(components)}
     if stop and stop[0] not in numbers:
         raise Refusal(REFUSED, f"{dag}: StopUnknown {quoted(stop[0]).decode()}")
-    if len(played) > MOST_PLAYED:
-        raise Refusal(LIMIT, f"{path}: limit TooManyPlayed passed: {len(played)}")
+    ticks = sum(map(len, ticks_of(components, recorded).values()))
+    for count in (len(recorded), len(recorded) + ticks):
+        if count > MOST_PLAYED:
+            raise Refusal(LIMIT, f"{path}: limit TooManyPlayed passed: {count}")
+    played = with_ticks(components, recorded)
     if planned_entries(components, played) > MOST_PLANNED:
         raise Refusal(LIMIT, f"{path}: limit TooMany passed: {planned_entries(components, played)}")
     raised = stop and (numbers[stop[0]], sum(it.time <= stop[1] for it in played))

@@ -124,6 +124,7 @@ class Component:
     config: list  # the fields of its component file
     out: bytes
     overflow: bytes = b"NEWEST"
+    interval: int = None  # in milliseconds, of a timer component
 
     def parameter(self, name):
         return last(self.config, name)
@@ -133,23 +134,34 @@ class Component:
         return last(self.config, "out_type", b"")
 
 
-def component_of(entry):
-    """A component of a DAG file, with the component file that it names."""
+def component_with(entry, channels, queue, interval):
+    """A component that reads these channels, with the component file that its entry in a DAG file names."""
     config = last(entry, "config")
-    readers = every(config, "readers")
     file = read_text(last(config, "config_file_path"))
-    queue = max(last(readers[0], "pending_queue_size", 1), 1)
-    channels = [last(reader, "channel") for reader in readers]
     kind, overflow = last(entry, "class_name").decode(), last(file, "on_overflow", b"NEWEST")
-    return Component(last(config, "name"), kind, channels, queue, file, last(file, "out"), overflow)
+    return Component(last(config, "name"), kind, channels, queue, file, last(file, "out"), overflow, interval)
+
+
+def component_of(entry):
+    """A component of a DAG file."""
+    readers = every(last(entry, "config"), "readers")
+    queue = max(last(readers[0], "pending_queue_size", 1), 1)
+    return component_with(entry, [last(reader, "channel") for reader in readers], queue, None)
+
+
+def timer_of(entry):
+    """A timer component of a DAG file: it reads the channel of its own ticks."""
+    config = last(entry, "config")
+    return component_with(entry, [b"@timer/" + last(config, "name")], 1, last(config, "interval"))
 
 
 def read_components(path):
-    """The components of a DAG file, in their order."""
+    """The components of a DAG file, and behind them its timer components, each in their order."""
     fields = read_text(path)
     try:
-        entries = [entry for module in every(fields, "module_config") for entry in every(module, "components")]
-        return [component_of(entry) for entry in entries]
+        modules = every(fields, "module_config")
+        components = [component_of(entry) for module in modules for entry in every(module, "components")]
+        return components + [timer_of(entry) for module in modules for entry in every(module, "timer_components")]
     except (AttributeError, IndexError, TypeError) as error:
         raise ValueError(f"{os.fsdecode(path)}: no DAG file that a play accepts: {error}") from None
 

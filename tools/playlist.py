@@ -2,9 +2,10 @@
 import os
 from typing import NamedTuple, Optional
 
-from record import whole_of
+from record import content_of, whole_of
 
 LAST_TIME = 2**64 - 1
+MILLISECOND = 1_000_000
 MOST_PLAYED, MOST_PLANNED = 4_194_304, 16_777_216
 
 
@@ -33,15 +34,40 @@ class PlayList(NamedTuple):
     shadowed: int
 
 
-def list_messages(messages, components, chosen=Filter()):
-    """The play list of a record's messages, each a channel, a time and a content; and how many others are shadowed."""
-    written = {it.out for it in components}
+def list_recorded(messages, components, chosen=Filter()):
+    """Those of a record's messages that are played, each a channel, a time and a content; and how many others are shadowed."""
+    written = {it.out for it in components} | {it.readers[0] for it in components if it.interval}
     through = [it for it in messages if chosen.lets_through(it[0], it[1])]
     played, counts = [], {}
     for channel, time, content in sorted((it for it in through if it[0] not in written), key=lambda it: it[1]):
         counts[channel] = counts.get(channel, 0) + 1
         played.append(Message(channel, counts[channel], time, whole_of(content), content))
     return PlayList(played, len(through) - len(played))
+
+
+def ticks_of(components, played):
+    """By the channel of each timer component the times of its ticks: the multiples of its interval while messages are played."""
+    if not played:
+        return {}
+    begin, end = min(it.time for it in played), max(it.time for it in played)
+    periods = {it.readers[0]: it.interval * MILLISECOND for it in components if it.interval}
+    return {channel: range(-(-begin // period) * period, end + 1, period) for channel, period in periods.items()}
+
+
+def with_ticks(components, played):
+    """Messages that are played, with the ticks among them: at one time messages first, then ticks in the order of the components."""
+    ticks = [
+        Message(channel, number, time, number, content_of(number))
+        for channel, times in ticks_of(components, played).items()
+        for number, time in enumerate(times, 1)
+    ]
+    return sorted(played + ticks, key=lambda it: it.time)
+
+
+def list_messages(messages, components, chosen=Filter()):
+    """The play list of a record's messages, ticks included; and how many of them are shadowed."""
+    played, shadowed = list_recorded(messages, components, chosen)
+    return PlayList(with_ticks(components, played), shadowed)
 
 
 def planned_entries(components, played):

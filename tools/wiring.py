@@ -7,18 +7,23 @@ COMPONENT = re.compile(
     rb'component (?P<name>"(?:[^"\\]|\\.)*") class \S+ reads (?P<reads>"(?:[^"\\]|\\.)*"(?: "(?:[^"\\]|\\.)*")*)'
     rb' queue \d+ writes (?P<writes>"(?:[^"\\]|\\.)*")'
 )
+TIMER = re.compile(rb'timer (?P<name>"(?:[^"\\]|\\.)*") class \S+ every \d+ ms writes (?P<writes>"(?:[^"\\]|\\.)*")')
+
+
+def reads_of(match):
+    """The channels that the component of a line reads: of a timer component the one of its ticks."""
+    if match.re is TIMER:
+        return ["@timer/" + unquoted(match["name"][1:-1])]
+    return [unquoted(text) for text in QUOTED.findall(match["reads"])]
 
 
 def read_wiring(path):
     """By the name of each component in a text of `check`: the list of the channels that it reads, and the one that it writes."""
     with open(path, "rb") as file:
-        found = [match for match in map(COMPONENT.match, file) if match]
+        found = [match for line in file if (match := COMPONENT.match(line) or TIMER.match(line))]
     if not found:
         raise ValueError(f"{path}: no component; this has to be what `cyber check` prints")
-    return {
-        unquoted(it["name"][1:-1]): ([unquoted(text) for text in QUOTED.findall(it["reads"])], unquoted(it["writes"][1:-1]))
-        for it in found
-    }
+    return {unquoted(it["name"][1:-1]): (reads_of(it), unquoted(it["writes"][1:-1])) for it in found}
 
 
 class Deduction:

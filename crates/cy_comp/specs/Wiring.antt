@@ -27,10 +27,21 @@ abbrev pub trigger_after : List Plan → ℕ → ℕ → Option ℕ
 trigger_after plans zero c = Some c
 trigger_after plans (suc n) c = option_and_then (trigger_after plans n) (trigger_of plans c)
 
+-- What a component keeps to that is triggered by ticks of its own, one each so many milliseconds:
+-- the ticks stand on the one channel that it reads, which no component writes, and one of them waits
+-- at most.
+pub record IsTimer (plans : List Plan) (a : Plan) (interval : ℕ) : Type 0 where
+  pub some : 1 ≤ interval
+  pub reader : length a.readers ≡ 1
+  pub queue : a.queue ≡ 1
+  pub unwritten : (j r : ℕ) (b : Plan) → slice_get plans j ≡ Some b → slice_get a.readers 0 ≡ Some r
+      → b.out ≡ r → ⊥
+
 -- Components over channels with these names are wired: at most 64 with names of their own; each has
 -- parameters in the ranges of its class, reads one to four different channels, at least as many as
--- its class reads, keeps at least one tuple, and writes a channel that no other one writes; and
--- following triggers never comes back to a component.
+-- its class reads, keeps at least one tuple, and writes a channel that no other one writes;
+-- following triggers never comes back to a component; and one with ticks is as such a component is,
+-- and has a channel of its own for them.
 pub record IsWiring (names : List (List ℕ)) (plans : List Plan) : Type 0 where
   pub few : length plans ≤ 64
   pub own_names : (i j : ℕ) (a b : Plan) → slice_get plans i ≡ Some a
@@ -48,11 +59,17 @@ pub record IsWiring (names : List (List ℕ)) (plans : List Plan) : Type 0 where
   pub queues : (i : ℕ) (a : Plan) → slice_get plans i ≡ Some a → 1 ≤ a.queue
   pub own_outs : (i j : ℕ) (a b : Plan) → slice_get plans i ≡ Some a → slice_get plans j ≡ Some b
       → a.out ≡ b.out → i ≡ j
+  pub timers : (i interval : ℕ) (a : Plan) → slice_get plans i ≡ Some a
+      → a.interval ≡ Some interval → IsTimer plans a interval
+  pub own_ticks : (i j m n r : ℕ) (a b : Plan) → slice_get plans i ≡ Some a
+      → slice_get plans j ≡ Some b → a.interval ≡ Some m → b.interval ≡ Some n
+      → slice_get a.readers 0 ≡ Some r → slice_get b.readers 0 ≡ Some r → i ≡ j
   pub no_cycle : (n c : ℕ) → trigger_after plans (suc n) c ≡ Some c → ⊥
 
--- A component that passes the messages of channel 0 on to channel 1.
+-- A component without ticks that passes the messages of channel 0 on to channel 1.
 pub record PassesOn (plan : Plan) : Type 0 where
   pub kind : plan.kind ≡ Pass
   pub reader : plan.readers ≡ 0 ∷ []
   pub out : plan.out ≡ 1
   pub queue : 1 ≤ plan.queue
+  pub no_ticks : plan.interval ≡ None

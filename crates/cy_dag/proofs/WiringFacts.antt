@@ -246,6 +246,9 @@ module _ (record_channels : List (List ℕ)) (cs : List DagComponent) (configs :
   after_same (suc n) c =
       ap (option_and_then (trigger_after plans n)) (trigger_same c) ∙ follow n (trigger_in (triggers_of cs configs) c) (after_same n) ∙ sym (after_first (triggers_of cs configs) n c)
 
+  no_ticks : (i interval : ℕ) (a : Plan) → slice_get plans i ≡ Some a → a.interval ≡ Some interval → ⊥
+  no_ticks i interval a h ticks = none-some interval (ap (λ (x : Plan). x.interval) (at_place i a h).is ∙ ticks)
+
   pub is_wiring : length cs ≤ 64 → components_refusal cs ≡ None → HaveQueues cs → writers_refusal configs ≡ None → cycle_refusal (triggers_of cs configs) ≡ None → IsWiring names plans
   is_wiring few tested queues apart none = record {
     few = omega (arith, length-map ps (plan_of names), length-zip cs configs);
@@ -272,6 +275,8 @@ module _ (record_channels : List (List ℕ)) (cs : List DagComponent) (configs :
         let w = at_place i a h in
         omega (arith, ap (λ (x : Plan). x.queue) w.is, queue_some w.pair.0.readers (queues i w.pair.0 w.component));
     own_outs = own_outs apart;
+    timers = λ i interval a h ticks. absurd (no_ticks i interval a h ticks);
+    own_ticks = λ i j m n r a b h k ticks other p q. absurd (no_ticks i m a h ticks);
     no_cycle = λ n c h. no_cycle (triggers_of cs configs) none n c (sym (after_same (suc n) c) ∙ h);
   }
 

@@ -1,7 +1,8 @@
 -- The wiring that a DAG and its component files describe, and the first cause for which there is
 -- none.
 use Rattle.std.specs.Prelude.{ℕ, ◌≡◌, nat_lt, if◌then◌else◌, true, List, [], ◌∷◌, ◌++◌}
-use Rattle.std.specs.Prelude.{length, map, slice_get, Option, Some, unwrap_or, option_map}
+use Rattle.std.specs.Prelude.{length, map, slice_get, Option, Some, None, unwrap_or}
+use Rattle.std.specs.Prelude.{option_map}
 use Rattle.std.specs.List.{list_any, flat_map, position, zip}
 use Rattle.std.specs.Str.{bytes_eq}
 use Rattle.cy_comp.specs.declared.plan.Plan.{Plan}
@@ -77,6 +78,7 @@ plan_of names p = record {
   overflow = p.1.overflow;
   out = number_in names p.1.out;
   out_type = p.1.out_type;
+  interval = None;
 }
 
 abbrev pub plans_of : List (List ℕ) → List (DagComponent × Config) → List Plan

@@ -1,6 +1,11 @@
 -- Lists of tokens.
-use Rattle.std.specs.Prelude.{ℕ, ◌≡◌, ◌≤◌, ◌+◌, ◌==◌, List, length, take, filter, slice_get, Some}
+use Rattle.std.specs.Prelude.{ℕ, ◌≡◌, ◌≤◌, ◌<◌, ◌+◌, ◌==◌, List, length, take, filter, slice_get}
+use Rattle.std.specs.Prelude.{Some}
 use Rattle.cy_msg.specs.declared.token.Token.{Token}
+
+-- The most messages that are played.
+abbrev pub most_played : ℕ
+most_played = 4194304
 
 -- The tokens of a channel, in order.
 abbrev pub on_channel : ℕ → List Token → List Token
@@ -15,3 +20,8 @@ IsNumbered tokens = (n : ℕ) (t : Token) → slice_get tokens n ≡ Some t
 abbrev pub IsTimed : List Token → Type 0
 IsTimed tokens = (n : ℕ) (s t : Token) → slice_get tokens n ≡ Some s → slice_get tokens (n + 1)
     ≡ Some t → s.time ≤ t.time
+
+-- Each token that has an origin has that of one of so many messages.
+abbrev pub AreOf : ℕ → List Token → Type 0
+AreOf messages tokens = (n o : ℕ) (t : Token) → slice_get tokens n ≡ Some t → t.origin ≡ Some o
+    → o < messages

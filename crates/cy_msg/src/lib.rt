@@ -21,7 +21,7 @@ pub use error::NamesError;
 pub use items::Items;
 pub use names::{MOST_NAMES, Names};
 pub use placement::{ContextPlan, MOST_PROCESSORS, Placement};
-pub use play_list::PlayList;
+pub use play_list::{MOST_PLAYED, PlayList};
 pub use quoted::push_quoted;
 pub use stop::Stop;
 pub use text::{Bytes, Text};

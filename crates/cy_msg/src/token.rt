@@ -11,8 +11,9 @@ pub struct Token {
     pub time: u64,
     /// The whole number that its content stands for, where it stands for one.
     pub whole: Option<i64>,
-    /// The place in the play list of the message whose content this one has; none where the content
-    /// is the written form of `whole`.
+    /// Which of the played messages that come from a file has the content that this one has,
+    /// counted from 0 in the order in which they are played; none where the content is the written
+    /// form of `whole`.
     pub origin: Option<u32>,
 }
 

@@ -1,5 +1,5 @@
 -- Messages that are played: their places, and their numbers.
-use Rattle.std.proofs.Common.{◌≡◌, ◌≤◌, ◌<◌, ℕ, zero, suc, ◌+◌, List, [], ◌∷◌, ◌++◌, length, take, get_or, refl, ap, sym, ◌∙◌, subst, arith, Some, None, Option, Bool, true, false, not, cond, length-append, All, slice_get, IfSome, set, inl, inr, Ok, append_assoc, append-nil, ltb-false}
+use Rattle.std.proofs.Common.{◌≡◌, ◌≤◌, ◌<◌, ℕ, zero, suc, ◌+◌, List, [], ◌∷◌, ◌++◌, length, take, get_or, refl, ap, sym, ◌∙◌, subst, arith, Some, None, Option, Bool, true, false, not, cond, length-append, length-take, All, slice_get, IfSome, set, inl, inr, Ok, append_assoc, append-nil, ltb-false}
 use Rattle.std.specs.Prelude.{filter, ◌==◌, unwrap_or, ◌&&◌, ◌⊎◌}
 use Rattle.std.specs.List.{position, Contains}
 use Rattle.std.specs.List.Sorted.{IsPermutation, IsSortedByKey, IsStableByKey}
@@ -17,7 +17,7 @@ use Rattle.std.proofs.lemmas.List.Sums.{prefix_len_passes}
 use Rattle.std.proofs.lemmas.Slice.Eq.{bytes_eq-Decides}
 use Rattle.cy_wire.specs.Whole.{whole_value}
 use Rattle.cy_msg.specs.Once.{IsOnce}
-use Rattle.cy_msg.specs.Tokens.{on_channel, IsNumbered, IsTimed}
+use Rattle.cy_msg.specs.Tokens.{on_channel, AreOf, IsNumbered, IsTimed}
 use Rattle.cy_msg.specs.declared.token.Token.{Token}
 use Rattle.cy_section.specs.declared.types.Channel.{Channel}
 use Rattle.cy_reader.specs.declared.known.Known.{Known}
@@ -92,6 +92,14 @@ module _ (number : ℕ → ℕ) (whole : Contents) where
   token_below places tokens n t is e =
       let long : length tokens ≡ length places = ap length is ∙ length-tokens [] places in
       omega (arith, slice_get_within tokens n t e)
+
+  pub origins : (places : List ℕ) (tokens : List Token) → tokens ≡ tokens_behind number whole [] places → AreOf (length places) tokens
+  origins places tokens is n o t e from =
+      let at = token-at [] places n 0 t (subst (λ (ts : List Token). slice_get ts n ≡ Some t) is e) in
+      let count : length (take n places) ≡ o = same_Some (length (take n places)) o (sym (ap (λ (u : Token). u.origin) at) ∙ from) in
+      let long = length-take n places in
+      let less = token_below places tokens n t is e in
+      omega (arith, count, long, less)
 
   pub timed : (places : List ℕ) (tokens : List Token) → IsSortedByKey (time_at whole) nat_cmp places → tokens ≡ tokens_behind number whole [] places → IsTimed tokens
   timed places tokens sorted is n s t first second =

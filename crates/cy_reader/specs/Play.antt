@@ -7,6 +7,7 @@ use Rattle.std.specs.List.Sorted.{IsPermutation, IsSortedByKey, IsStableByKey}
 use Rattle.std.specs.Ordering.{nat_cmp}
 use Rattle.std.specs.Str.{bytes_eq}
 use Rattle.cy_wire.specs.Whole.{whole_value}
+pub use Rattle.cy_msg.specs.Tokens.{most_played}
 use Rattle.cy_msg.specs.declared.token.Token.{Token}
 use Rattle.cy_msg.specs.declared.play_list.PlayList.{PlayList}
 use Rattle.cy_request.specs.declared.filter.Filter.{Filter}
@@ -14,10 +15,6 @@ use Rattle.cy_request.specs.Filter.{lets_channel, lets_time}
 use Rattle.cy_reader.specs.declared.error.LoadError.{LoadError}
 use Rattle.cy_reader.specs.declared.error.LoadError.TheVariants.{TooManyPlayed, Memory}
 use Rattle.cy_reader.specs.Record.{Contents, Message, named_only}
-
--- The most messages that are played.
-abbrev pub most_played : ℕ
-most_played = 4194304
 
 -- What a record is played by: the names of the channels in the order of their numbers, the filter,
 -- and the numbers of the channels that components write.

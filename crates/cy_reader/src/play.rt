@@ -10,13 +10,10 @@ ghost use Rattle.cy_reader.specs.private.Uses.{AreUses, use_of, use_at, number_b
 ghost use Rattle.cy_reader.specs.private.Uses.{ArePassed, LooksAt, AreInOrder};
 
 use crate::{ChannelSet, LoadError, Record};
-use cy_msg::{Items, Names, PlayList, Token};
+use cy_msg::{Items, MOST_PLAYED, Names, PlayList, Token};
 use cy_request::Filter;
 use cy_wire::whole_of;
 use std::alloc::Global;
-
-/// The most messages that are played.
-const MOST_PLAYED: usize = 4_194_304;
 
 // What becomes of the messages of one channel.
 #[derive(Clone, Copy)]

@@ -219,7 +219,7 @@ few_up_to time (t ∷ rest) = by (nat_le t.time time) (few_up_to time rest)
     by false few = omega (arith, few)
 
 no_plan : Plan
-no_plan = record { name = []; kind = Pass; readers = []; queue = 1; overflow = Newest; out = 0; out_type = [] }
+no_plan = record { name = []; kind = Pass; readers = []; queue = 1; overflow = Newest; out = 0; out_type = []; interval = None }
 
 stop_within : (asked : Option StopAt) (w : Wired) (tokens : List Token) (s : Stop) → stop_of asked w tokens ≡ Some s → (s.component < length w.plans) × (s.after ≤ length tokens)
 stop_within None w tokens s given = absurd cc

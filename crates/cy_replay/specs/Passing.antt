@@ -1,6 +1,6 @@
 -- One component that passes messages on, as configuration files would have it.
 use Rattle.std.specs.Prelude.{ℕ, ◌≢◌, ◌≡◌, nat_lt, if◌then◌else◌, List, [], ◌∷◌, ◌++◌, length}
-use Rattle.std.specs.Prelude.{codes}
+use Rattle.std.specs.Prelude.{codes, None}
 use Rattle.cy_store.specs.Reads.{Reads, Accepts, Refuses}
 use Rattle.cy_fuse.specs.declared.overflow.Overflow.TheVariants.{Newest}
 use Rattle.cy_comp.specs.declared.kind.Kind.TheVariants.{Pass}
@@ -56,6 +56,7 @@ pass_wired names from to message_type = record {
     overflow = Newest;
     out = number_in names to;
     out_type = message_type;
+    interval = None;
   } ∷ [];
 }
 

@@ -97,7 +97,8 @@ fn add(names: &mut Names, alloc: Global, name: &str) -> Result<(), CoreError>
 fn plan(alloc: Global, kind: Kind, readers: &[u32], queue: u32, out: u32) -> Result<Plan, CoreError>
     ensures kind { IfOk result (λ p. p.kind ≡ kind) }
     ensures wired { IfOk result (λ p. (p.readers ≡ readers.now) × (p.queue ≡ queue)
-        × (p.overflow ≡ overflow.Newest) × (p.out ≡ out)) }
+        × (p.overflow ≡ overflow.Newest) × (p.out ≡ out)
+        × (p.interval ≡ None)) }
     ensures memory { IfErr result (λ e. e ≡ CoreError.Memory) }
 {
     Ok(Plan {
@@ -108,6 +109,7 @@ fn plan(alloc: Global, kind: Kind, readers: &[u32], queue: u32, out: u32) -> Res
         overflow: Overflow::Newest,
         out,
         out_type: text(alloc, "")?,
+        interval: None,
     })
 }
 

@@ -58,6 +58,7 @@ fn wiring(rt: &HostRuntime, channels: &[&str], rows: &[Row]) -> Result<Wiring, F
             overflow: Overflow::Newest,
             out: *out,
             out_type: Text::new(rt.alloc(), "")?,
+            interval: None,
         })?;
     }
     Ok(Wiring::new(names, Items::new(plans)))

@@ -84,6 +84,7 @@ pub fn pass_wiring(rt: &HostRuntime) -> Result<Wiring, Fail> {
         overflow: Overflow::Newest,
         out: 1,
         out_type: Text::new(rt.alloc(), "U")?,
+        interval: None,
     };
     Ok(Wiring::of_one(names, Items::new(vec![in rt.alloc(); plan]?)))
 }

@@ -5,5 +5,6 @@ mod messages;
 mod played;
 mod stops;
 mod threads;
+mod timers;
 mod wired;
 mod worlds;

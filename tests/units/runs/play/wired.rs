@@ -30,6 +30,7 @@ fn plan(rt: &HostRuntime, inputs: u32, row: u8, kind: Kind, readers: &[u32]) -> 
         overflow: Overflow::Newest,
         out: inputs + u32::from(row),
         out_type: Text::new(rt.alloc(), "")?,
+        interval: None,
     })
 }
 
@@ -63,6 +64,19 @@ pub(crate) fn holding(rt: &HostRuntime, overflows: &[Overflow]) -> Result<Wiring
         let mut plan = plan(rt, 1, row as u8, Kind::Hold { delay: 100 }, &[0])?;
         plan.queue = 2;
         plan.overflow = *overflow;
+        plans.push(plan)?;
+    }
+    Ok(Wiring::new(names, Items::new(plans)))
+}
+
+/// A wiring of components that count what they read, each a channel of its own, from 0 on; those
+/// with an interval have ticks there.
+pub(crate) fn ticked(rt: &HostRuntime, intervals: &[Option<u32>]) -> Result<Wiring, Fail> {
+    let names = names(rt, &["/a", "/b", "/c", "/d", "/e", "/f", "/g", "/h"])?;
+    let mut plans = Vec::new(rt.alloc());
+    for (row, interval) in intervals.iter().enumerate() {
+        let mut plan = plan(rt, 4, row as u8, Kind::Count, &[row as u32])?;
+        plan.interval = *interval;
         plans.push(plan)?;
     }
     Ok(Wiring::new(names, Items::new(plans)))

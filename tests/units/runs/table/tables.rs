@@ -19,6 +19,7 @@ fn pass_wiring(rt: &HostRuntime) -> Result<Wiring, Fail> {
         overflow: Overflow::Newest,
         out: 1,
         out_type: Text::new(rt.alloc(), "T")?,
+        interval: None,
     };
     Ok(Wiring::of_one(names, Items::new(vec![in rt.alloc(); plan]?)))
 }

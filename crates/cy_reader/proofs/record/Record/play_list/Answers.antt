@@ -2,11 +2,12 @@ use Rattle.std.proofs.Common.{◌≡◌, ◌<◌, ◌≤◌, ◌∙◌, ℕ, Lis
 use Rattle.std.specs.List.Sorted.{IsPermutation, IsSortedByKey}
 use Rattle.std.specs.Ordering.{nat_cmp}
 use Rattle.std.proofs.lemmas.List.Sorted.{length_permutation}
+use Rattle.cy_msg.specs.Tokens.{AreOf}
 use Rattle.cy_reader.specs.declared.play.ChannelUse.{ChannelUse}
 use Rattle.cy_reader.specs.declared.error.LoadError.TheVariants.{TooManyPlayed}
 use Rattle.cy_reader.specs.Play.{Choice, all_places, chosen, most_played, time_at, tokens_behind}
 use Rattle.cy_reader.specs.private.Uses.{number_by, played_by, shadowed_by}
-use Rattle.cy_reader.proofs.Playing.{played-is, places-inside, numbers-below, answered, timed, numbered, length-tokens}
+use Rattle.cy_reader.proofs.Playing.{played-is, places-inside, numbers-below, answered, timed, numbered, origins}
 use Rattle.cy_reader.proofs.record.Record.play_list.Goals as goal
 
 pub returns-then-len-gt-MOST_PLAYED : goal.returns-then-len-gt-MOST_PLAYED
@@ -73,7 +74,7 @@ invariant_of-result c =
     record {
       timed = timed number whole places c.new.result by_time tokens;
       numbered = numbered number whole places c.new.result tokens;
-      placed = ap length c.new-2.ensures ∙ sym (ap length c.deref-3.ensures.value) ∙ sym (ap length tokens ∙ length-tokens number whole [] places);
+      origins = subst (λ (ps : List ℕ). AreOf (length ps) c.new.result) (c.deref-3.ensures.value ∙ sym c.new-2.ensures) (origins number whole places c.new.result tokens);
     }
 
 pub returns : goal.returns

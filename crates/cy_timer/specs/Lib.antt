@@ -1,0 +1,5 @@
+pub mod Laws
+pub mod Merged
+pub mod Ticks
+pub mod Timers
+pub mod private
