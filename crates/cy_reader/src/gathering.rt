@@ -5,7 +5,8 @@ ghost use Rattle.cy_msg.specs.Answer.{AnswersOr};
 ghost use Rattle.cy_wire.specs.Field.{fields_of};
 ghost use Rattle.cy_section.specs.Reading.{messages_of};
 ghost use Rattle.cy_reader.specs.Heads.{section_head};
-ghost use Rattle.cy_reader.specs.Record.{body_met, section_met, sections_met, nothing, longest_file};
+ghost use Rattle.cy_reader.specs.Record.{body_met, section_met, sections_met, nothing};
+ghost use Rattle.cy_reader.specs.Record.{longest_file};
 ghost use Rattle.cy_reader.specs.private.Cutting.{seen_part};
 ghost use Rattle.cy_reader.specs.private.Found.{seen_section};
 ghost use Rattle.cy_reader.specs.private.Loading.{IsSound, Leads, met_of};
@@ -124,7 +125,8 @@ pub(crate) fn heads_in(
     first: PlacedHead,
     parts: &[Part],
 ) -> Result<Vec<PlacedHead>, LoadError>
-    ensures heads { IfOk result (λ v. v.items ≡ first ∷ map section_head (map seen_part parts.now)) }
+    ensures heads { IfOk result (λ v. v.items
+        ≡ first ∷ map section_head (map seen_part parts.now)) }
     ensures only_memory { IsOkUnless result LoadError.Memory }
 {
     let mut heads = Vec::new(alloc);

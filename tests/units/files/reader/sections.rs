@@ -135,7 +135,8 @@ const THREE_CHUNKS: &[(u64, usize)] = &[(0, 3), (0, 0), (30, 2_500_000), (60, 1)
 
 #[test]
 fn agrees_with_the_reading_whole(rt: HostRuntime) -> Result<(), Fail> {
-    assert_eq!(rt; answers(&rt, rt.alloc(), record_of(rt.alloc(), THREE_CHUNKS)?.as_slice())?, None);
+    let chunks = record_of(rt.alloc(), THREE_CHUNKS)?;
+    assert_eq!(rt; answers(&rt, rt.alloc(), chunks.as_slice())?, None);
     assert_eq!(rt; answers(&rt, rt.alloc(), made_record(rt.alloc(), 3_000)?.as_slice())?, None);
     let bytes = record_of(rt.alloc(), &[(1, 2), (50, 3)])?;
     for size in 0..bytes.len() {
