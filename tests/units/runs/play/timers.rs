@@ -38,16 +38,13 @@ fn timers_of(rt: &HostRuntime, rows: &[(u32, u32)]) -> Result<Vec<Timer>, Fail> 
     Ok(timers)
 }
 
-fn check(rt: &HostRuntime, row: &Merged<'_>) -> Result<(), Fail> {
-    let messages = list(rt, row.messages)?;
-    let timers = timers_of(rt, row.timers)?;
-    let all = merge(rt.alloc(), &messages, &timers)?;
-    assert_eq!(rt; all.tokens.as_slice().len(), row.all.len());
-    for (found, wanted) in all.tokens.as_slice().iter().zip(row.all) {
-        assert_eq!(rt; *found, token(wanted));
+// The tokens of some rows.
+fn tokens_of(rt: &HostRuntime, rows: &[Row]) -> Result<Vec<Token>, Fail> {
+    let mut tokens = Vec::new(rt.alloc());
+    for row in rows {
+        tokens.push(token(row))?;
     }
-    assert_eq!(rt; all.places.as_slice(), messages.places.as_slice());
-    Ok(())
+    Ok(tokens)
 }
 
 // Between messages that stand at no multiple of the interval, at the times of messages, with two
@@ -94,7 +91,10 @@ fn puts_ticks_behind_messages_of_their_time(rt: HostRuntime) -> Result<(), Fail>
         },
     ];
     for row in &rows {
-        check(&rt, row)?;
+        let messages = list(&rt, row.messages)?;
+        let all = merge(rt.alloc(), &messages, &timers_of(&rt, row.timers)?)?;
+        assert_eq!(rt; all.tokens.as_slice(), tokens_of(&rt, row.all)?.as_slice());
+        assert_eq!(rt; all.places.as_slice(), messages.places.as_slice());
     }
     Ok(())
 }
