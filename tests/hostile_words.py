@@ -25,7 +25,7 @@ NAMES = [
     b"\\n", b"#", b"{}", b"%n%s", b"$(id)", b"`", b"*", b"a-", "é".encode(), "\u202e".encode(), "\U0010ffff".encode(), b"x" * 4096,
 ]  # fmt: skip
 WITH_COMMAS = [b",", b"a,b", b"p,"]
-LONG = b"x" * 100_000  # longer than a record may have the name of a channel
+LONG = b"x" * 10_000  # longer than a record may have the name of a channel
 # No words of any form: a name that is no UTF-8, or that a word would begin with a `-` for.
 NO_NAMES = [b"\xff", b"p\xff", b"\xc0\x80", b"\xed\xa0\x80", b"\xf4\x90\x80\x80", b"\xc3", b"-p", b"--stop", b"-"]
 NO_TIMES = [
