@@ -203,7 +203,8 @@ def spoiled_record(data, chance):
 
 
 TOKENS = [
-    *(it.encode() for it in WORDS), b"00", b"08", b"0x", b"0xfffffffffffffffff", b"1.", b".5", b".", b"1e5", b"1e", b"1e+", b"1f", b"1x", b"9" * 5000,
+    *(it.encode() for it in WORDS), b"00", b"08", b"0x", b"0xfffffffffffffffff", b"1.", b".5", b".", b"1e5", b"1e", b"1e+", b"1f", b"1x",
+    b"9" * 5000,
     b'""', b"''", b'"', b"'", b'"\\q"', b'"\\400"', b'"\\x"', b'"\\u12"', b'"\\ud800"', b'"\\U00110000"', b'"\\U0010ffff"', b'"\\377\\0"',
     b'"' + b"a" * 100_000 + b'"', b'"' + EVERY_BYTE.replace(b"\n", b"").replace(b'"', b"").replace(b"\\", b"") + b'"', b'"\xff"',
     *(bytes([it]) for it in b"{}<>[]:,;-#\0\v\f\r\n"), b"- -", b"- 1", b"[a.b]: 1", b"[a/b] { }", b"#" + b"x" * 100_000, b"x" * 100_000,
@@ -213,7 +214,10 @@ TOKENS = [
 
 def change_token(text, chance):
     """A token is left out, doubled, or another one stands before it or in its place."""
-    tokens = [it for _, it in tokens_of(text)] or [b""]
+    try:
+        tokens = [it for _, it in tokens_of(text)] or [b""]
+    except ValueError:  # it is damaged already
+        return spoiled_bytes(text, chance)
     for _ in range(chance.choice([1, 1, 2])):
         at = chance.randrange(len(tokens))
         token, other = tokens[at], chance.choice(TOKENS)
@@ -242,7 +246,7 @@ def change_string(text, chance):
 
 def repeat_message(text, chance):
     """A field with a message comes up to some thousand times."""
-    found = list(re.finditer(rb"\w+ \{[^{}]*(?:\{[^{}]*\}[^{}]*)*\}", text))
+    found = list(re.finditer(rb"\b[a-z_]{1,40} \{[^{}]{0,400}(?:\{[^{}]{0,400}\}[^{}]{0,400}){0,8}\}", text[:20_000]))
     if not found:
         return text * 3
     begin, end = chance.choice(found).span()
@@ -251,7 +255,8 @@ def repeat_message(text, chance):
 
 def deepen(text, chance):
     """Messages stand in one another, up to some thousand, or as many of them as may be."""
-    opening, closing = chance.choice([(b"a{", b"}"), (b"a<", b">"), (b"a:{", b"}"), (b"a:[{", b"}]"), (b"a[<", b">]"), (b"a{a:1 ", b"}"), (b"a:[", b"]")])
+    pairs = [(b"a{", b"}"), (b"a<", b">"), (b"a:{", b"}"), (b"a:[{", b"}]"), (b"a[<", b">]"), (b"a{a:1 ", b"}"), (b"a:[", b"]")]
+    opening, closing = chance.choice(pairs)
     depth = chance.choice([1, 62, 63, 64, 65, 66, 1000, 5000, 50_000])
     nested = opening * depth + closing * chance.choice([depth, depth, 0, depth - 1, depth + 1])
     at = chance.choice([0, len(text), chance.randint(0, len(text))])

@@ -17,7 +17,7 @@ configuration file, or what a play wrote. They are given to the commands that re
 Prints what was run and what most was taken. Where a run isn't as it has to be, its files stay in a folder, which is printed with the case's
 number; the case comes again with COUNT 1 and that number as FIRST. Ends with status 1 where there is such a run.
 
-What a run takes is seen from that on what this script itself takes, since a process begins as a copy of the one that starts it.
+A process begins as large as the one that starts it, so what a run takes is seen from what Python takes on, about 20 MB.
 """
 import glob
 import os
@@ -31,6 +31,7 @@ import tempfile
 import time
 from collections import Counter
 from dataclasses import dataclass
+from multiprocessing import Pipe, Process
 
 HERE = os.path.dirname(os.path.abspath(__file__))
 sys.path.insert(0, os.path.join(HERE, "..", "tools"))
@@ -42,6 +43,7 @@ from strict import Bad, read_trace
 
 MB = 2**20
 LONGEST_TIME = 1.0  # seconds of a processor
+TRIES = 3  # of which the shortest counts: where the machine is a guest of another one, the time for which that stops it is counted too
 LONGEST_WAIT = 60  # seconds of the clock
 MOST_MEMORY = 64 * MB
 ROOM = {False: 2**30, True: 2**34}  # bytes of addresses: a run that asks for more is told that there is no memory. Threads reserve much
@@ -102,8 +104,9 @@ def ended(child):
     return os.waitstatus_to_exitcode(status), used
 
 
-def run(program, words, streams):
-    """Runs the program itself, without its launcher, with both streams in files and with the signals as they are by default."""
+def taken(program, words, streams):
+    """Runs the program itself, without its launcher, with both streams in files and with the signals as they are by default: its status,
+    and what it took in seconds and bytes."""
     actions = [(os.POSIX_SPAWN_OPEN, 0, os.devnull, os.O_RDONLY, 0)]
     for number, path in enumerate(streams, 1):
         actions.append((os.POSIX_SPAWN_OPEN, number, path, os.O_WRONLY | os.O_CREAT | os.O_TRUNC, 0o600))
@@ -111,7 +114,17 @@ def run(program, words, streams):
     resource.setrlimit(resource.RLIMIT_AS, (ROOM[is_threaded], resource.RLIM_INFINITY))
     child = os.posix_spawn(program, [program, *words], os.environ, file_actions=actions, setsigdef=[signal.SIGPIPE, signal.SIGXFSZ])
     status, used = ended(child)
-    return Run(words, status, *map(read, streams), used.ru_utime + used.ru_stime, used.ru_maxrss * 1024)
+    return status, used.ru_utime + used.ru_stime, used.ru_maxrss * 1024
+
+
+def serve(asked):
+    """Runs what is asked for. A process begins as large as the one that starts it, so that one does nothing else, and stays small."""
+    signal.signal(signal.SIGALRM, end_late)
+    resource.setrlimit(resource.RLIMIT_CORE, (0, 0))
+    while True:
+        folder, *words = asked.recv()
+        os.chdir(folder)
+        asked.send(taken(*words))
 
 
 def stamped():
@@ -176,17 +189,21 @@ def written_as_told(ran):
 class Suite:
     def __init__(self, program, folder):
         self.program, self.folder = program, folder
+        self.runner, runner = Pipe()
+        Process(target=serve, args=(runner,), daemon=True).start()
         self.streams = [os.path.join(folder, it) for it in ("stdout", "stderr")]
         self.counts, self.base = Counter(), 0
         self.seconds, self.memory = (0, ""), (0, "")
 
+    def run(self, words):
+        self.runner.send((os.getcwd(), self.program, words, self.streams))
+        status, seconds, memory = self.runner.recv()
+        return Run(words, status, *map(read, self.streams), seconds, memory)
+
     def measure_base(self):
-        """What a run on a small record takes, which a damaged one may take too."""
-        chance = random.Random("base")
-        words = write_files(chance)
-        runs = [run(self.program, ["info", "in.rec"], self.streams), run(self.program, play_words(words, ["--serial"]), self.streams)]
-        self.base = max(it.memory for it in runs)
-        return runs
+        """What runs on a small record take, which others may take too."""
+        words = write_files(random.Random("base"))
+        self.base = max(self.run(it).memory for it in (["info", "in.rec"], play_words(words, ["--serial"])))
 
     def takes_little(self, ran, before):
         above = ran.memory - self.base - sum(before.values())
@@ -198,8 +215,11 @@ class Suite:
     def looked_at(self, words):
         """Runs the program on the folder's files, and looks at all that is promised of it."""
         before = stamped()
-        ran = run(self.program, words, self.streams)
+        ran = self.run(words)
         looks_as_promised(ran, changed_since(before))
+        for _ in range(TRIES - 1):
+            if ran.seconds > LONGEST_TIME:
+                ran.seconds = min(ran.seconds, self.run(words).seconds)
         if ran.is_done and words[0] in ("play", "pass"):
             written_as_told(ran)
         self.takes_little(ran, before)
@@ -319,15 +339,14 @@ def report(suite, count, faults, seconds):
         statuses[TOLD[status]] += number
     told = "; ".join(", ".join(f"{name} {number}" for name, number in it.most_common()) for it in (commands, statuses))
     print(f"{count} hostile cases, {sum(commands.values())} runs ({told}) in {seconds:.0f} s, {faults or 'none'} amiss")
-    print(f"a run on a small record takes {suite.base / MB:.1f} MB; at most {suite.memory[0] / MB:.1f} MB above that and the files: {suite.memory[1]}")
+    above, words = suite.memory
+    print(f"a run on a small record takes {suite.base / MB:.1f} MB; at most {above / MB:.1f} MB above that and the files: {words}")
     print(f"at most {suite.seconds[0]:.3f} seconds of a processor: {suite.seconds[1]}")
 
 
 def main():
     program, count, seed = os.path.abspath(sys.argv[1]), int(sys.argv[2]), int(sys.argv[3])
     first = int(sys.argv[4]) if len(sys.argv) > 4 else 0
-    signal.signal(signal.SIGALRM, end_late)
-    resource.setrlimit(resource.RLIMIT_CORE, (0, 0))
     begun, faults = time.monotonic(), 0
     with tempfile.TemporaryDirectory() as folder:
         suite = Suite(program, folder)

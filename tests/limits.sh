@@ -15,6 +15,7 @@ THREADS='play --dag d.dag --record in.rec --out out.rec --trace trace'
 VERIFY='verify --dag d.dag --record in.rec --out done.rec --trace done.trace'
 PASS='pass in.rec out.rec trace /in /out'
 DONE='done: played 1000, shadowed 0, calls 1000, written 2000'
+LAWFUL='lawful: played 1000, shadowed 0, calls 1000, written 2000'
 
 # The launcher beside this program, in a folder of its own, where nothing is newer than the program, so that it builds nothing.
 launcher_of_program() {
@@ -40,8 +41,8 @@ files_of_a_play() {
   echo old >../want/old
 }
 
-# Runs the program or its launcher where something is set up, and compares the status and the line. An `itself` is the program with the
-# signals as they are by default. It gets room for 1 GiB, so that one that read a device without end would be noticed before the machine is
+# Runs the program or its launcher where something is set up, and compares the status and the line. An `itself` is the program with the two
+# signals of failed writes as they are by default. It gets room for 1 GiB, so that one that read a device without end would be noticed before the machine is
 # full.
 meets() { # who is run, what it meets, a command that sets it up, the words, the status, and the line, behind `cyber: ` unless it is Done
   local command=(timeout 60 "$program")
@@ -105,8 +106,8 @@ IN='in.rec: the store failed'
 TRACE='trace: the store failed'
 SINK='the output failed'
 
-# The system ends a process that writes past its limit of file size, or to a pipe whose reader has gone, unless it ignores the signal. The
-# launcher has the program ignore both, so that the write fails.
+# The system ends a process that writes past its limit of file size, unless it ignores that signal, as the launcher has it do; then the write
+# fails. The signal of a pipe whose reader has gone every program of the toolchain ignores.
 signals() {
   local gone='mkfifo p && exec 3<>p 4>p 3>&- && rm p'
   meets launched 'a limit of file size' 'ulimit -f 8' "$PASS" 3 "$OUT"
@@ -121,25 +122,23 @@ signals() {
   meets launched 'a limit of file size of nothing, for the line too' 'ulimit -f 0' "$PASS" 4 ''
   holds files/out.rec want/nothing
   lacks files/trace
-  meets launched 'a standard output whose reader has gone' "$gone && exec >&4" "$PASS" 4 "$SINK"
-  both_whole
-  meets launched 'a standard output whose reader has gone' "$gone && exec >&4" "$VERIFY" 4 "$SINK"
-  meets launched 'a standard error whose reader has gone' "$gone && rm in.rec && exec 2>&4" "$PASS" 4 ''
-  lacks files/out.rec
-  meets launched 'both streams gone' "$gone && exec >&4 2>&4" "$PASS" 4 ''
-  both_whole
-  meets itself 'a limit of file size' 'ulimit -f 8' "$PASS" 153 ''
+  meets itself 'a limit of file size' 'ulimit -f 8' "$PASS" 153 '' 2>/dev/null
   is_cut_short files/out.rec
   lacks files/trace
-  meets itself 'a standard output whose reader has gone' "$gone && exec >&4" "$PASS" 141 ''
+  meets itself 'a standard output whose reader has gone' "$gone && exec >&4" "$PASS" 4 "$SINK"
+  both_whole
+  meets itself 'a standard output whose reader has gone' "$gone && exec >&4" "$VERIFY" 4 "$SINK"
+  meets itself 'a standard error whose reader has gone' "$gone && rm in.rec && exec 2>&4" "$PASS" 4 ''
+  lacks files/out.rec
+  meets itself 'both streams gone' "$gone && exec >&4 2>&4" "$PASS" 4 ''
   both_whole
 }
 
 # Streams that are closed, with no other file open.
 closed_streams() {
-  meets launched 'a closed standard output' 'exec >&-' "$PASS" 4 "$SINK"
+  meets program 'a closed standard output' 'exec >&-' "$PASS" 4 "$SINK"
   both_whole
-  meets launched 'a closed standard error' 'rm in.rec; exec 2>&-' "$PASS" 4 ''
+  meets program 'a closed standard error' 'rm in.rec; exec 2>&-' "$PASS" 4 ''
   lacks files/out.rec
   meets program 'all streams closed' 'exec <&- >&- 2>&-' "$PASS" 4 ''
   both_whole
@@ -272,32 +271,38 @@ open_files() {
   count $? "$name: standard error got '$(cat err)'"
 }
 
-# Runs the program in more and more room for addresses. There it ends Done, or with 6 and the line of that, or a front of it. Where there is
-# too little for the C library, that says so, and no program begins (127). What is written by then is whole, or not begun, or incomplete.
+# Runs the program in more and more room for addresses, and looks at each answer: Done, or 6 with the line of that, or a front of it. Where
+# there is too little for the C library, that says so, and no program begins (127). Of what was begun before 6 the out file is whole, or of no
+# byte, or incomplete.
 memory_runs_out() { # the words, the line of Done, and the kilobytes: from, step, to
-  local room done=0 without=0
-  begin "where memory runs out, asked for '${1%% *}'"
+  local room answers=' '
+  begin "where memory runs out, asked for '$1'"
   cp -r "$work/given/." .
   for room in $(seq "$3" "$4" "$5"); do
     rm -f files/out.rec files/trace
     # shellcheck disable=SC2086
-    (cd files && ulimit -v "$room" && exec "$program" $1) >out 2>err
+    (cd files && ulimit -v "$room" && exec timeout 60 "$program" $1) >out 2>err
     status=$?
+    answers+="$status "
     case $status in
-    0)
-      done=$((done + 1))
-      ends 0 "$2" ''
-      ;;
-    6)
-      without=$((without + 1))
-      [ ! -s out ] && head -c "$(stat -c %s err)" <(echo 'cyber: out of memory') | cmp -s - err
-      count $? "$name: in $room KB it says '$(cat out err)'"
-      ;;
-    127) grep -q 'shared' err || count 1 "$name: in $room KB: '$(cat err)'" ;;
+    0) ends 0 "$2" '' ;;
+    6) tells_of_no_memory "$room" ;;
+    127) lacks files/out.rec ;;
     *) count 1 "$name: in $room KB status $status: '$(cat out err)'" ;;
     esac
   done
-  echo "$name: Done $done times, without memory $without times"
+  [[ $answers = *' 6 '*' 0 ' ]]
+  count $? "$name: the statuses are$answers"
+}
+
+# Looks at what a run leaves for which there was no memory.
+tells_of_no_memory() { # the kilobytes that there were
+  [ ! -s out ] && head -c "$(stat -c %s err)" <(echo 'cyber: out of memory') | cmp -s - err
+  count $? "$name: in $1 KB it says '$(cat out err)'"
+  lacks files/trace
+  if [ -s files/out.rec ] && ! cmp -s files/out.rec want/rec; then
+    is_cut_short files/out.rec
+  fi
 }
 
 [ "$(id -u)" -ne 0 ] || chmod 711 "$work"
@@ -310,6 +315,11 @@ odd_records
 odd_outs
 no_leave
 open_files
+memory_runs_out "$PASS" "$DONE" 3000 50 4200
+memory_runs_out "$PLAY" "$DONE" 3000 50 4200
+memory_runs_out "$VERIFY" "$LAWFUL" 3000 50 4200
+# What the launcher asks the C library for.
+GLIBC_TUNABLES=$(sed -n 's/.*GLIBC_TUNABLES:-\(.*\)}$/\1/p' "$top/cyber") memory_runs_out "$PLAY" "$DONE" 20000 20000 160000
 
 echo "$passed passed, $failed failed"
 [ "$failed" -eq 0 ]
