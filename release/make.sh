@@ -76,7 +76,7 @@ fill_stage() {
   python3 "$top/release/manual.py" "$top/docs/COMMANDS.md" "$version" "$date" | gzip -9n >"$stage/usr/share/man/man1/cyber.1.gz"
   install -m 644 "$top/release/cyber.bash" "$stage/usr/share/bash-completion/completions/cyber"
   install -m 644 "$top/release/cyber.zsh" "$stage/usr/share/zsh/vendor-completions/_cyber"
-  (cd "$top" && git ls-files examples docs README.md) | while read -r file; do
+  (cd "$top" && git ls-files examples docs README.md release/README.md bench/README.md) | while read -r file; do
     install -D -m 644 "$top/$file" "$doc/$file"
   done
   write_proved >"$doc/PROVED"
