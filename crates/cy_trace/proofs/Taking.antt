@@ -1,5 +1,5 @@
 -- Lines that are taken off the front of a text as they stand.
-use Rattle.std.proofs.Common.{ℕ, ◌≡◌, ◌+◌, ◌≤◌, List, [], ◌∷◌, ◌++◌, length, map, flat_map, Some, refl, ap, sym, ◌∙◌, arith, append_assoc}
+use Rattle.std.proofs.Common.{ℕ, ◌≡◌, ◌+◌, ◌≤◌, List, [], ◌∷◌, ◌++◌, length, map, flat_map, Some, ap, sym, ◌∙◌, arith, append_assoc}
 use Rattle.std.proofs.lemmas.List.{append-nil, length-append, length-map, map-append}
 use Rattle.std.proofs.lemmas.List.Concat.{flat_map-append}
 use Rattle.std.specs.Option.{option_and_then}
@@ -7,7 +7,7 @@ use Rattle.cy_fuse.specs.declared.overflow.Overflow.{Overflow}
 use Rattle.cy_trace.specs.LineOrder.{after_line}
 use Rattle.cy_trace.specs.TraceForm.{AreLines, line_text, whole_line}
 use Rattle.cy_trace.specs.TraceText.{told}
-use Rattle.cy_trace.specs.private.Fronts.{ReadsOn, TakesCalls, TakesMessages}
+use Rattle.cy_trace.specs.private.Fronts.{ReadsOn}
 use Rattle.cy_trace.specs.declared.building.Building.{Building}
 use Rattle.cy_trace.specs.declared.building.Building.TheVariants.{Start, Called, Taped}
 use Rattle.cy_trace.specs.declared.building.Prefix.{Prefix}

@@ -65,6 +65,28 @@ fn none<T>(alloc: Global) -> Items<T>
     Items::new(Vec::new(alloc))
 }
 
+// No calls, with room for one for each of these arrivals that may trigger it, where there is memory:
+// what isn't used of it is never touched.
+fn room_for_calls(alloc: Global, roles: &[u8]) -> Items<TraceCall>
+    ensures { result ≡ [] }
+{
+    let most = roles.iter().filter(|role| **role == 0).count();
+    let mut calls = Vec::new(alloc);
+    match calls.reserve_exact(most) {
+        Ok(()) | Err(_) => Items::new(calls),
+    }
+}
+
+// The most messages that a tape has behind these components, of which each call puts out one at
+// most.
+fn most_taped(played: u32, components: &[TraceComponent]) -> usize {
+    let mut most = played as usize;
+    for component in components {
+        most = most.saturating_add(component.calls.as_slice().len());
+    }
+    most
+}
+
 impl Prefix {
     // The same with one more component.
     fn with(self, component: TraceComponent) -> Result<Prefix, Fault>
@@ -207,7 +229,10 @@ fn behind_component(alloc: Global, prefix: Prefix, line: Line) -> Result<Buildin
 {
     match line {
         Line::Component(name, told) => prefix.named(name, told),
-        Line::Tape(entry) => prefix.taped(alloc, Tape::new(alloc), entry),
+        Line::Tape(entry) => {
+            let most = most_taped(prefix.played, prefix.components.as_slice());
+            prefix.taped(alloc, Tape::with_room(alloc, most), entry)
+        }
         line => {
             drop(prefix);
             drop(line);
@@ -227,7 +252,10 @@ fn behind_name(
     ensures { Gives result (after_line (building.Named prefix name overflow) line) }
 {
     match line {
-        Line::Roles(roles) => Ok(Building::Called(prefix, name, overflow, roles, none(alloc))),
+        Line::Roles(roles) => {
+            let calls = room_for_calls(alloc, roles.as_slice());
+            Ok(Building::Called(prefix, name, overflow, roles, calls))
+        }
         line => {
             drop(prefix);
             drop(name);

@@ -42,6 +42,18 @@ impl Tape {
         }
     }
 
+    // No message yet, with room for so many, where there is memory: what isn't used of it is never
+    // touched.
+    pub(crate) fn with_room(alloc: Global, most: usize) -> Self
+        ensures { result ≡ [] }
+    {
+        let names = Vec::new(alloc);
+        let mut messages = Vec::new(alloc);
+        match messages.reserve_exact(most) {
+            Ok(()) | Err(_) => Tape { names, messages },
+        }
+    }
+
     /// The names, and the messages by the numbers of these.
     pub fn parts(&self) -> (&[TapeName], &[NamedSeq])
         ensures told { told_by result.0.now result.1.now ≡ self.now }
