@@ -1,6 +1,8 @@
 // Each call of the store fails in turn, and what stands then.
 use super::ran::{PASS, Ran, ends, run, store_of};
 use super::samples::{TRACE, in_record, open_record, out_record};
+use cy_reader::{LoadError, load};
+use cy_section::SectionError;
 use cy_store::MemStore;
 use cyber_cli::Status;
 use std::alloc::Global;
@@ -93,5 +95,43 @@ fn fails_each_call_in_turn(rt: HostRuntime) -> Result<(), Fail> {
     }
     let done = failing_at(alloc, CALLS + 1, 0)?;
     assert_eq!(rt; done.status, Status::Done);
+    Ok(())
+}
+
+// What a piece may have kept: nothing, a byte, half of it, and all.
+fn kept_of(piece: usize) -> [usize; 4] {
+    let size = match piece {
+        6 => ENDS[1],
+        _ => ENDS[piece + 1] - ENDS[piece],
+    };
+    [0, 1, size / 2, size]
+}
+
+// What is read of the record of which this piece kept so many bytes: how many messages it has, or
+// its fault. The index is not read, but its head is.
+fn read_of(piece: usize, keep: usize) -> Result<u32, LoadError> {
+    let at = ENDS[piece] as u64;
+    match (piece, keep) {
+        (0, 0..=15) => Err(LoadError::NotRecord),
+        (0, 16..=2063) => Err(LoadError::Section(SectionError::Cut { at: 0 })),
+        (0..=3, 0) | (0, _) => Ok(0),
+        (1..=4, _) if keep == ENDS[piece + 1] - ENDS[piece] => Ok(if piece == 4 { 2 } else { 0 }),
+        (4, 0) => Ok(0),
+        (5, 0) | (6, _) => Ok(2),
+        (5, 16..) => Ok(2),
+        _ => Err(LoadError::Section(SectionError::Cut { at })),
+    }
+}
+
+#[test]
+fn reads_what_a_piece_left_that_failed(rt: HostRuntime) -> Result<(), Fail> {
+    let alloc = rt.alloc();
+    for piece in 0..ENDS.len() {
+        for keep in kept_of(piece) {
+            let mut store = failing_at(alloc, FIRST_PUT + piece, keep)?.store;
+            let read = load(alloc, &mut store, "out.rec").map(|record| record.messages());
+            assert_eq!(rt; read, read_of(piece, keep), "{piece} {keep}");
+        }
+    }
     Ok(())
 }

@@ -143,3 +143,20 @@ fn opens_64_messages_and_refuses_65(rt: HostRuntime) -> Result<(), Fail> {
     }
     Ok(())
 }
+
+// Where a text is cut, it is still one before its first field, behind the first one, and within the
+// number of the second wherever that is one.
+#[test]
+fn names_a_fault_at_every_cut(rt: HostRuntime) {
+    let text = b"a < b: 010 ; c: \"x\" 'y' >\nzz: 1.5e3f";
+    for end in 0..=text.len() {
+        let is_text = matches!(end, 0 | 25..=26 | 31..=33 | 35..=36);
+        match parse(rt.alloc(), &text[..end]) {
+            Ok(_) => assert!(rt; is_text, "{end}"),
+            Err(error) => {
+                assert!(rt; !is_text, "{end}");
+                assert!(rt; matches!(error, TextError::Bad { .. }), "{end}");
+            }
+        }
+    }
+}
