@@ -25,7 +25,8 @@ use Rattle.cy_request.specs.declared.filter.Filter.{Filter}
 use Rattle.wake_core.specs.TapeLaws.{PutLaws}
 use Rattle.cy_reader.specs.declared.known.Known.{Known}
 use Rattle.cy_reader.specs.Record.{Contents, named_only}
-use Rattle.cy_reader.specs.Play.{Choice, PlayAnswer, IsPlayList, AreNamed, chosen, most_played}
+use Rattle.cy_reader.specs.Play.{Choice, PlayAnswer, IsPlayList, AreNamed, chosen, most_played, number_at}
+use Rattle.cy_reader.proofs.Playing.{length-tokens}
 use Rattle.wake_core.specs.Run.{routes_of}
 use Rattle.wake_core.specs.Planned.{planned}
 use Rattle.wake_core.specs.declared.entries.TheConstants.{MOST_PLANNED}
@@ -162,12 +163,12 @@ module _ (file : List ℕ) (r : Request) (conf : Configuration) (recorded : Cont
         (subst (λ cs. planned_in r.input (wired_by w) cs ≡ Accepts n) counted fits.accepted) (judges_ok v (Accepts record { configured = configured conf; contents = recorded; wired = wired_by w }) x (ap Accepts same)))
 
 -- no more are played, and no more are planned, than can be
-pub played_few : (file : List ℕ) (whole : Contents) (choice : Choice) (list : PlayList) → (let q : Result PlayList SetupError = Ok list in IsJudged (λ (l : PlayList). length l.places) (played_in file whole choice) q) → length list.tokens < 2 ^ 32
-played_few file whole choice list listed =
+pub played_few : (file : List ℕ) (whole : Contents) (choice : Choice) (list : PlayList) → IsPlayList whole choice list → (let q : Result PlayList SetupError = Ok list in IsJudged (λ (l : PlayList). length l.places) (played_in file whole choice) q) → length list.tokens < 2 ^ 32
+played_few file whole choice list is listed =
     let fits = limited_fits file most_played (λ n. fault.Record (TooManyPlayed n)) (length (chosen whole choice)) (length list.places) listed.accepted in
     let few = fits.0 in
     let same = fits.1 in
-    let placed = list.placed in
+    let placed : length list.tokens ≡ length list.places = ap length is.tokens ∙ length-tokens (number_at whole choice) whole [] list.places in
     omega arith
 
 pub planned_few : (file : List ℕ) (w : Wired) (counts : List ℕ) (n : ℕ) → (let q : Result ℕ SetupError = Ok n in IsJudged (λ n. n) (planned_in file w counts) q) → planned (routes_of w.plans) counts ≤ MOST_PLANNED

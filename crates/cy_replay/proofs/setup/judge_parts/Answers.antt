@@ -34,7 +34,7 @@ counts_of-requires-clause-named c =
 
 pub counts_of-requires-clause-few : goal.counts_of-requires-clause-few
 counts_of-requires-clause-few c =
-    rw c.as_slice.ensures (played_few c.args.request.now.input.now c.args.recorded.now (choice_of c.args.request.now.filter.now (wired_by c.args.wiring.now)) c.in_ok-list.list c.in_ok-list.ensures.judged)
+    rw c.as_slice.ensures (played_few c.args.request.now.input.now c.args.recorded.now (choice_of c.args.request.now.filter.now (wired_by c.args.wiring.now)) c.in_ok-list.list c.in_ok-list.ensures.listed c.in_ok-list.ensures.judged)
 
 pub returns-in_err-counts-clause-judged : goal.returns-in_err-counts-clause-judged
 returns-in_err-counts-clause-judged c =
@@ -62,7 +62,7 @@ returns-in_err-placement-clause-judged c =
 
 pub stop_of-stop-requires : goal.stop_of-stop-requires
 stop_of-stop-requires c =
-    rw c.as_slice-2.ensures (played_few c.args.request.now.input.now c.args.recorded.now (choice_of c.args.request.now.filter.now (wired_by c.args.wiring.now)) c.in_ok-list.list c.in_ok-list.ensures.judged)
+    rw c.as_slice-2.ensures (played_few c.args.request.now.input.now c.args.recorded.now (choice_of c.args.request.now.filter.now (wired_by c.args.wiring.now)) c.in_ok-list.list c.in_ok-list.ensures.listed c.in_ok-list.ensures.judged)
 
 pub returns-clause-judged : goal.returns-clause-judged
 returns-clause-judged c =
