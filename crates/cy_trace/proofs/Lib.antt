@@ -28,3 +28,4 @@ pub mod Telling
 pub mod FrontLaws
 pub mod Taking
 pub mod TapeLaws
+pub mod KeptApart

@@ -1,4 +1,5 @@
 pub mod TapeLines
 pub mod OutsAfter
 pub mod Kept
+pub mod KeptCalls
 pub mod Fronts

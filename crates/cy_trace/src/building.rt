@@ -9,7 +9,7 @@ ghost use Rattle.cy_trace.specs.private.Fronts.{ReadsOn};
 use crate::fault::Fault;
 use crate::front_call::take_calls;
 use crate::line::{Line, line_of};
-use crate::{Tape, TapeEntry, Trace, TraceCall, TraceComponent};
+use crate::{Calls, Tape, TapeEntry, Trace, TraceCall, TraceComponent};
 use cy_fuse::Overflow;
 use cy_msg::{Items, Text};
 use std::alloc::Global;
@@ -35,7 +35,7 @@ pub(crate) enum Building {
     /// The name of a component.
     Named(Prefix, Text, Overflow),
     /// The roles or a call of a component.
-    Called(Prefix, Text, Overflow, Items<u8>, Items<TraceCall>),
+    Called(Prefix, Text, Overflow, Items<u8>, Calls),
     /// A message of the tape.
     Taped(Prefix, Tape),
 }
@@ -65,16 +65,12 @@ fn none<T>(alloc: Global) -> Items<T>
     Items::new(Vec::new(alloc))
 }
 
-// No calls, with room for one for each of these arrivals that may trigger it, where there is memory:
-// what isn't used of it is never touched.
-fn room_for_calls(alloc: Global, roles: &[u8]) -> Items<TraceCall>
+// No calls, with room for one for each of these arrivals that may trigger it, where there is memory.
+fn room_for_calls(alloc: Global, roles: &[u8]) -> Calls
     ensures { result ≡ [] }
 {
     let most = roles.iter().filter(|role| **role == 0).count();
-    let mut calls = Vec::new(alloc);
-    match calls.reserve_exact(most) {
-        Ok(()) | Err(_) => Items::new(calls),
-    }
+    Calls::with_room(alloc, most)
 }
 
 // The most messages that a tape has behind these components, of which each call puts out one at
@@ -82,7 +78,7 @@ fn room_for_calls(alloc: Global, roles: &[u8]) -> Items<TraceCall>
 fn most_taped(played: u32, components: &[TraceComponent]) -> usize {
     let mut most = played as usize;
     for component in components {
-        most = most.saturating_add(component.calls.as_slice().len());
+        most = most.saturating_add(component.calls.count());
     }
     most
 }
@@ -126,13 +122,13 @@ impl Prefix {
         name: Text,
         overflow: Overflow,
         roles: Items<u8>,
-        calls: Items<TraceCall>,
+        calls: Calls,
         call: TraceCall,
     ) -> Result<Building, Fault>
         ensures { Gives result (Some
             (building.Called self name overflow roles (calls ++ call ∷ []))) }
     {
-        match with(calls, call) {
+        match calls.with(call) {
             Ok(calls) => Ok(Building::Called(self, name, overflow, roles, calls)),
             Err(fault) => {
                 drop(roles);
@@ -271,7 +267,7 @@ fn behind_call(
     name: Text,
     overflow: Overflow,
     roles: Items<u8>,
-    calls: Items<TraceCall>,
+    calls: Calls,
     line: Line,
 ) -> Result<Building, Fault>
     ensures { Gives result (after_line (building.Called prefix name overflow roles calls) line) }
@@ -355,10 +351,9 @@ impl Building {
         ensures { ReadsOn self bytes.now line result.building result.rest.now result.line }
     {
         match self {
-            Building::Called(prefix, name, overflow, roles, calls) => {
-                let mut calls = calls.into_vec();
+            Building::Called(prefix, name, overflow, roles, mut calls) => {
                 let (rest, line) = take_calls(&mut calls, bytes, line);
-                let building = Building::Called(prefix, name, overflow, roles, Items::new(calls));
+                let building = Building::Called(prefix, name, overflow, roles, calls);
                 Reading {
                     building,
                     rest,

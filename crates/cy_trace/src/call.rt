@@ -136,7 +136,7 @@ fn role(byte: u8) -> Option<u8>
 fn digits(alloc: Global, bytes: &[u8]) -> Result<Items<u8>, Fault>
     ensures { Gives result (digits bytes.now) }
 {
-    let mut roles = Vec::new(alloc);
+    let mut roles = Vec::with_capacity(alloc, bytes.len())?;
     for byte in bytes {
         let Some(role) = role(*byte) else {
             return Err(Fault::Bad);

@@ -5,9 +5,8 @@ ghost use Rattle.cy_trace.specs.private.Fronts.{BeginsWith, BeginsWithParts, Tak
 ghost use Rattle.cy_trace.specs.TraceForm.{output_text, IsOutput};
 ghost use Rattle.cy_trace.specs.declared.line.Line.TheVariants as line;
 
-use crate::added::is_added;
 use crate::front::{front_byte, front_number, front_short, front_value, front_word};
-use crate::{Seqs, TraceCall, TraceOutput};
+use crate::{Calls, Seqs, TraceCall, TraceOutput};
 
 // What a call put out, of this number, behind which the bytes stand.
 #[inline(always)]
@@ -70,18 +69,14 @@ fn front_call(bytes: &[u8]) -> Option<(TraceCall, &[u8])>
 }
 
 /// Takes the calls whose lines come next, as far as they are told so.
-pub(crate) fn take_calls<'a>(
-    calls: &mut Vec<TraceCall>,
-    bytes: &'a [u8],
-    line: u32,
-) -> (&'a [u8], u32)
+pub(crate) fn take_calls<'a>(calls: &mut Calls, bytes: &'a [u8], line: u32) -> (&'a [u8], u32)
     requires { line + length bytes.now ≤ 4294967295 }
-    ensures { TakesCalls bytes.now result.0.now calls.old.items calls.new.items line result.1 }
+    ensures { TakesCalls bytes.now result.0.now calls.old calls.new line result.1 }
 {
     let mut rest = bytes;
     let mut next = line;
     while let Some((call, more)) = front_call(rest) {
-        if !is_added(calls, call) {
+        if !calls.is_added(&call) {
             return (rest, next);
         }
         rest = more;

@@ -7,10 +7,12 @@
 mod added;
 mod building;
 mod call;
+mod calls;
 mod error;
 mod fault;
 mod front;
 mod front_call;
+mod kept_call;
 mod laws;
 mod line;
 mod lines;
@@ -29,6 +31,7 @@ mod trace;
 mod typed;
 mod word;
 
+pub use calls::Calls;
 pub use error::TraceError;
 pub use laws::{
     first_bad_is_one, lines_read_back, runs_are_read_back, runs_are_traces, texts_tell_traces,

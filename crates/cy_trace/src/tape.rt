@@ -4,6 +4,7 @@ ghost use Rattle.std.specs.List.{All};
 ghost use Rattle.std.specs.Prelude.{slice_get, Some};
 ghost use Rattle.cy_trace.specs.Tapes.{told_by, entry_of};
 
+use crate::added::with_room;
 use crate::named::{NamedSeq, TapeName};
 use cy_msg::Text;
 use std::alloc::Global;
@@ -42,15 +43,13 @@ impl Tape {
         }
     }
 
-    // No message yet, with room for so many, where there is memory: what isn't used of it is never
-    // touched.
+    // No message yet, with room for so many, where there is memory.
     pub(crate) fn with_room(alloc: Global, most: usize) -> Self
         ensures { result ≡ [] }
     {
-        let names = Vec::new(alloc);
-        let mut messages = Vec::new(alloc);
-        match messages.reserve_exact(most) {
-            Ok(()) | Err(_) => Tape { names, messages },
+        Tape {
+            names: Vec::new(alloc),
+            messages: with_room(alloc, most),
         }
     }
 

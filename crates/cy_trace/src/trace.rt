@@ -1,5 +1,5 @@
 // A trace, as its lines have it.
-use crate::{Seqs, Tape};
+use crate::{Calls, Seqs, Tape};
 use cy_fuse::Overflow;
 use cy_msg::{Items, Text};
 
@@ -35,7 +35,7 @@ pub struct TraceComponent {
     pub overflow: Overflow,
     /// The role of each arrival, from 0 to 9.
     pub roles: Items<u8>,
-    pub calls: Items<TraceCall>,
+    pub calls: Calls,
     /// Whether it ended by itself.
     pub finished: bool,
     /// Where its next fetch would begin.

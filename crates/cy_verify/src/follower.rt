@@ -135,7 +135,7 @@ impl Follower {
     {
         fetches_find();
         laws::bounds();
-        let Some(call) = told.calls.as_slice().get(self.routine.calls().len()) else {
+        let Some(call) = told.calls.get(self.routine.calls().len()) else {
             return false;
         };
         if self.ended || !self.listen(plan, told.roles.as_slice(), call.tail, tape) {
@@ -173,7 +173,7 @@ impl Follower {
             × Leads (route_of plan.now) told.now stopped r self.new (tape.now ++ t ∷ []) }
     {
         fetches_find();
-        for _at in self.routine.calls().len()..told.calls.as_slice().len() {
+        for _at in self.routine.calls().len()..told.calls.count() {
             if !self.call(plan, told, tape) {
                 return None;
             }
@@ -220,7 +220,7 @@ impl Follower {
             → (result ≡ true)
             × Leads (route_of plan.now) told.now stopped r self.new tape.now }
     {
-        for _at in self.routine.calls().len()..told.calls.as_slice().len() {
+        for _at in self.routine.calls().len()..told.calls.count() {
             if !self.call(plan, told, tape) || self.routine.pending().is_some() {
                 return false;
             }

@@ -1,6 +1,6 @@
 // Texts of traces, and texts that are of none.
 use cy_fuse::Overflow;
-use cy_trace::{Trace, TraceCall, TraceError, TraceOutput, read_trace};
+use cy_trace::{Calls, Trace, TraceError, TraceOutput, read_trace};
 use std::alloc::Global;
 use std::test::Fail;
 
@@ -36,16 +36,22 @@ fn bad_line(alloc: Global, text: &[u8]) -> Result<u32, Fail> {
 }
 
 fn is_call(
-    call: &TraceCall,
+    calls: &Calls,
+    place: usize,
     position: u64,
     tail: u64,
     seqs: &[u32],
     out: Option<TraceOutput>,
 ) -> bool {
-    call.position == position
-        && call.tail == tail
-        && call.seqs.as_slice() == seqs
-        && call.out == out
+    match calls.get(place) {
+        Some(call) => {
+            call.position == position
+                && call.tail == tail
+                && call.seqs.as_slice() == seqs
+                && call.out == out
+        }
+        None => false,
+    }
 }
 
 fn is_entry(trace: &Trace, place: usize, name: &str, seq: u32) -> bool {
@@ -64,15 +70,13 @@ fn reads_a_trace(rt: HostRuntime) -> Result<(), Fail> {
     assert_eq!(rt; component.overflow, Overflow::Newest);
     assert_eq!(rt; component.roles.as_slice(), [0].as_slice());
     assert_eq!(rt; (component.finished, component.next), (false, 2));
-    let [call] = component.calls.as_slice() else {
-        return Err(Fail::from("one call"));
-    };
+    assert_eq!(rt; component.calls.count(), 1);
     let out = TraceOutput {
         seq: 1,
         time: 100,
         value: Some(7),
     };
-    assert!(rt; is_call(call, 1, 1, &[1], Some(out)));
+    assert!(rt; is_call(&component.calls, 0, 1, 1, &[1], Some(out)));
     assert_eq!(rt; trace.tape.count(), 2);
     assert!(rt; is_entry(&trace, 0, "/in", 1) && is_entry(&trace, 1, "/out", 1));
     Ok(())
@@ -145,27 +149,27 @@ end DATA_WAIT next 18446744073709551615
     };
     assert_eq!(rt; first.name.as_str(), "a\"b\\\t\n\r\u{1}\u{7f}é ");
     assert!(rt; first.finished && first.roles.as_slice().is_empty());
-    assert!(rt; first.calls.as_slice().is_empty() && first.next == 0);
+    assert!(rt; first.calls.count() == 0 && first.next == 0);
     assert_eq!(rt; second.name.as_str(), "");
     assert_eq!(rt; second.roles.as_slice(), [0, 1, 9, 2].as_slice());
     assert!(rt; !second.finished && second.next == u64::MAX);
-    let [none, least, greatest, zero, untold] = second.calls.as_slice() else {
-        return Err(Fail::from("five calls"));
-    };
+    let calls = &second.calls;
+    assert!(rt; calls.count() == 5 && calls.get(5).is_none());
     let out = |seq, time, value| Some(TraceOutput { seq, time, value });
-    assert!(rt; is_call(none, 1, u64::MAX, &[u32::MAX, 1, 2, 3], None));
+    assert!(rt; is_call(calls, 0, 1, u64::MAX, &[u32::MAX, 1, 2, 3], None));
     assert!(rt;
         is_call(
-            least,
+            calls,
+            1,
             u64::MAX,
             4,
             &[9],
             out(u32::MAX, u64::MAX, Some(i64::MIN))
         )
     );
-    assert!(rt; is_call(greatest, 3, 3, &[1, 2], out(1, 0, Some(i64::MAX))));
-    assert!(rt; is_call(zero, 4, 4, &[0, 0, 0], out(2, 5, Some(0))));
-    assert!(rt; is_call(untold, 5, 5, &[1], out(3, 6, None)));
+    assert!(rt; is_call(calls, 2, 3, 3, &[1, 2], out(1, 0, Some(i64::MAX))));
+    assert!(rt; is_call(calls, 3, 4, 4, &[0, 0, 0], out(2, 5, Some(0))));
+    assert!(rt; is_call(calls, 4, 5, 5, &[1], out(3, 6, None)));
     assert_eq!(rt; trace.tape.count(), 0);
     Ok(())
 }

@@ -28,7 +28,7 @@ returns-then-not-call-clause-stays c = stays_then c.loop-at.invariant.to.followi
 pub loop-at-preserved : goal.loop-at-preserved
 loop-at-preserved c = record {
   to = following_more c.loop-at.invariant.to c.call.ensures.stays (c.if-not-call.ensures.one refl) (sym c.pending.ensures ∙ none_of c.pending.result c.if-is_some.ensures) (c.if-not-call.ensures.called refl);
-  leads = λ stopped r lead whole. (c.if-not-call.ensures.leads stopped r (c.loop-at.invariant.leads stopped r lead whole) (can_call_on (route_of c.args.plan.now) c.args.told.now stopped r c.args.tape.now c.loop-at.self (c.loop-at.invariant.leads stopped r lead whole) whole (omega (arith, c.loop-at.invariant.to.many, c.loop-at-test.true, ap length c.as_slice-at-end.ensures)))).1;
+  leads = λ stopped r lead whole. (c.if-not-call.ensures.leads stopped r (c.loop-at.invariant.leads stopped r lead whole) (can_call_on (route_of c.args.plan.now) c.args.told.now stopped r c.args.tape.now c.loop-at.self (c.loop-at.invariant.leads stopped r lead whole) whole (omega (arith, c.loop-at.invariant.to.many, c.loop-at-test.true, c.count-at-end.ensures)))).1;
 }
 
 pub returns-clause-stays : goal.returns-clause-stays
@@ -38,14 +38,14 @@ pub returns-clause-follows : goal.returns-clause-follows
 returns-clause-follows c = λ _. c.loop-at.invariant.to.following.follows
 
 pub returns-clause-all : goal.returns-clause-all
-returns-clause-all c = λ _. all_called c.loop-at.invariant.to (rw (← c.as_slice-at-end.ensures) c.loop-at-test.false)
+returns-clause-all c = λ _. all_called c.loop-at.invariant.to (rw (← c.count-at-end.ensures) c.loop-at-test.false)
 
 pub returns-clause-leads : goal.returns-clause-leads
 returns-clause-leads c = λ stopped r lead whole. (refl, (c.loop-at.invariant.leads stopped r lead whole))
 
 pub returns-then-not-call-clause-leads : goal.returns-then-not-call-clause-leads
 returns-then-not-call-clause-leads c = λ stopped r lead whole.
-    let led = c.call.ensures.leads stopped r (c.loop-at.invariant.leads stopped r lead whole) (can_call_on (route_of c.args.plan.now) c.args.told.now stopped r c.args.tape.now c.loop-at.self (c.loop-at.invariant.leads stopped r lead whole) whole (omega (arith, c.loop-at.invariant.to.many, c.loop-at-test.true, ap length c.as_slice-at-end.ensures))) in
+    let led = c.call.ensures.leads stopped r (c.loop-at.invariant.leads stopped r lead whole) (can_call_on (route_of c.args.plan.now) c.args.told.now stopped r c.args.tape.now c.loop-at.self (c.loop-at.invariant.leads stopped r lead whole) whole (omega (arith, c.loop-at.invariant.to.many, c.loop-at-test.true, c.count-at-end.ensures))) in
     elim c.then-not-call.branch [
       | then-not-call-via-then-not-call w ↦ absurd (wrong led.0 w.if-not-call.true)
       | then-not-call-via-else-not-call+then-is_some w ↦

@@ -54,4 +54,4 @@ returns-clause-stays c = c.loop-at.invariant.to.following.stays
 pub returns-clause-leads : goal.returns-clause-leads
 returns-clause-leads c = λ stopped r t lead puts.
     absurd (told_more (route_of c.args.plan.now) c.args.told.now stopped r c.args.tape.now c.loop-at.self (c.loop-at.invariant.leads stopped r t lead puts) (can_call (route_of c.args.plan.now) c.args.told.now stopped r c.args.tape.now t c.loop-at.self (c.loop-at.invariant.leads stopped r t lead puts) puts c.requires.may.few_readers c.loop-at.invariant.to.following.follows.sent)
-    (omega (arith, c.loop-at.invariant.to.many, c.loop-at-test.false, ap length c.as_slice-at-end.ensures)))
+    (omega (arith, c.loop-at.invariant.to.many, c.loop-at-test.false, c.count-at-end.ensures)))
