@@ -6,5 +6,6 @@ pub mod Line
 pub mod Lines
 pub mod PlayEnds
 pub mod Refused
+pub mod Stands
 pub mod Status
 pub mod Work

@@ -1,9 +1,13 @@
 // What holds of all that is asked for: proved here, and nothing to run.
 ghost use Rattle.cy_commands.specs.Commands.MakeWork.{AskedTextsAreShort};
 ghost use Rattle.cy_commands.specs.Commands.VerifyWork.{VerdictsAreOne};
+ghost use Rattle.cy_commands.specs.Stands.{LeavesItsFiles};
 
 use cy_make::made_texts_are_short;
 use cy_trace::{first_bad_is_one, runs_are_traces, texts_tell_traces, traces_tell_runs};
+use cy_words::play_files_differ;
+use cy_writer::{record_writes_leave_the_record, stopped_writes_leave_a_front};
+use cy_writer::stopped_writes_leave_other_files;
 
 /// Whatever words ask for a `make`, each configuration file that it plays is short enough to be
 /// read.
@@ -21,4 +25,15 @@ pub fn verdicts_are_one()
     texts_tell_traces();
     runs_are_traces();
     first_bad_is_one();
+}
+
+/// Whatever is due, every file but those that the command makes is as it was, and each record among
+/// these is as far as its writing had come.
+pub fn commands_leave_their_files()
+    ensures { LeavesItsFiles }
+{
+    play_files_differ();
+    record_writes_leave_the_record();
+    stopped_writes_leave_a_front();
+    stopped_writes_leave_other_files();
 }

@@ -22,7 +22,7 @@ pub use alone::due_of;
 pub use begun::{Begun, begin};
 pub use due::Due;
 pub use fault_text::OUTPUT_LINE;
-pub use laws::{asked_texts_are_short, verdicts_are_one};
+pub use laws::{asked_texts_are_short, commands_leave_their_files, verdicts_are_one};
 pub use line::Line;
 pub use play::{due_played, opening, played_world};
 pub use status::Status;

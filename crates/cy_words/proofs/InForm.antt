@@ -1,9 +1,10 @@
 -- A command that is asked for is in form.
 use Rattle.std.proofs.Common.{◌≡◌, ◌<◌, ◌≤◌, ◌||◌, ℕ, List, [], ◌∷◌, ◌++◌, Bool, true, false, Option, Some, None, is_some, if◌then◌else◌, cond, refl, sym, ap, ◌∙◌, subst, true≢false, arith}
-use Rattle.std.proofs.Common.{codes, flat_map, option_map, option_to_list, bytes_eq, length}
+use Rattle.std.proofs.Common.{codes, flat_map, not, option_map, option_to_list, bytes_eq, length}
 use Rattle.std.specs.Bool.{⊤}
 use Rattle.std.specs.List.{find, list_all}
 use Rattle.std.specs.Prelude.{nat_lt, IfSome, IsSome}
+use Rattle.std.proofs.lemmas.Slice.Eq.{bytes_eq-Decides}
 use Rattle.clap.specs.Walk.{Text}
 use Rattle.clap.proofs.WalkLemmas.{both}
 use Rattle.cy_request.specs.Request.{HasReader, OfPass}
@@ -50,7 +51,7 @@ placed_word known words o name v p is e = first_word known p.given name v [] p.a
 
 -- what holds of a command that is asked for
 abbrev pub IsFit : Command → Type 0
-IsFit (Play w) = HasReader w.request.components
+IsFit (Play w) = HasReader w.request.components × (w.output ≡ w.trace → ⊥)
 IsFit (Verify w) = HasReader w.request.components
 IsFit (Make w) = (0 < w.count) × (w.count ≤ most_made) × (length w.prefix ≤ longest_prefix)
 IsFit c = ⊤
@@ -67,6 +68,17 @@ ReaderOf w = HasReader w.request.components
 where_is : (w other : PlayWords) → where_play w ≡ Some other → w ≡ other
 where_is w other e = some_same w other (guarded (is_play w) (Some w) other e).1
 
+-- the two files of a play
+apart : (w : PlayWords) → is_play w ≡ true → w.output ≡ w.trace → ⊥
+unfolding is_play
+apart w e same =
+    let no : not (bytes_eq w.output w.trace) ≡ true = (both _ _ (both _ _ e).0).0 in
+    true≢false (sym no ∙ ap not ((bytes_eq-Decides w.output w.trace).1 same))
+
+where_apart_is : (w other : PlayWords) → where_play w ≡ Some other → other.output ≡ other.trace → ⊥
+where_apart_is w other e =
+    subst (λ (x : PlayWords). x.output ≡ x.trace → ⊥) (where_is w other e) (apart w (guarded (is_play w) (Some w) other e).0)
+
 bound_holds : {A : Type 0} (x : Option A) (f : A → Option PlayWords) → ((a : A) → IfSome (f a) ReaderOf) → IfSome (x >>= f) ReaderOf
 bound_holds None f h = tt
 bound_holds (Some a) f h = h a
@@ -78,11 +90,11 @@ given_fit : (o : Options) (w : PlayWords) → play_given o ≡ Some w → Reader
 unfolding play_given
 given_fit o w e = subst (λ (x : Option PlayWords). IfSome x ReaderOf) (guarded (are_lists o) (play_words o) w e).1 (play_reader o)
 
-play_fit : (o : Options) (w : PlayWords) → play_asked o ≡ Some w → ReaderOf w
+play_fit : (o : Options) (w : PlayWords) → play_asked o ≡ Some w → IsFit (Play w)
 unfolding play_asked
 play_fit o w e =
     let b = bound (play_given o) where_play w e in
-    subst ReaderOf (where_is b.0 w b.2) (given_fit o b.0 b.1)
+    (subst ReaderOf (where_is b.0 w b.2) (given_fit o b.0 b.1), where_apart_is b.0 w b.2)
 
 verify_fit : (o : Options) (w : PlayWords) → verify_asked o ≡ Some w → ReaderOf w
 unfolding verify_asked
@@ -90,7 +102,7 @@ verify_fit o w e =
     let b = bound (play_given o) where_apart w e in
     subst ReaderOf (some_same b.0 w (guarded (is_apart b.0) (Some b.0) w b.2).1) (given_fit o b.0 b.1)
 
-pass_fit : (words : List Text) (o : Options) (w : PlayWords) → AreOptions pass_known words o → pass_asked o ≡ Some w → ReaderOf w
+pass_fit : (words : List Text) (o : Options) (w : PlayWords) → AreOptions pass_known words o → pass_asked o ≡ Some w → IsFit (Play w)
 pass_fit words o w p e =
     let input = bound (o (codes "record")) _ w e in
     let output = bound (o (codes "out")) _ w input.2 in
@@ -98,7 +110,8 @@ pass_fit words o w p e =
     let from = bound (o (codes "from")) _ w trace.2 in
     let to = bound (o (codes "to")) (passed_by input.0 output.0 trace.0 from.0) w from.2 in
     let play = play_of_all (OfPass from.0 to.0) input.0 output.0 trace.0 in
-    subst ReaderOf (where_is play w (unguarded (bytes_eq from.0 to.0) (where_play play) w to.2).1) (named from.0 (placed_word pass_known words o (codes "from") from.0 p refl from.1))
+    let is = (unguarded (bytes_eq from.0 to.0) (where_play play) w to.2).1 in
+    (subst ReaderOf (where_is play w is) (named from.0 (placed_word pass_known words o (codes "from") from.0 p refl from.1)), where_apart_is play w is)
 
 in_range : (n m : ℕ) → where_made n ≡ Some m → (0 < m) × (m ≤ most_made)
 in_range n m e = by (nat_lt n 1) (nat_lt most_made n) refl refl e
@@ -157,9 +170,12 @@ unfolding form_of
 asked_fits [] c h = absurd h
 asked_fits (name ∷ words) c h = found_fits forms name h.0 h.1 each_fits words h.2.options c h.2.are_options h.2.asks
 
+pub play_files_apart : (words : List Text) (w : PlayWords) → Asks words (Play w) → w.output ≡ w.trace → ⊥
+play_files_apart words w h = (asked_fits words (Play w) h).1
+
 -- the same of the code's command
 in_form_by : (c : code.Command) → IsFit (command_asked c) → IsInForm c
-in_form_by (asked.Play w) fit = fit
+in_form_by (asked.Play w) fit = fit.0
 in_form_by (asked.Make w) fit = (fit.0, fit.1)
 in_form_by (asked.Verify w) fit = fit
 in_form_by c fit = tt

@@ -1,5 +1,5 @@
 -- The commands, and the words that ask for them.
-use Rattle.std.specs.Prelude.{ℕ, ◌≡◌, ⊤, true, List, [], ◌∷◌, find, Option, Some, None, codes}
+use Rattle.std.specs.Prelude.{ℕ, ◌≡◌, ◌≢◌, ⊤, true, List, [], ◌∷◌, find, Option, Some, None, codes}
 use Rattle.std.specs.Option.{option_map}
 use Rattle.std.specs.Str.{bytes_eq}
 use Rattle.cy_words.specs.CheckWords.{CheckWords, check_asked, check_known}
@@ -85,3 +85,8 @@ abbrev pub AskForOne : Type 0
 AskForOne = (words : List (List ℕ))
     → ((asked : Option Command) × IsOnlyAsked (Asks words) asked)
     × ((asked : Option Command) × IsOnlyAsked (AsksStill words) asked)
+
+-- Whatever words ask for a play, the two files that it writes have different names.
+abbrev pub PlayFilesDiffer : Type 0
+PlayFilesDiffer = (words : List (List ℕ)) (w : PlayWords) → Asks words (Play w)
+    → w.output ≢ w.trace

@@ -23,7 +23,7 @@ mod words;
 pub use check_words::Check;
 pub use command_words::CommandWords;
 pub use error::WordsError;
-pub use laws::words_ask_for_one;
+pub use laws::{play_files_differ, words_ask_for_one};
 pub use machine::machine_words;
 pub use make_words::Make;
 pub use play_words::Play;

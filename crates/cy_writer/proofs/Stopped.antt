@@ -198,28 +198,29 @@ length-whole channels chunks =
     )
 
 -- a section is torn
-section_torn : (channels : List Channel) (chunks : List (List BodyMessage)) (old new : Option (List ℕ)) (bytes next : List ℕ) (done later : List (List ℕ))
-    → done ++ next ∷ later ≡ record_sections channels chunks → new ≡ Some bytes
-    → IsTorn (length (unfinished done)) (length next) (unfinished done) bytes → StandsTorn channels chunks old new
-section_torn channels chunks old new bytes next done later split is torn = Torn bytes next done later split is record {
+section_torn : (name : List ℕ) (channels : List Channel) (chunks : List (List BodyMessage)) (failed : Write) (old new : Option (List ℕ)) (bytes next : List ℕ) (done later : List (List ℕ))
+    → done ++ next ∷ later ≡ record_sections channels chunks → failed ≡ Put name (length (unfinished done)) next → new ≡ Some bytes
+    → IsTorn (length (unfinished done)) (length next) (unfinished done) bytes → StandsTorn name channels chunks failed old new
+section_torn name channels chunks failed old new bytes next done later split fails is torn = Torn bytes next done later split fails is record {
   same = torn.front ∙ take_all (length (unfinished done)) (unfinished done) (omega arith);
   few = omega (arith, torn.no_longer);
 }
 
 -- a put of a record is torn
-put_torn : (channels : List Channel) (chunks : List (List BodyMessage)) (old new : Option (List ℕ)) (bytes : List ℕ) (done rest : List (ℕ × List ℕ)) (put : ℕ × List ℕ)
-    → done ++ put ∷ rest ≡ record_puts channels chunks → new ≡ Some bytes → IsTorn put.0 (length put.1) (file_after [] done) bytes → StandsTorn channels chunks old new
+put_torn : (name : List ℕ) (channels : List Channel) (chunks : List (List BodyMessage)) (failed : Write) (old new : Option (List ℕ)) (bytes : List ℕ) (done rest : List (ℕ × List ℕ)) (put : ℕ × List ℕ)
+    → done ++ put ∷ rest ≡ record_puts channels chunks → failed ≡ Put name put.0 put.1 → new ≡ Some bytes → IsTorn put.0 (length put.1) (file_after [] done) bytes
+    → StandsTorn name channels chunks failed old new
 unfolding record_puts
-put_torn channels chunks old new bytes [] rest put split is torn =
+put_torn name channels chunks failed old new bytes [] rest put split fails is torn =
     let first : put ≡ (0, header_section incomplete_header) = head_is put (0, header_section incomplete_header) rest _ split in
-    Begun bytes is (omega (arith, torn.no_longer, ap (λ (p : ℕ × List ℕ). p.0 + length p.1) first, length-header_section incomplete_header))
-put_torn channels chunks old new bytes (b ∷ done) rest put split is torn =
+    Begun bytes (fails ∙ ap (λ (p : ℕ × List ℕ). Put name p.0 p.1) first) is (omega (arith, torn.no_longer, ap (λ (p : ℕ × List ℕ). p.0 + length p.1) first, length-header_section incomplete_header))
+put_torn name channels chunks failed old new bytes (b ∷ done) rest put split fails is torn =
     by (where_split done put rest (placed header_end (record_sections channels chunks)) ((0, header_section (complete_header channels chunks)) ∷ []) (tail_is b (0, header_section incomplete_header) (done ++ put ∷ rest) _ split))
   where
     began : b ≡ (0, header_section incomplete_header)
     began = head_is b (0, header_section incomplete_header) (done ++ put ∷ rest) _ split
 
-    by : Where done put rest (placed header_end (record_sections channels chunks)) ((0, header_section (complete_header channels chunks)) ∷ []) → StandsTorn channels chunks old new
+    by : Where done put rest (placed header_end (record_sections channels chunks)) ((0, header_section (complete_header channels chunks)) ∷ []) → StandsTorn name channels chunks failed old new
     by (in_first behind inside) =
         let place = piece_placed header_end (record_sections channels chunks) done behind put inside in
         let before : file_after [] (b ∷ done) ≡ unfinished place.done =
@@ -227,7 +228,8 @@ put_torn channels chunks old new bytes (b ∷ done) rest put split is torn =
         ∙ after_sections place.done in
         let at : put.0 ≡ length (unfinished place.done) = ap (λ (p : ℕ × List ℕ). p.0) place.is ∙ sym (length-unfinished place.done) in
         let size : length put.1 ≡ length place.next = ap (λ (p : ℕ × List ℕ). length p.1) place.is in
-        section_torn channels chunks old new bytes place.next place.done place.later place.split is
+        section_torn name channels chunks failed old new bytes place.next place.done place.later place.split
+        (fails ∙ ap (λ (n : ℕ). Put name n put.1) at ∙ ap (Put name (length (unfinished place.done))) (ap (λ (p : ℕ × List ℕ). p.1) place.is)) is
         (subst (λ (n : ℕ). IsTorn n (length place.next) (unfinished place.done) bytes) at
         (subst (λ (n : ℕ). IsTorn put.0 n (unfinished place.done) bytes) size
         (subst (λ (f : List ℕ). IsTorn put.0 (length put.1) f bytes) before torn)))
@@ -243,7 +245,7 @@ put_torn channels chunks old new bytes (b ∷ done) rest put split is torn =
         let size : length header ≡ header_end = length-header_section (complete_header channels chunks) in
         let end : 0 + length header ≡ header_end = omega (arith, size) in
         let back : drop header_end bytes ≡ drop header_end (unfinished sections) = subst (λ (n : ℕ). drop n bytes ≡ drop n (unfinished sections)) end here.back in
-        Headless bytes is
+        Headless bytes (fails ∙ ap (λ (p : ℕ × List ℕ). Put name p.0 p.1) is_last) is
         (omega (arith, here.no_shorter, here.no_longer, size, length-unfinished sections, length-whole channels chunks))
         (back ∙ sym (whole-sections channels chunks))
     by (in_second (p ∷ more) inside last) = absurd (omega (arith, ap length last, length-append more (put ∷ rest)))
@@ -268,7 +270,7 @@ torn_put m n name bytes before at here left = by (subst (λ (found : Option (Lis
 
 pub failed_leaves : (name : List ℕ) (channels : List Channel) (chunks : List (List BodyMessage)) (first last : List Write) (failed : Write) (m n : Files)
     → AreOfOthers name first → AreOfOthers name last → StopsAt (writes_among first name channels chunks last) failed (Some m) (Some n)
-    → StandsTorn channels chunks (get m name) (get n name)
+    → StandsTorn name channels chunks failed (get m name) (get n name)
 failed_leaves name channels chunks first last failed m n of_first of_last stops =
     by (where_split stops.before failed stops.later first (file_writes name (record_puts channels chunks) ++ last) stops.split)
   where
@@ -276,42 +278,42 @@ failed_leaves name channels chunks first last failed m n of_first of_last stops 
     whole = file_writes name (record_puts channels chunks)
 
     in_puts : (more rest : List Write) → first ++ Create name ∷ more ≡ stops.before → more ++ failed ∷ rest ≡ puts_into name (record_puts channels chunks)
-        → StandsTorn channels chunks (get m name) (get n name)
+        → StandsTorn name channels chunks failed (get m name) (get n name)
     in_puts more rest before inside =
         let put = mapped (put_of name) (record_puts channels chunks) more rest failed inside in
         let here = begun_file name first stops.before put.done m (ap (λ (ws : List Write). first ++ Create name ∷ ws) put.front ∙ before) in
         let torn = torn_put (after_writes stops.before m) n name put.item.1 (file_after [] put.done) put.item.0 here (subst (λ (w : Write). Leaves w (after_writes stops.before m) n) (sym put.is) stops.left) in
-        put_torn channels chunks (get m name) (get n name) torn.0 put.done put.rest put.item put.split torn.2 torn.1
+        put_torn name channels chunks failed (get m name) (get n name) torn.0 put.done put.rest put.item put.split (sym put.is) torn.2 torn.1
 
     in_file : (more rest : List Write) → first ++ more ≡ stops.before → more ++ failed ∷ rest ≡ Create name ∷ puts_into name (record_puts channels chunks)
-        → StandsTorn channels chunks (get m name) (get n name)
+        → StandsTorn name channels chunks failed (get m name) (get n name)
     in_file [] rest before inside =
         let made : failed ≡ Create name = head_is failed (Create name) rest (puts_into name (record_puts channels chunks)) inside in
         let same : n ≡ after_writes stops.before m = subst (λ (w : Write). Leaves w (after_writes stops.before m) n) made stops.left in
-        Unmade (ap (λ (f : Files). get f name) same
+        Unmade (λ of. made) (ap (λ (f : Files). get f name) same
         ∙ ap (λ (ws : List Write). get (after_writes ws m) name) (sym before ∙ append-nil first)
         ∙ others_after name first m of_first)
     in_file (w ∷ more) rest before inside =
         let made : w ≡ Create name = head_is w (Create name) (more ++ failed ∷ rest) (puts_into name (record_puts channels chunks)) inside in
         in_puts more rest (ap (λ (x : Write). first ++ x ∷ more) (sym made) ∙ before) (tail_is w (Create name) (more ++ failed ∷ rest) (puts_into name (record_puts channels chunks)) inside)
 
-    behind : (more : List Write) → first ++ more ≡ stops.before → Where more failed stops.later whole last → StandsTorn channels chunks (get m name) (get n name)
+    behind : (more : List Write) → first ++ more ≡ stops.before → Where more failed stops.later whole last → StandsTorn name channels chunks failed (get m name) (get n name)
     behind more before (in_first rest inside) = in_file more rest before inside
     behind more before (in_second beyond inside end) =
         let apart = split_others name beyond stops.later failed (subst (AreOfOthers name) (sym end) of_last) in
         let done : after_writes stops.before m ≡ after_writes beyond (after_writes whole (after_writes first m)) =
         ap (λ (ws : List Write). after_writes ws m) (sym before ∙ ap (λ (ws : List Write). first ++ ws) (sym inside))
         ∙ after_writes-append first (whole ++ beyond) m ∙ after_writes-append whole beyond (after_writes first m) in
-        Whole (other_left failed (after_writes stops.before m) n name apart.1 stops.left
+        Whole apart.1 (other_left failed (after_writes stops.before m) n name apart.1 stops.left
         ∙ ap (λ (f : Files). get f name) done
         ∙ others_after name beyond (after_writes whole (after_writes first m)) apart.0
         ∙ ap (λ (f : Files). get f name) (after_record channels chunks (after_writes first m) name)
         ∙ get-inserted (after_writes first m) name (record_bytes channels chunks))
 
-    by : Where stops.before failed stops.later first (whole ++ last) → StandsTorn channels chunks (get m name) (get n name)
+    by : Where stops.before failed stops.later first (whole ++ last) → StandsTorn name channels chunks failed (get m name) (get n name)
     by (in_first rest inside) =
         let apart = split_others name stops.before rest failed (subst (AreOfOthers name) (sym inside) of_first) in
-        Unmade (other_left failed (after_writes stops.before m) n name apart.1 stops.left ∙ others_after name stops.before m apart.0)
+        Unmade (λ of. absurd (apart.1 of)) (other_left failed (after_writes stops.before m) n name apart.1 stops.left ∙ others_after name stops.before m apart.0)
     by (in_second more inside end) = behind more inside (where_split more failed stops.later whole last end)
 
 -- Where a list ends that is the front of two lists, one behind the other.

@@ -4,11 +4,12 @@ use Rattle.std.specs.Prelude.{Option, Some}
 use Rattle.std.specs.List.{flat_map}
 use Rattle.std.specs.FinMap.{get}
 use Rattle.cy_store.specs.Files.{Files}
-use Rattle.cy_store.specs.Write.{Write, name_of}
+use Rattle.cy_store.specs.Write.{Write, Create, Put, name_of}
 use Rattle.cy_section.specs.declared.types.Channel.{Channel}
 use Rattle.cy_section.specs.declared.types.BodyMessage.{BodyMessage}
 use Rattle.cy_section.specs.Section.{header_section}
-use Rattle.cy_section.specs.RecordText.{header_end, incomplete_header, record_bytes}
+use Rattle.cy_section.specs.RecordText.{header_end, incomplete_header, complete_header}
+use Rattle.cy_section.specs.RecordText.{record_bytes}
 use Rattle.cy_writer.specs.RecordWrites.{file_writes, record_puts, record_sections}
 use Rattle.cy_writer.specs.Writes.{StopsAt, StopsBefore}
 
@@ -21,22 +22,33 @@ pub record BeginWith (first : List ℕ) (most : ℕ) (bytes : List ℕ) : Type 0
   pub same : take (length first) bytes ≡ first
   pub few : length bytes ≤ length first + most
 
--- What a record's file holds where a write failed, by how far the writing had come: it wasn't made;
--- or its first header was torn; or it has some of the sections, and anything in the range of the
--- next one; or only the complete header was torn, which goes over the first one; or it is whole.
-pub data StandsTorn (channels : List Channel) (chunks : List (List BodyMessage))
-    (old new : Option (List ℕ)) : Type 0 where
-  Unmade : new ≡ old → StandsTorn channels chunks old new
-  Begun : (bytes : List ℕ) → new ≡ Some bytes → length bytes ≤ header_end
-      → StandsTorn channels chunks old new
+-- A write that puts nothing into this file: it is of another one, or makes this one.
+abbrev pub PutsNothing : List ℕ → Write → Type 0
+PutsNothing name w = name_of w ≡ name → w ≡ Create name
+
+-- What a record's file holds where this write failed. Before its first put it is as it was. Where
+-- that put failed, it has no more than the room of the header. Where the put of a section did, it
+-- has the header of an incomplete record, the sections before, and anything in the range of this
+-- one. Where the last put did, which puts the complete header over the first one, that header may
+-- be torn. Behind its last put it is whole.
+pub data StandsTorn (name : List ℕ) (channels : List Channel) (chunks : List (List BodyMessage))
+    (failed : Write) (old new : Option (List ℕ)) : Type 0 where
+  Unmade : PutsNothing name failed → new ≡ old → StandsTorn name channels chunks failed old new
+  Begun : (bytes : List ℕ) → failed ≡ Put name 0 (header_section incomplete_header)
+      → new ≡ Some bytes → length bytes ≤ header_end
+      → StandsTorn name channels chunks failed old new
   Torn : (bytes next : List ℕ) (done later : List (List ℕ))
-      → done ++ next ∷ later ≡ record_sections channels chunks → new ≡ Some bytes
-      → BeginWith (unfinished done) (length next) bytes → StandsTorn channels chunks old new
-  Headless : (bytes : List ℕ) → new ≡ Some bytes
-      → length bytes ≡ length (record_bytes channels chunks)
+      → done ++ next ∷ later ≡ record_sections channels chunks
+      → failed ≡ Put name (length (unfinished done)) next → new ≡ Some bytes
+      → BeginWith (unfinished done) (length next) bytes
+      → StandsTorn name channels chunks failed old new
+  Headless : (bytes : List ℕ)
+      → failed ≡ Put name 0 (header_section (complete_header channels chunks))
+      → new ≡ Some bytes → length bytes ≡ length (record_bytes channels chunks)
       → drop header_end bytes ≡ drop header_end (record_bytes channels chunks)
-      → StandsTorn channels chunks old new
-  Whole : new ≡ Some (record_bytes channels chunks) → StandsTorn channels chunks old new
+      → StandsTorn name channels chunks failed old new
+  Whole : name_of failed ≢ name → new ≡ Some (record_bytes channels chunks)
+      → StandsTorn name channels chunks failed old new
 
 -- The same where the writing stopped between two writes.
 pub data StandsCut (channels : List Channel) (chunks : List (List BodyMessage))
@@ -63,7 +75,7 @@ FailedLeaves = (name : List ℕ) (channels : List Channel) (chunks : List (List 
     (first last : List Write) (failed : Write) (m n : Files) → AreOfOthers name first
     → AreOfOthers name last
     → StopsAt (writes_among first name channels chunks last) failed (Some m) (Some n)
-    → StandsTorn channels chunks (get m name) (get n name)
+    → StandsTorn name channels chunks failed (get m name) (get n name)
 
 -- So it is where memory runs out between two of them.
 abbrev pub StarvedLeaves : Type 0

@@ -1,3 +1,4 @@
 pub mod Complete
 pub mod FrontWritten
 pub mod Fronts
+pub mod Left

@@ -2,6 +2,7 @@
 ghost use Rattle.std.specs.Prelude.{ℕ, ◌≡◌, List, Option};
 ghost use Rattle.cy_commands.specs.Due.{IsDue};
 ghost use Rattle.cy_commands.specs.Line.{bytes_of_line};
+ghost use Rattle.cy_commands.specs.Stands.{StandsAnswered};
 ghost use Rattle.cy_words.specs.Asking.{IsReadAs};
 ghost use Rattle.cy_words.specs.Command as asked;
 ghost use Rattle.cy_words.specs.Command.{Asks, AsksStill, IsAsked};
@@ -9,7 +10,8 @@ ghost use Rattle.cyber_cli.specs.Ends.{Answers, IsComplete};
 
 use crate::telling::tell;
 use crate::threads::due_played_with_threads;
-use cy_commands::{Begun, Due, Status, begin, due_of, verdicts_are_one};
+use cy_commands::{Begun, Due, Status, begin, commands_leave_their_files, due_of};
+use cy_commands::verdicts_are_one;
 use cy_msg::Text;
 use cy_run::Gate;
 use cy_store::{Sink, Store};
@@ -82,10 +84,13 @@ pub fn cyber<S: Store, O: Sink, E: Sink, G: Gate, R: Threads + Wait + Sync>(
           out = O.shows out.old;
           err = E.shows err.old;
         } record { out = O.shows out.new; err = E.shows err.new } result }
+    ensures stands { (command : Option asked.Command) → IsAsked (Asks words.now) command
+        → StandsAnswered command (S.shows store.old) (S.shows store.new) result }
 {
     let read = CommandWords::asking(alloc, words);
     let due = due_with_threads(rt, alloc, &read, store, gate);
     verdicts_are_one();
+    commands_leave_their_files();
     tell(&due, out, err)
 }
 
@@ -108,9 +113,12 @@ pub fn cyber_still<S: Store, O: Sink, E: Sink>(
           out = O.shows out.old;
           err = E.shows err.old;
         } record { out = O.shows out.new; err = E.shows err.new } result }
+    ensures stands { (command : Option asked.Command) → IsAsked (AsksStill words.now) command
+        → StandsAnswered command (S.shows store.old) (S.shows store.new) result }
 {
     let read = CommandWords::asking_still(alloc, words);
     let due = due_of(alloc, &read, store);
     verdicts_are_one();
+    commands_leave_their_files();
     tell(&due, out, err)
 }
