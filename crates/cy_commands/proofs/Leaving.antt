@@ -63,7 +63,7 @@ of_file q name puts apart = one_more q (Create name) (puts_into name puts) apart
 -- ---- names of all that a command makes
 
 in_first : (q : List ℕ) (xs ys : List (List ℕ)) → All (λ (own : List ℕ). own ≡ q → ⊥) (xs ++ ys) → All (λ (own : List ℕ). own ≡ q → ⊥) xs
-in_first q [] ys all = λ k d h. absurd (omega (arith, h))
+in_first q [] ys all k d h = absurd (omega (arith, h))
 in_first q (x ∷ xs) ys all zero d h = all 0 d (omega arith)
 in_first q (x ∷ xs) ys all (suc k) d h = in_first q xs ys (λ j e g. all (suc j) e (omega (arith, g))) k d (omega (arith, h))
 
@@ -72,10 +72,10 @@ in_second q [] ys all = all
 in_second q (x ∷ xs) ys all = in_second q xs ys (λ j e g. all (suc j) e (omega (arith, g)))
 
 unlike : (a b : List ℕ) → bytes_eq a b ≡ false → a ≡ b → ⊥
-unlike a b no same = true≢false (sym ((bytes_eq-Decides a b).1 same) ∙ no)
+unlike a b apart same = true≢false (sym ((bytes_eq-Decides a b).1 same) ∙ apart)
 
 behind_prefix : (p a b : List ℕ) → bytes_eq a b ≡ false → p ++ a ≡ p ++ b → ⊥
-behind_prefix p a b no same = unlike a b no (append_cancel_left p a b same)
+behind_prefix p a b apart same = unlike a b apart (append_cancel_left p a b same)
 
 -- ---- the writes of each command's work
 
@@ -118,11 +118,11 @@ of_configs q prefix all = by all_configs all
         (by cs (λ k d h. all (suc k) d (omega (arith, h))))
 
 configs_apart : (prefix end : List ℕ) → ((c : Config) → bytes_eq (suffix_of c) end ≡ false) → All (λ (own : List ℕ). own ≡ prefix ++ end → ⊥) (map (λ c. prefix ++ suffix_of c) all_configs)
-configs_apart prefix end no = by all_configs
+configs_apart prefix end apart = by all_configs
   where
     by : (cs : List Config) → All (λ (own : List ℕ). own ≡ prefix ++ end → ⊥) (map (λ (c : Config). prefix ++ suffix_of c) cs)
-    by [] = λ k d h. absurd (omega (arith, h))
-    by (c ∷ cs) zero d h = behind_prefix prefix (suffix_of c) end (no c)
+    by [] k d h = absurd (omega (arith, h))
+    by (c ∷ cs) zero d h = behind_prefix prefix (suffix_of c) end (apart c)
     by (c ∷ cs) (suc k) d h = by cs k d (omega (arith, h))
 
 no_record_name : (c : Config) → bytes_eq (suffix_of c) (codes ".record") ≡ false
@@ -176,13 +176,14 @@ made_output w work made =
     let name = (play_made w).output in
     let inputs = input_writes w.count w.prefix in
     let played = played_record (play_made w) made.by_play.read made.played made.by_play.made (behind_prefix w.prefix (codes ".out") (codes ".trace") refl) in
+    let rest = file_writes name (record_puts played.channels played.chunks) ++ played.last in
     record {
       channels = played.channels;
       chunks = played.chunks;
-      first = inputs;
+      first = inputs ++ played.first;
       last = played.last;
-      writes = made.writes ∙ ap (λ (ws : List Write). inputs ++ ws) played.writes;
-      before = inputs_others w.count w.prefix name (configs_apart w.prefix (codes ".out") no_output_name) (behind_prefix w.prefix (codes ".record") (codes ".out") refl);
+      writes = made.writes ∙ ap (λ (ws : List Write). inputs ++ ws) played.writes ∙ sym (append_assoc inputs played.first rest);
+      before = all_more name inputs played.first (inputs_others w.count w.prefix name (configs_apart w.prefix (codes ".out") no_output_name) (behind_prefix w.prefix (codes ".record") (codes ".out") refl)) played.before;
       behind = played.behind;
       stands = tt;
     }
@@ -230,11 +231,11 @@ two_names P a b first second (suc k) d g = one_name P b second k d (omega (arith
 
 work_records : (c : Command) (files : Option Files) (work : Work) → NamesDiffer c → IsAccepted (outcome_of c) files work
     → All (λ name. HasRecord work name (λ channels chunks. ⊤)) (records_of c)
-work_records (Check w) files work apart a = no_names _
-work_records (Info w) files work apart a = no_names _
-work_records (Play w) files work apart a = one_name _ w.output (played_record w a.read work a.made apart)
-work_records (Make w) files work apart a = two_names _ (record_name w.prefix) (play_made w).output (made_record w work a) (made_output w work a)
-work_records (Verify w) files work apart a = no_names _
+work_records (Check w) files work apart a = no_names (λ name. HasRecord work name (λ channels chunks. ⊤))
+work_records (Info w) files work apart a = no_names (λ name. HasRecord work name (λ channels chunks. ⊤))
+work_records (Play w) files work apart a = one_name (λ name. HasRecord work name (λ channels chunks. ⊤)) w.output (played_record w a.read work a.made apart)
+work_records (Make w) files work apart a = two_names (λ name. HasRecord work name (λ channels chunks. ⊤)) (record_name w.prefix) (play_made w).output (made_record w work a) (made_output w work a)
+work_records (Verify w) files work apart a = no_names (λ name. HasRecord work name (λ channels chunks. ⊤))
 
 -- ---- what stands of a record
 
@@ -317,9 +318,11 @@ after_done l c old new line m n apart told d =
 after_failure : Leavings → (c : Command) (old new : StoreView) (line : List ℕ) (m n : Files) → NamesDiffer c → Told c old new m n → FailsToWrite c old new line
     → (failed : Write) × WroteUpTo failed c m n
 after_failure l c old new line m n apart told d =
-    let here = subst (λ (files : Option Files). StopsAt d.work.writes d.failed files new.files) told.old_files d.stops in
-    (d.failed, wrote_up_to l.failed l.others c m n d.work d.failed apart (accepted_in c old new m n d.work told d.accepted)
-    (subst (λ (files : Option Files). StopsAt d.work.writes d.failed (Some m) files) told.new_files here))
+    let here = subst (λ (files : Option Files). StopsAt d.work.writes d.failed files new.files) told.old_files d.stops in (
+      d.failed,
+      wrote_up_to l.failed l.others c m n d.work d.failed apart (accepted_in c old new m n d.work told d.accepted)
+          (subst (λ (files : Option Files). StopsAt d.work.writes d.failed (Some m) files) told.new_files here),
+    )
 
 after_want : Leavings → (c : Command) (old new : StoreView) (m n : Files) → NamesDiffer c → Told c old new m n → StopsForMemory c old new → WroteSome c m n
 after_want l c old new m n apart told d =

@@ -41,7 +41,7 @@ LeavesOthers c m n = (name : List ℕ) → All (λ own. own ≢ name) (records_o
 
 -- A record among the writes of a command's work, with what is said of its file.
 pub record HasRecord (work : Work) (name : List ℕ)
-    (stands : List Channel → List (List BodyMessage) → Type 0) : Type 0 where
+    (is : List Channel → List (List BodyMessage) → Type 0) : Type 0 where
   pub channels : List Channel
   pub chunks : List (List BodyMessage)
   pub first : List Write
@@ -49,16 +49,16 @@ pub record HasRecord (work : Work) (name : List ℕ)
   pub writes : work.writes ≡ writes_among first name channels chunks last
   pub before : AreOfOthers name first
   pub behind : AreOfOthers name last
-  pub stands : stands channels chunks
+  pub stands : is channels chunks
 
 -- The writing of a command's work was begun: its files were accepted, no other file is changed, and
 -- each of its records stands so.
 pub record Wrote (c : Command) (m n : Files)
-    (stands : (name : List ℕ) → List Channel → List (List BodyMessage) → Type 0) : Type 0 where
+    (is : (name : List ℕ) → List Channel → List (List BodyMessage) → Type 0) : Type 0 where
   pub work : Work
   pub accepted : IsAccepted (outcome_of c) (Some m) work
   pub others : LeavesOthers c m n
-  pub records : All (λ name. HasRecord work name (stands name)) (records_of c)
+  pub records : All (λ name. HasRecord work name (is name)) (records_of c)
 
 -- Done: each record is whole.
 abbrev pub WroteAll : Command → Files → Files → Type 0

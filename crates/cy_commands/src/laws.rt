@@ -6,8 +6,9 @@ ghost use Rattle.cy_commands.specs.Stands.{LeavesItsFiles};
 use cy_make::made_texts_are_short;
 use cy_trace::{first_bad_is_one, runs_are_traces, texts_tell_traces, traces_tell_runs};
 use cy_words::play_files_differ;
-use cy_writer::{record_writes_leave_the_record, stopped_writes_leave_a_front};
-use cy_writer::stopped_writes_leave_other_files;
+use cy_writer::{
+    record_writes_leave_the_record, stopped_writes_leave_a_front, stopped_writes_leave_other_files,
+};
 
 /// Whatever words ask for a `make`, each configuration file that it plays is short enough to be
 /// read.

@@ -10,8 +10,9 @@ ghost use Rattle.cyber_cli.specs.Ends.{Answers, IsComplete};
 
 use crate::telling::tell;
 use crate::threads::due_played_with_threads;
-use cy_commands::{Begun, Due, Status, begin, commands_leave_their_files, due_of};
-use cy_commands::verdicts_are_one;
+use cy_commands::{
+    Begun, Due, Status, begin, commands_leave_their_files, due_of, verdicts_are_one,
+};
 use cy_msg::Text;
 use cy_run::Gate;
 use cy_store::{Sink, Store};
