@@ -23,7 +23,7 @@ index_before (x ∷ bodies) b (suc i) few = index_before bodies b i (omega arith
 one_behind : (bodies : List (List ℕ)) (b : List ℕ) (m : Message) → m.body < length bodies → message_of (bodies ++ b ∷ []) m ≡ message_of bodies m
 one_behind bodies b m few = rw (index_before bodies b m.body few) refl
 
-all_behind : (bodies : List (List ℕ)) (b : List ℕ) (ms : List Message) → All (λ m. m.body < length bodies) ms → map (message_of (bodies ++ b ∷ [])) ms ≡ map (message_of bodies) ms
+pub all_behind : (bodies : List (List ℕ)) (b : List ℕ) (ms : List Message) → All (λ m. m.body < length bodies) ms → map (message_of (bodies ++ b ∷ [])) ms ≡ map (message_of bodies) ms
 all_behind bodies b [] all = refl
 all_behind bodies b (m ∷ ms) all = rw (one_behind bodies b m (all 0 m (omega arith)), all_behind bodies b ms (λ i d few. all (suc i) d (omega arith))) refl
 

@@ -11,6 +11,8 @@ pub mod SectionRows
 pub mod Tiled
 pub mod NamedChannels
 pub mod Bodies
+pub mod Behind
+pub mod Moved
 pub mod Ahead
 pub mod Fronts
 pub mod CutTo

@@ -10,6 +10,7 @@
 mod channel_set;
 mod channels;
 mod cutting;
+mod decoding;
 mod error;
 mod facts;
 mod front;
@@ -17,6 +18,7 @@ mod gathering;
 mod header;
 mod heads;
 mod info;
+mod joining;
 mod known;
 mod laws;
 mod loading;

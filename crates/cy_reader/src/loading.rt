@@ -7,7 +7,8 @@ ghost use Rattle.cy_reader.specs.Record.{message_met, body_met};
 ghost use Rattle.cy_reader.specs.Record.{Message as MessageMet};
 ghost use Rattle.cy_reader.specs.Record.{section_met, sections_met, parts_of, header_end, nothing};
 ghost use Rattle.cy_reader.specs.private.Kept.{IsLoaded};
-ghost use Rattle.cy_reader.specs.private.Loading.{IsSound, IsShort, Leads, unless_ended, noted};
+ghost use Rattle.cy_reader.specs.private.Loading.{IsNothing, IsSound, IsShort, Leads};
+ghost use Rattle.cy_reader.specs.private.Loading.{unless_ended, noted};
 ghost use Rattle.cy_reader.specs.private.Loading.{AreSmall, IsTied, Grows, met_of, met_with};
 ghost use Rattle.cy_reader.specs.private.Loading.{with_body, IsShortSection};
 ghost use Rattle.cy_reader.specs.Stands.{Stands, IsWithin};
@@ -24,7 +25,7 @@ use cy_msg::Bytes;
 use cy_section::{
     HEADER_SIZE, Header, MessageReader, MessageView, SectionKind, read_channel, read_chunk_header,
 };
-use std::alloc::Global;
+use std::alloc::{AllocError, Global};
 
 /// The longest content of a message, in bytes.
 const LONGEST_CONTENT: u64 = 268_435_456;
@@ -34,6 +35,19 @@ const LONGEST_CONTENT: u64 = 268_435_456;
 pub(crate) struct Loading {
     pub channels: Channels,
     pub messages: Vec<Message>,
+}
+
+impl Loading {
+    // Nothing, with room for so many messages.
+    pub(crate) fn with_room(alloc: Global, messages: usize) -> Result<Self, AllocError>
+        ensures { IfOk result IsNothing }
+    {
+        let messages = Vec::with_capacity(alloc, messages)?;
+        Ok(Loading {
+            channels: Channels::new(alloc),
+            messages,
+        })
+    }
 }
 
 // A message: the number of its channel, its time, and where its content stands: in which of the
@@ -216,10 +230,7 @@ fn sections_met(alloc: Global, file: &[u8]) -> Result<Loading, LoadError>
     ensures sound { IfOk result (IsSound 1) }
     ensures not_store { IfErr result (λ e. e ≢ LoadError.Store) }
 {
-    let mut loading = Loading {
-        channels: Channels::new(alloc),
-        messages: Vec::new(alloc),
-    };
+    let mut loading = Loading::with_room(alloc, 0)?;
     // The file is the only body.
     let body = Body {
         before: &[],

@@ -25,6 +25,7 @@ use cy_store::{ReadFile, Store, read_file};
 use std::alloc::Global;
 use std::io;
 use std::marker::Model;
+use std::thread::Threads;
 
 /// The channels and messages of a file: contracts see both lists, and the file's name, length,
 /// header, heads and index. The channels are numbered in the order of their first mention, by their
@@ -96,14 +97,20 @@ pub fn load_whole<S: Store>(alloc: Global, store: &mut S, name: &str) -> Result<
 
 // The record of a file's front and sections.
 #[tactic(auto, unfolding(crate::specs::private::Front::cut_record))]
-fn record_of_cut(alloc: Global, name: &str, front: Front, cut: CutFile) -> Result<Record, LoadError>
+fn record_of_cut<R: Threads + Sync>(
+    rt: &R,
+    alloc: Global,
+    name: &str,
+    front: Front,
+    cut: CutFile,
+) -> Result<Record, LoadError>
     requires { AreWithin cut }
     ensures record { AnswersOr LoadError.Memory (λ r. r) result (cut_record name.now front cut) }
     ensures not_store { IfErr result (λ e. e ≢ LoadError.Store) }
 {
     let CutFile { parts, end } = cut;
     let mut heads = heads_in(alloc, front.head, parts.as_slice())?;
-    let (bodies, loading) = parts_met(alloc, parts)?;
+    let (bodies, loading) = parts_met(rt, alloc, parts)?;
     let index = end?;
     push_index(&mut heads, index.as_ref())?;
     let name = Text::from_string(String::from_str(alloc, name)?);
@@ -121,13 +128,19 @@ fn record_of_cut(alloc: Global, name: &str, front: Front, cut: CutFile) -> Resul
 /// Reads the record of a name, section by section: heads of 16 bytes, and bodies in pieces of at
 /// most 1,048,576 bytes. Nothing is reserved or read for a section that is too long or that the
 /// file ends before. It keeps the bodies of the chunks and of the index, beside 24 bytes a message
-/// and 24 bytes a section.
-pub fn load<S: Store>(alloc: Global, store: &mut S, name: &str) -> Result<Record, LoadError>
+/// and 24 bytes a section. Once all is read, long bodies are decoded side by side, on threads that
+/// wait for nobody.
+pub fn load<S: Store, R: Threads + Sync>(
+    rt: &R,
+    alloc: Global,
+    store: &mut S,
+    name: &str,
+) -> Result<Record, LoadError>
     ensures { LoadAnswer (S.shows store.old) (S.shows store.new) name.now result }
 {
     let front = front_of(alloc, store, name)?;
     let cut = cut_file(alloc, store, name, front.size)?;
-    record_of_cut(alloc, name, front, cut)
+    record_of_cut(rt, alloc, name, front, cut)
 }
 
 impl Record {

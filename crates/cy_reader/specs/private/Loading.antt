@@ -47,6 +47,12 @@ pub record Mentions (name : List ℕ) (old new : Channels) (n : ℕ) : Type 0 wh
   pub number : number_of name new.list.items ≡ Some n
   pub below : n < length new.list.items
 
+-- Nothing was met yet.
+pub record IsNothing (l : Loading) : Type 0 where
+  pub channels : l.channels.list.items ≡ []
+  pub messages : l.messages.items ≡ []
+  pub tied : IsTied l.channels
+
 -- What is kept of a file at any moment, beside so many bodies: fewer messages than 32 bits count,
 -- each on a channel that is kept, and its content in one of the bodies.
 pub record IsSound (bodies : ℕ) (l : Loading) : Type 0 where

@@ -4,6 +4,7 @@ use cy_reader::load;
 use cy_store::{MemStore, Store};
 use std::alloc::Global;
 use std::test::Fail;
+use std::thread::Threads;
 
 // A complete header whose numbers are 7 to 13, and one that is not complete.
 const COMPLETE: &[u8] = b"\0\0\0\0\0\0\0\0\x16\0\0\0\0\0\0\0\x08\x01\x10\x02\x18\0\x30\x07\x38\x08\
@@ -30,20 +31,25 @@ const DIFFERS: &str = "file in.rec bytes 2170\nversion 1.2 complete yes compress
     differs index entry 2 position 2099\n";
 
 // The text of a file of this header and what follows it.
-fn text_of(alloc: Global, header: &[u8], rest: &[u8]) -> Result<Bytes, Fail> {
+fn text_of(
+    rt: &(impl Threads + Sync),
+    alloc: Global,
+    header: &[u8],
+    rest: &[u8],
+) -> Result<Bytes, Fail> {
     let mut bytes = header.to_vec(alloc)?;
     bytes.resize(2_064, 0)?;
     bytes.extend_from_slice(rest)?;
     let mut store = MemStore::new(alloc);
     store.create("in.rec")?;
     store.put_at("in.rec", 0, bytes.as_slice())?;
-    let record = load(alloc, &mut store, "in.rec")?;
+    let record = load(rt, alloc, &mut store, "in.rec")?;
     Ok(record.info(alloc)?)
 }
 
 #[test]
 fn tells_each_difference(rt: HostRuntime) -> Result<(), Fail> {
-    let text = text_of(rt.alloc(), COMPLETE, SECTIONS)?;
+    let text = text_of(&rt, rt.alloc(), COMPLETE, SECTIONS)?;
     assert_eq!(rt; text.as_slice(), DIFFERS.as_bytes());
     Ok(())
 }
@@ -64,7 +70,7 @@ fn tells_of_each_index_without_messages(rt: HostRuntime) -> Result<(), Fail> {
             "present entries 1\ndiffers index entry 0 position 5\n",
         ),
     ] {
-        let text = text_of(rt.alloc(), INCOMPLETE, rest)?;
+        let text = text_of(&rt, rt.alloc(), INCOMPLETE, rest)?;
         let want = format!(in rt.alloc();
             "file in.rec bytes {size}\nversion 0.0 complete no compress 0\n\
             channels 0 chunks 0 messages 0\ntime 0 to 0\nindex {index}"

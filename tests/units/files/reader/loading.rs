@@ -5,6 +5,7 @@ use cy_store::{MemStore, Store};
 use cy_writer::RecordWriter;
 use std::alloc::Global;
 use std::test::Fail;
+use std::thread::Threads;
 
 // A store with one file.
 fn store_of(alloc: Global, bytes: &[u8]) -> Result<MemStore, Fail> {
@@ -26,9 +27,13 @@ fn small_record(alloc: Global) -> Result<Vec<u8>, Fail> {
 }
 
 // What loading some bytes came to: the number of messages, or the refusal.
-fn loaded(alloc: Global, bytes: &[u8]) -> Result<Result<u32, LoadError>, Fail> {
+fn loaded(
+    rt: &(impl Threads + Sync),
+    alloc: Global,
+    bytes: &[u8],
+) -> Result<Result<u32, LoadError>, Fail> {
     let mut store = store_of(alloc, bytes)?;
-    Ok(load(alloc, &mut store, "in.rec").map(|record: Record| record.messages()))
+    Ok(load(rt, alloc, &mut store, "in.rec").map(|record: Record| record.messages()))
 }
 
 // A valid header of 2,064 bytes and what follows it.
@@ -44,7 +49,7 @@ fn loads_the_message_of_a_small_record(rt: HostRuntime) -> Result<(), Fail> {
     let bytes = small_record(rt.alloc())?;
     assert_eq!(rt; bytes.len(), 2_209);
     let mut store = store_of(rt.alloc(), bytes.as_slice())?;
-    let record = load(rt.alloc(), &mut store, "in.rec")?;
+    let record = load(&rt, rt.alloc(), &mut store, "in.rec")?;
     assert_eq!(rt; record.channels(), 1);
     assert_eq!(rt; record.messages(), 1);
     assert_eq!(rt; record.channel(0).name.as_str(), "/in");
@@ -77,7 +82,7 @@ fn refuses_each_cut_inside_a_section(rt: HostRuntime) -> Result<(), Fail> {
         (2_158, Ok(1)),
         (2_209, Ok(1)),
     ] {
-        assert_eq!(rt; loaded(rt.alloc(), &bytes[..len])?, want, "{len}");
+        assert_eq!(rt; loaded(&rt, rt.alloc(), &bytes[..len])?, want, "{len}");
     }
     Ok(())
 }
@@ -128,7 +133,7 @@ fn refuses_each_fault_of_a_section(rt: HostRuntime) -> Result<(), Fail> {
     ] {
         let bytes = behind_header(rt.alloc(), rest)?;
         assert_eq!(rt;
-            loaded(rt.alloc(), bytes.as_slice())?,
+            loaded(&rt, rt.alloc(), bytes.as_slice())?,
             Err(LoadError::Section(fault))
         );
     }
@@ -145,7 +150,7 @@ fn accepts_sections_in_any_order(rt: HostRuntime) -> Result<(), Fail> {
         \x03\0\0\0\0\0\0\0\xff\0\0\0\0\0\0\0rest";
     let bytes = behind_header(rt.alloc(), rest)?;
     let mut store = store_of(rt.alloc(), bytes.as_slice())?;
-    let record = load(rt.alloc(), &mut store, "in.rec")?;
+    let record = load(&rt, rt.alloc(), &mut store, "in.rec")?;
     assert_eq!(rt; record.channels(), 1);
     assert_eq!(rt; record.messages(), 1);
     assert_eq!(rt; record.channel(0).message_type.as_str(), "t");
@@ -159,13 +164,13 @@ fn refuses_headers_and_limits(rt: HostRuntime) -> Result<(), Fail> {
     let mut compressed = small_record(rt.alloc())?;
     compressed[21] = 2;
     assert_eq!(rt;
-        loaded(rt.alloc(), compressed.as_slice())?,
+        loaded(&rt, rt.alloc(), compressed.as_slice())?,
         Err(LoadError::Compressed { kind: 2 })
     );
     let mut sized = small_record(rt.alloc())?;
     sized[9] = 9;
     assert_eq!(rt;
-        loaded(rt.alloc(), sized.as_slice())?,
+        loaded(&rt, rt.alloc(), sized.as_slice())?,
         Err(LoadError::Section(SectionError::Size {
             at: 0,
             value: 2_343
@@ -177,7 +182,7 @@ fn refuses_headers_and_limits(rt: HostRuntime) -> Result<(), Fail> {
     )?;
     long.resize(2_064 + 16 + 4_100, b'n')?;
     assert_eq!(rt;
-        loaded(rt.alloc(), long.as_slice())?,
+        loaded(&rt, rt.alloc(), long.as_slice())?,
         Err(LoadError::NameTooLong { count: 4_097 })
     );
     Ok(())
@@ -189,11 +194,11 @@ fn answers_a_failing_store(rt: HostRuntime) -> Result<(), Fail> {
     for call in [3, 4] {
         let mut store = store_of(rt.alloc(), bytes.as_slice())?;
         store.fail_at(call, 0)?;
-        let answer = load(rt.alloc(), &mut store, "in.rec").err();
+        let answer = load(&rt, rt.alloc(), &mut store, "in.rec").err();
         assert_eq!(rt; answer, Some(LoadError::Store), "{call}");
     }
     let mut empty = MemStore::new(rt.alloc());
-    let answer = load(rt.alloc(), &mut empty, "in.rec").err();
+    let answer = load(&rt, rt.alloc(), &mut empty, "in.rec").err();
     assert_eq!(rt; answer, Some(LoadError::Store));
     Ok(())
 }

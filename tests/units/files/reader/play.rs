@@ -5,6 +5,7 @@ use cy_request::Filter;
 use cy_store::{MemStore, Store};
 use std::alloc::Global;
 use std::test::Fail;
+use std::thread::Threads;
 
 // A header that is not complete.
 const HEADER: &[u8] = b"\0\0\0\0\0\0\0\0\x04\0\0\0\0\0\0\0\x60\x0d\x68\0";
@@ -51,14 +52,14 @@ const ROWS: [(Choice, &[u32], u32); 17] = [
 ];
 
 // The record of a header and what follows it.
-fn record_of(alloc: Global, rest: &[u8]) -> Result<Record, Fail> {
+fn record_of(rt: &(impl Threads + Sync), alloc: Global, rest: &[u8]) -> Result<Record, Fail> {
     let mut bytes = HEADER.to_vec(alloc)?;
     bytes.resize(2_064, 0)?;
     bytes.extend_from_slice(rest)?;
     let mut store = MemStore::new(alloc);
     store.create("in.rec")?;
     store.put_at("in.rec", 0, bytes.as_slice())?;
-    Ok(load(alloc, &mut store, "in.rec")?)
+    Ok(load(rt, alloc, &mut store, "in.rec")?)
 }
 
 // Adds the names of a record's channels.
@@ -93,8 +94,13 @@ fn filter_of(alloc: Global, choice: &Choice) -> Result<Filter, Fail> {
 }
 
 // What is played of what follows a header. Of the two channels `b` has the number 0.
-fn played(alloc: Global, rest: &[u8], choice: &Choice) -> Result<PlayList, Fail> {
-    let record = record_of(alloc, rest)?;
+fn played(
+    rt: &(impl Threads + Sync),
+    alloc: Global,
+    rest: &[u8],
+    choice: &Choice,
+) -> Result<PlayList, Fail> {
+    let record = record_of(rt, alloc, rest)?;
     let filter = filter_of(alloc, choice)?;
     let written = ChannelSet::new(choice.4.to_vec(alloc)?);
     let mut names = Names::new(alloc);
@@ -116,7 +122,7 @@ fn token(place: u32, channel: u32, seq: u32, time: u64, whole: Option<i64>) -> T
 
 #[test]
 fn plays_by_time_and_then_in_file_order(rt: HostRuntime) -> Result<(), Fail> {
-    let list = played(rt.alloc(), FIVE, &ALL)?;
+    let list = played(&rt, rt.alloc(), FIVE, &ALL)?;
     let want = [
         token(0, 0, 1, 3, Some(2)),
         token(1, 1, 1, 3, None),
@@ -133,7 +139,7 @@ fn plays_by_time_and_then_in_file_order(rt: HostRuntime) -> Result<(), Fail> {
 #[test]
 fn plays_what_the_filter_lets_through(rt: HostRuntime) -> Result<(), Fail> {
     for (choice, places, shadowed) in ROWS {
-        let list = played(rt.alloc(), FIVE, &choice)?;
+        let list = played(&rt, rt.alloc(), FIVE, &choice)?;
         assert_eq!(rt; list.places.as_slice(), places);
         assert_eq!(rt; list.shadowed, shadowed);
     }
@@ -142,7 +148,7 @@ fn plays_what_the_filter_lets_through(rt: HostRuntime) -> Result<(), Fail> {
 
 #[test]
 fn plays_nothing_of_an_empty_record(rt: HostRuntime) -> Result<(), Fail> {
-    let list = played(rt.alloc(), b"", &ALL)?;
+    let list = played(&rt, rt.alloc(), b"", &ALL)?;
     assert_eq!(rt; list.tokens.as_slice(), [].as_slice());
     assert_eq!(rt; list.places.as_slice(), [].as_slice());
     assert_eq!(rt; list.shadowed, 0);

@@ -7,6 +7,7 @@ use cy_writer::RecordWriter;
 use std::alloc::Global;
 use std::process::Abort;
 use std::test::Fail;
+use std::thread::Threads;
 
 // A store that notes what is read of it: how often, the longest piece, and how many bytes in all.
 #[derive(Drop)]
@@ -111,9 +112,13 @@ fn are_alike(one: &Record, other: &Record) -> bool {
 }
 
 // What both readings of some bytes answer, which is the same.
-fn answers(rt: &impl Abort, alloc: Global, bytes: &[u8]) -> Result<Option<LoadError>, Fail> {
+fn answers(
+    rt: &(impl Abort + Threads + Sync),
+    alloc: Global,
+    bytes: &[u8],
+) -> Result<Option<LoadError>, Fail> {
     let mut store = store_of(alloc, bytes)?;
-    let read = load(alloc, &mut store, "in.rec");
+    let read = load(rt, alloc, &mut store, "in.rec");
     let whole = load_whole(alloc, &mut store, "in.rec");
     match (read, whole) {
         (Ok(one), Ok(other)) => {
@@ -160,6 +165,56 @@ fn answers_the_first_fault_in_the_order_of_the_file(rt: HostRuntime) -> Result<(
     Ok(())
 }
 
+// The section of a chunk's body that has a message of 300 bytes on a channel of each of these
+// numbers, which is its name: 314 bytes each.
+fn numbered_chunk(alloc: Global, from: u64, to: u64) -> Result<Vec<u8>, Fail> {
+    let mut section = b"\x02\0\0\0\0\0\0\0".to_vec(alloc)?;
+    section.extend_from_slice((314 * (to - from)).to_le_bytes().as_slice())?;
+    for number in from..to {
+        let name = format!(in alloc; "{number:04}")?;
+        section.extend_from_slice(b"\x0a\xb7\x02\x0a\x04")?;
+        section.extend_from_slice(name.as_bytes())?;
+        section.extend_from_slice(b"\x10\0\x1a\xac\x02")?;
+        section.resize(section.len() + 300, 7)?;
+    }
+    Ok(section)
+}
+
+// The bodies are long enough to be decoded by themselves, and together worth threads.
+#[test]
+fn meets_limits_and_faults_of_long_bodies_in_the_order_of_the_file(
+    rt: HostRuntime,
+) -> Result<(), Fail> {
+    let alloc = rt.alloc();
+    let many = Some(LoadError::TooManyChannels);
+    let wire = |at: u64| Some(LoadError::Section(SectionError::Wire { at }));
+    let last = 2_064 + 3 * 16 + 314 * 1_024;
+    // The channels of each of three bodies, which body begins with a tag of type 3, if one does, and
+    // what is answered.
+    for (channels, faulty, want) in [
+        ([(0, 600), (600, 1_024), (0, 900)], None, None),
+        ([(0, 600), (600, 1_024), (0, 900)], Some(2), wire(last)),
+        ([(0, 600), (600, 1_025), (0, 900)], None, many),
+        ([(0, 600), (600, 1_025), (0, 900)], Some(2), many),
+        ([(0, 600), (600, 1_025), (0, 900)], Some(0), wire(2_080)),
+        ([(0, 600), (0, 600), (599, 1_024)], None, None),
+        ([(0, 600), (0, 600), (599, 1_025)], None, many),
+        ([(0, 1_025), (0, 1), (0, 1)], None, many),
+        ([(0, 1_025), (0, 1), (0, 1)], Some(0), wire(2_080)),
+    ] {
+        let mut bytes = behind_header(alloc, b"", 2_064)?;
+        for (number, (from, to)) in channels.into_iter().enumerate() {
+            let place = bytes.len() + 16;
+            bytes.extend_from_slice(numbered_chunk(alloc, from, to)?.as_slice())?;
+            if faulty == Some(number) {
+                bytes[place] = 0x0b;
+            }
+        }
+        assert_eq!(rt; answers(&rt, alloc, bytes.as_slice())?, want);
+    }
+    Ok(())
+}
+
 // The places of the chunks' bodies, by the heads of a whole record.
 fn places_of_bodies(alloc: Global, bytes: &[u8]) -> Result<Vec<usize>, Fail> {
     let mut places = Vec::new(alloc);
@@ -183,7 +238,7 @@ fn reads_no_more_than_it_needs(rt: HostRuntime) -> Result<(), Fail> {
     // The store was called twice before.
     store.fail_at(18, 0)?;
     let fault = LoadError::Section(SectionError::Kind { at: 2_064, value: 9 });
-    let answer = load(rt.alloc(), &mut store, "in.rec").err();
+    let answer = load(&rt, rt.alloc(), &mut store, "in.rec").err();
     assert_eq!(rt; answer, Some(fault));
     Ok(())
 }
@@ -201,7 +256,7 @@ fn reads_nothing_of_a_section_that_is_too_long_or_cut(rt: HostRuntime) -> Result
         let head = [4, 0, 0, 0, 0, 0, 0, 0, a, b, c, d, 0, 0, 0, 0];
         let bytes = behind_header(rt.alloc(), head.as_slice(), 3_000)?;
         let mut store = noting(rt.alloc(), bytes.as_slice())?;
-        let answer = load(rt.alloc(), &mut store, "in.rec").err();
+        let answer = load(&rt, rt.alloc(), &mut store, "in.rec").err();
         assert_eq!(rt; answer, Some(LoadError::Section(fault)));
         // The header's section, and the head.
         assert_eq!(rt; store.lent, 2_080);
@@ -213,7 +268,7 @@ fn reads_nothing_of_a_section_that_is_too_long_or_cut(rt: HostRuntime) -> Result
 fn reads_a_file_once_in_pieces(rt: HostRuntime) -> Result<(), Fail> {
     let bytes = record_of(rt.alloc(), THREE_CHUNKS)?;
     let mut store = noting(rt.alloc(), bytes.as_slice())?;
-    let record = load(rt.alloc(), &mut store, "in.rec")?;
+    let record = load(&rt, rt.alloc(), &mut store, "in.rec")?;
     assert_eq!(rt; record.messages(), 4);
     assert_eq!(rt; store.longest, 1_048_576);
     assert_eq!(rt; store.lent, bytes.len() as u64);

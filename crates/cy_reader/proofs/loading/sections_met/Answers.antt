@@ -1,8 +1,8 @@
 use Rattle.std.proofs.Common.{◌<◌, ◌+◌, ◌-◌, ◌∷◌, [], suc, length, refl, arith, inl, inr}
-use Rattle.std.proofs.lemmas.List.Elements.{All-nil}
 use Rattle.std.proofs.lemmas.Result.{err_from_is_err_and}
 use Rattle.cy_reader.specs.private.Found.{seen_section}
 use Rattle.cy_reader.specs.private.Loading.{met_of}
+use Rattle.cy_reader.proofs.Moved.{nothing_sound, met_nothing}
 use Rattle.cy_reader.proofs.Meeting.{section_read, section_wrong, sections_end, sections_fault, one_less}
 use Rattle.cy_reader.proofs.loading.sections_met.Goals as goal
 
@@ -11,19 +11,13 @@ loop-loading-init c = (
   suc (length c.args.file.now),
   omega arith,
   c.requires.long,
-  record {
-    small = rw c.new.ensures.none (record { few = omega arith; small = omega arith });
-    tied = c.new.ensures.tied;
-    few = rw c.new-2.ensures.items (omega arith);
-    numbered = rw c.new-2.ensures.items (All-nil _);
-    placed = rw c.new-2.ensures.items (All-nil _);
-  },
-  rw (c.new.ensures.none, c.new-2.ensures.items) refl,
+  nothing_sound 1 c.in_ok-loading.loading c.in_ok-loading.ensures,
+  rw (met_nothing (c.args.file.now ∷ []) c.in_ok-loading.loading c.in_ok-loading.ensures) refl,
 )
 
 pub returns-in_err-section-clause-met : goal.returns-in_err-section-clause-met
 returns-in_err-section-clause-met c =
-    let p = err_from_is_err_and c.from_residual.result c.from_residual.ensures.1 in
+    let p = err_from_is_err_and c.from_residual-in_err-section.result c.from_residual-in_err-section.ensures.1 in
     let inv = c.loop-loading.invariant in
     let less = one_less inv.0 (omega (arith, inv.1)) in
     rw (p.1, p.2) (inr (sections_fault c.args.file.now less.0 c.loop-loading.at (met_of (c.args.file.now ∷ []) c.loop-loading.loading) c.in_err-section.field-0.0 _ c.in_err-section.ensures.section (rw less.1 at inv.4)))

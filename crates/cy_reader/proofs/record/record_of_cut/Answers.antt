@@ -4,7 +4,7 @@ use Rattle.cy_reader.proofs.Fronts.{cut_wrong, cut_broken}
 use Rattle.cy_reader.proofs.record.record_of_cut.Goals as goal
 
 pub returns-in_err-bodies-clause-record : goal.returns-in_err-bodies-clause-record
-returns-in_err-bodies-clause-record c =
+returns-in_err-bodies-clause-record g c =
     let p = err_from_is_err_and c.from_residual-in_err-bodies.result c.from_residual-in_err-bodies.ensures.1 in
     rw (p.1, p.2) (elim c.in_err-bodies.ensures.met [
       | inl memory ↦ inl memory
@@ -12,6 +12,6 @@ returns-in_err-bodies-clause-record c =
     ])
 
 pub returns-in_err-index-clause-record : goal.returns-in_err-index-clause-record
-returns-in_err-index-clause-record c =
+returns-in_err-index-clause-record g c =
     let p = err_from_is_err_and c.from_residual-in_err-index.result c.from_residual-in_err-index.ensures.1 in
     rw (p.1, p.2) (inr (cut_broken c.args.name.now c.args.front c.args.cut _ _ c.in_err-index.was c.in_ok-bodies.ensures.met))

@@ -1,10 +1,11 @@
 use Rattle.std.proofs.Common.{◌≡◌, ◌≤◌, ◌+◌, ◌∷◌, length, rules}
-use Rattle.std.specs.Vec.Iter.{into_iter_items}
+use Rattle.std.specs.Vec.Iter.{into_iter_items, into_iter_len}
 use Rattle.cy_reader.specs.declared.cutting.Part.{Part}
 use Rattle.cy_reader.specs.Record.{longest_file}
 use Rattle.cy_reader.specs.private.Loading.{met_of}
 use Rattle.cy_reader.proofs.Bodies.{one_met, rest_within}
-use Rattle.cy_reader.proofs.gathering.parts_met.Goals as goal
+use Rattle.cy_reader.proofs.Moved.{one_decoded}
+use Rattle.cy_reader.proofs.gathering.join.Goals as goal
 
 pub loop-part-preserved : goal.loop-part-preserved
 loop-part-preserved c =
@@ -13,8 +14,13 @@ loop-part-preserved c =
     let left = into_iter_items c.loop-part.part-iterator in
     let rest = into_iter_items c.next.new.self in
     let is : left ≡ p ∷ rest = search rules in
+    let old = c.loop-part.each in
+    let new = c.next-in-loop-part.new.self in
+    let both = one_decoded p left rest (into_iter_items old) (into_iter_items new) (into_iter_len old) (into_iter_len new) c.next-in-loop-part.result is c.next-in-loop-part.ensures.cases i.known i.decoded in
     record {
       so_far = one_met p left rest (met_of c.loop-part.bodies.items c.loop-part.loading) (met_of c.part_met.new.bodies.items c.part_met.new.loading) _ is c.in_ok-part_met.ensures.met i.so_far;
       sound = c.in_ok-part_met.ensures.still_sound;
+      decoded = both.1;
+      known = both.2;
       within = rest_within (λ (q : Part). q.body_at + length q.body ≤ longest_file) p left rest is i.within;
     }

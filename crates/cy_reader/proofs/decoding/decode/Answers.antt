@@ -1,0 +1,15 @@
+use Rattle.std.proofs.Common.{ap, ◌∙◌}
+use Rattle.std.specs.Prelude.{IfSome}
+use Rattle.std.proofs.Crossing.{crosses, frees}
+use denote.Param.Send.{sendable}
+use Rattle.rayon.proofs.ListFacts.{IfOk-then}
+use Rattle.rayon.proofs.ToStd.{slice-AllZip}
+use Rattle.cy_reader.specs.private.Alone.{IsAlone}
+use Rattle.cy_reader.proofs.decoding.decode.Goals as goal
+
+pub returns : goal.returns
+returns g c =
+    let slice = ap (λ it. it.base.slice.now) c.map.ensures.base ∙ ap (λ it. it.slice.now) c.with_min_len.ensures.base ∙ c.par_iter.ensures in
+    IfOk-then c.collect.result _ _ c.collect.ensures (λ v h.
+    let chain = h.1 in
+    rw h.2 (slice-AllZip chain.0 c.args.parts.now (chain.1 ∙ slice) (λ p a. IfSome a (IsAlone p)) h.0 chain.2))

@@ -1,0 +1,103 @@
+// Decodes the bodies of chunks side by side, each by itself.
+ghost use Rattle.std.specs.Prelude.{◌≡◌, ◌≤◌, ◌+◌, All, length, IfOk, IfSome};
+ghost use Rattle.cy_reader.specs.Record.{longest_file};
+ghost use Rattle.cy_reader.specs.private.Alone.{IsAlone, AreDecoded};
+
+use crate::LoadError;
+use crate::channels::Channels;
+use crate::cutting::Part;
+use crate::gathering::chunk_met;
+use crate::known::Known;
+use crate::loading::{Loading, Message};
+use cy_section::SectionKind;
+use rayon::prelude::*;
+use std::alloc::{AllocError, Global};
+use std::thread::Threads;
+
+// The shortest body that is decoded by itself, in bytes: what is kept of it for a while takes some
+// hundred bytes beside its messages.
+const SHORTEST_BODY: usize = 4_096;
+
+// How many bytes of bodies are worth threads.
+const WORTH_THREADS: usize = 262_144;
+
+// What is met in a body by itself: its channels, in the order of their first mention, and its
+// messages.
+#[derive(Drop)]
+pub(crate) struct Alone {
+    pub channels: Vec<Known>,
+    pub messages: Vec<Message>,
+}
+
+impl Alone {
+    // What was met, where it is all.
+    fn of(loading: Loading) -> Self
+        ensures channels { result.channels ≡ loading.channels.list }
+        ensures messages { result.messages ≡ loading.messages }
+    {
+        let Loading { channels, messages } = loading;
+        let Channels { list, numbers } = channels;
+        drop(numbers);
+        Alone {
+            channels: list,
+            messages,
+        }
+    }
+}
+
+// What is met in a chunk's body by itself, or its first fault or limit.
+pub(crate) fn alone_of(alloc: Global, part: &Part) -> Result<Alone, LoadError>
+    requires { part.now.body_at + length part.now.body ≤ longest_file }
+    ensures { IfOk result (IsAlone part.now) }
+{
+    let mut loading = Loading::with_room(alloc, 0)?;
+    match chunk_met(alloc, &[], &mut loading, part) {
+        Ok(()) => Ok(Alone::of(loading)),
+        Err(error) => {
+            drop(loading);
+            Err(error)
+        }
+    }
+}
+
+// The same where it is worth while. None of another section, of a body that is short, and of one
+// that is refused by itself or for want of memory: these are met in their turn.
+fn alone_in(alloc: Global, part: &Part) -> Option<Alone>
+    requires { part.now.body_at + length part.now.body ≤ longest_file }
+    ensures { IfSome result (IsAlone part.now) }
+{
+    let is_chunk = matches!(part.kind, SectionKind::ChunkBody);
+    if !is_chunk || part.body.as_slice().len() < SHORTEST_BODY {
+        return None;
+    }
+    alone_of(alloc, part).ok()
+}
+
+// How few sections a thread takes: with few bytes in all, one thread takes all.
+fn least_piece(parts: &[Part]) -> usize {
+    let bytes = parts.iter().fold(0_usize, |sum, part| {
+        sum.saturating_add(part.body.as_slice().len())
+    });
+    if bytes < WORTH_THREADS { usize::MAX } else { 1 }
+}
+
+// What is met in each section by itself, where it is a chunk's body that is decoded so.
+pub(crate) fn decode<R: Threads + Sync>(
+    rt: &R,
+    alloc: Global,
+    parts: &[Part],
+) -> Result<Vec<Option<Alone>>, AllocError>
+    requires { All (λ p. p.body_at + length p.body ≤ longest_file) parts.now }
+    ensures { IfOk result (λ v. AreDecoded parts.now v.items) }
+{
+    parts
+        .par_iter()
+        .with_min_len(least_piece(parts))
+        .map(
+            |part: &Part| -> Option<Alone>
+                requires { part.now.body_at + length part.now.body ≤ longest_file }
+                ensures { IfSome result (IsAlone part.now) }
+            { alone_in(alloc, part) },
+        )
+        .collect(rt, alloc)
+}
