@@ -5,3 +5,4 @@ pub mod Found
 pub mod Front
 pub mod Loading
 pub mod Uses
+pub mod Salvaging
