@@ -1,4 +1,4 @@
--- What is salvaged of a record whose file has only the front of its text: the law, and what it needs.
+-- What is salvaged of a file that has only the front of a record's text: the law and its needs.
 use Rattle.std.specs.Prelude.{◌≡◌, ℕ, ◌+◌, ◌-◌, ◌≤◌, ◌<◌, ◌^◌, nat_lt, if◌then◌else◌, List, []}
 use Rattle.std.specs.Prelude.{◌∷◌, ◌++◌, length, take, drop, map, Ok}
 use Rattle.std.specs.List.{AllByRecursion, flat_map}

@@ -82,8 +82,8 @@ unfoldable pub salvage_of : List ℕ → Result Salvage LoadError
 salvage_of file = if_usable (file_header file) >>= λ usable.
     salvage_in (length file) (sound_sections file)
 
--- What `salvage_record` answers: what is salvaged of the file, or why nothing is. It changes no file, and
--- answers `Store` only where the store's count rose.
+-- What `salvage_record` answers: what is salvaged of the file, or why nothing is. It changes no file,
+-- and answers `Store` only where the store's count rose.
 pub record SalvageAnswer (old new : StoreView) (name : List ℕ) (result : Result Salvage LoadError) :
     Type 0 where
   pub salvage : IfOk result (λ s. Holds old.files name (λ file. salvage_of file ≡ Ok s))
