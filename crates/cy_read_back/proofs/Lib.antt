@@ -9,3 +9,5 @@ pub mod TextFits
 pub mod TextParts
 pub mod TextRead
 pub mod TextTold
+pub mod CutSections
+pub mod CutMessages

@@ -79,19 +79,22 @@ each_taken (chunk ∷ later) are =
     )
 
 -- times
-pub least_fits : (ms : List BodyMessage) → AllByRecursion IsReadableMessage ms → least_time ms < 2 ^ 64
+abbrev pub HasTime : BodyMessage → Type 0
+HasTime m = m.time < 2 ^ 64
+
+pub least_fits : (ms : List BodyMessage) → AllByRecursion HasTime ms → least_time ms < 2 ^ 64
 least_fits [] all = lit< tt
-least_fits (m ∷ []) all = all.0.time
+least_fits (m ∷ []) all = all.0
 least_fits (m ∷ n ∷ rest) all =
     let more = least_fits (n ∷ rest) all.1 in
-    let here = all.0.time in
+    let here = all.0 in
     omega arith
 
-pub greatest_fits : (ms : List BodyMessage) → AllByRecursion IsReadableMessage ms → greatest_time ms < 2 ^ 64
+pub greatest_fits : (ms : List BodyMessage) → AllByRecursion HasTime ms → greatest_time ms < 2 ^ 64
 greatest_fits [] all = lit< tt
 greatest_fits (m ∷ rest) all =
     let more = greatest_fits rest all.1 in
-    let here = all.0.time in
+    let here = all.0 in
     omega arith
 
 -- the bytes of messages are more than they, and than those of their contents
@@ -110,7 +113,7 @@ contents_within (m ∷ ms) =
 raw_within : (ms : List BodyMessage) → raw_size ms ≤ length (chunk_body ms)
 raw_within ms = subst (λ (n : ℕ). n ≤ length (chunk_body ms)) (sym (sum-map (λ (m : BodyMessage). length m.content) ms)) (contents_within ms)
 
-pub chunk_header_fits : (chunk : List BodyMessage) → AllByRecursion IsReadableMessage chunk → length (chunk_body chunk) ≤ longest_section → ChunkHeaderFits (chunk_header_of chunk)
+pub chunk_header_fits : (chunk : List BodyMessage) → AllByRecursion HasTime chunk → length (chunk_body chunk) ≤ longest_section → ChunkHeaderFits (chunk_header_of chunk)
 unfolding chunk_header_rows
 chunk_header_fits chunk all short =
     let begin = least_fits chunk all in

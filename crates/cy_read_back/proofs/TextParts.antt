@@ -25,7 +25,7 @@ use Rattle.cy_read_back.proofs.TextMet.{chunk_parts}
 use Rattle.cy_read_back.proofs.TextFits.{join_all, many_bytes, header_short, channel_short, length-any_field, cache_short, count_within}
 
 -- each part is a section
-one_channel : (ms : List BodyMessage) (c : Channel) → length (channel_body c) ≤ longest_section → IsSection (channel_part ms c)
+pub one_channel : (ms : List BodyMessage) (c : Channel) → length (channel_body c) ≤ longest_section → IsSection (channel_part ms c)
 one_channel ms c short = record {
   bytes = λ at. ap (section kind.Channel) (sym (body_of-section kind.Channel (channel_body c)));
   plain = λ at. tt;
@@ -37,7 +37,7 @@ one_channel ms c short = record {
     ap_short : length (body_of (channel_part ms c)) ≤ longest_section
     ap_short = rw (body_of-section kind.Channel (channel_body c)) short
 
-one_header : (chunk : List BodyMessage) → IsSection (chunk_header_part chunk)
+pub one_header : (chunk : List BodyMessage) → IsSection (chunk_header_part chunk)
 one_header chunk = record {
   bytes = λ at. ap (section kind.ChunkHeader) (sym (body_of-section kind.ChunkHeader (chunk_header_body (chunk_header_of chunk))));
   plain = λ at. tt;
@@ -49,7 +49,7 @@ one_header chunk = record {
     ap_short : length (body_of (chunk_header_part chunk)) ≤ longest_section
     ap_short = rw (body_of-section kind.ChunkHeader (chunk_header_body (chunk_header_of chunk))) (header_short (chunk_header_of chunk))
 
-one_body : (chunk : List BodyMessage) → length (chunk_body chunk) ≤ longest_section → IsSection (chunk_body_part chunk)
+pub one_body : (chunk : List BodyMessage) → length (chunk_body chunk) ≤ longest_section → IsSection (chunk_body_part chunk)
 one_body chunk short = record {
   bytes = λ at. ap (section kind.ChunkBody) (sym (body_of-section kind.ChunkBody (chunk_body chunk)));
   plain = λ at. tt;

@@ -25,8 +25,13 @@ use Rattle.cy_read_back.specs.Records.{IsReadableChannel, IsReadableMessage, Are
 use Rattle.cy_read_back.proofs.TextNames.{AreNew, is_name, names_there, channels_once, name_readable}
 use Rattle.cy_read_back.proofs.TextSections.{IsSection, StandsThere, placed, long_file, bytes_there, taken_there, sections-written, heads-written, end-written, few_parts}
 use Rattle.cy_read_back.proofs.TextMet.{IsOn, IsChunkOn, met_with, text_meets}
-use Rattle.cy_read_back.proofs.TextFits.{IsShort, each_chunk, each_taken, each_small, chunk_short, chunk_header_fits, channels_fit, message_fits, least_fits, greatest_fits}
+use Rattle.cy_read_back.proofs.TextFits.{IsShort, HasTime, each_chunk, each_taken, each_small, chunk_short, chunk_header_fits, channels_fit, message_fits, least_fits, greatest_fits}
 use Rattle.cy_read_back.proofs.TextParts.{PartFits, all_sections, all_parts_fit, part_count, message_count}
+
+-- each message has a time of 64 bits
+have_times : (ms : List BodyMessage) → AllByRecursion IsReadableMessage ms → AllByRecursion HasTime ms
+have_times [] readable = tt
+have_times (m ∷ ms) readable = (readable.0.time, have_times ms readable.1)
 
 -- each message is on a channel, within the limits
 on_channels : (channels : List Channel) (ms : List BodyMessage) → AllByRecursion IsReadableChannel channels → AllByRecursion (λ m. is_name m.channel_name channels ≡ true) ms
@@ -53,7 +58,7 @@ fine_chunks : (channels : List Channel) (chunks : List (List BodyMessage)) → A
 fine_chunks channels [] taken on readable = tt
 fine_chunks channels (chunk ∷ chunks) taken on readable =
     let short = chunk_short chunk taken.0 (shorts channels chunk on.0) in (
-      record { on = record { header = chunk_header_fits chunk readable.0 short; messages = on.0 }; short = short },
+      record { on = record { header = chunk_header_fits chunk (have_times chunk readable.0) short; messages = on.0 }; short = short },
       fine_chunks channels chunks taken.1 on.1 readable.1,
     )
 
@@ -139,8 +144,8 @@ header_fits channels chunks file t =
     let few = t.few in
     let long = length_is channels chunks file t in
     let counts = counts_fit channels chunks file t in
-    let begin = least_fits (messages_in chunks) t.each_message in
-    let end = greatest_fits (messages_in chunks) t.each_message in
+    let begin = least_fits (messages_in chunks) (have_times (messages_in chunks) t.each_message) in
+    let end = greatest_fits (messages_in chunks) (have_times (messages_in chunks) t.each_message) in
     search (arith, begin, end, short, few, long, counts)
 
 -- its header stands at its front

@@ -54,7 +54,7 @@ section_is k body = refl
 pub body_of-section : (k : SectionKind) (body : List ℕ) → drop 16 (section k body) ≡ body
 body_of-section k body = ap (drop 16) (section_is k body) ∙ drop-append_seam (head_bytes k (length body)) body
 
-not_header : (k : SectionKind) → IsPlain k → (kind_number k == 0) ≡ false
+pub not_header : (k : SectionKind) → IsPlain k → (kind_number k == 0) ≡ false
 not_header kind.Header plain = absurd plain
 not_header kind.ChunkHeader plain = refl
 not_header kind.ChunkBody plain = refl
@@ -118,7 +118,7 @@ section_at-index file front body back at s small =
     rw (before, head, of_kind, read) refl
 
 -- a part's bytes, and those behind it
-next_place : (p : Part) (at : ℕ) → IsSection p → at + 16 + length (body_of p) ≡ at + length p.bytes
+pub next_place : (p : Part) (at : ℕ) → IsSection p → at + 16 + length (body_of p) ≡ at + length p.bytes
 next_place p at is = omega (arith, ap length (is.bytes at), length-section (kind_at at p) (body_of p))
 
 part_there : (p : Part) (rest : List Part) (front index file : List ℕ) (at : ℕ) → file ≡ front ++ (bytes_of (p ∷ rest) ++ index) → at ≡ length front → IsSection p

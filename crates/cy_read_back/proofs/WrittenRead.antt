@@ -72,7 +72,7 @@ message_at-written start m fits =
       refl,
     )
 
-message_field-is : (m : BodyMessage) → message_field m ≡ field_bytes 1 (message_bytes m)
+pub message_field-is : (m : BodyMessage) → message_field m ≡ field_bytes 1 (message_bytes m)
 unfolding message_field
 message_field-is m = refl
 

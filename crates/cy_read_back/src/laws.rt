@@ -1,4 +1,5 @@
 // What holds of what is written and read: proved here, and nothing to run.
+ghost use Rattle.cy_read_back.specs.Fronts.{FrontsAreSalvaged};
 ghost use Rattle.cy_read_back.specs.Records.{RecordsReadBack};
 ghost use Rattle.cy_read_back.specs.Sections.{SectionsReadBack};
 
@@ -13,4 +14,10 @@ pub fn sections_read_back()
 /// `info` with its index and no difference.
 pub fn records_read_back()
     ensures { RecordsReadBack }
+{}
+
+/// Where a file has only the front of a record's text, the messages of the chunks that stand whole
+/// in it are salvaged: the first ones of the record, cut at chunks.
+pub fn fronts_are_salvaged()
+    ensures { FrontsAreSalvaged }
 {}

@@ -17,3 +17,5 @@ pub mod Ahead
 pub mod Fronts
 pub mod CutTo
 pub mod FrontRead
+pub mod Salvaging
+pub mod Told

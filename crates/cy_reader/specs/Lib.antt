@@ -6,6 +6,8 @@ pub mod Load
 pub mod Named
 pub mod Play
 pub mod Record
+pub mod Said
+pub mod Salvage
 pub mod Sections
 pub mod Stands
 pub mod Tiling

@@ -1,9 +1,11 @@
 -- The channels of a record by their names.
-use Rattle.std.specs.Prelude.{ℕ, List, [], Option, Some, None}
+use Rattle.std.specs.Prelude.{ℕ, List, [], map, slice_index_or, Option, Some, None}
 use Rattle.std.specs.List.{find}
 use Rattle.std.specs.Str.{bytes_eq}
+use Rattle.cy_section.specs.declared.types.BodyMessage.{BodyMessage}
 use Rattle.cy_section.specs.declared.types.Channel.{Channel}
 use Rattle.cy_reader.specs.declared.known.Known.{Known}
+use Rattle.cy_reader.specs.Record.{Met, Message, named_only}
 
 -- A channel of a name, type and description.
 abbrev pub channel_made : (name message_type proto_desc : List ℕ) → Channel
@@ -18,3 +20,15 @@ as_read name None = channel_made name [] []
 
 abbrev pub known_as : List ℕ → List Known → Option Known
 known_as name channels = find (λ known. bytes_eq known.channel.name name) channels
+
+-- The name of the channel of a number, and a message with the name of its channel.
+abbrev pub name_in : List Known → ℕ → List ℕ
+name_in channels number = (slice_index_or channels number (named_only [])).channel.name
+
+abbrev pub with_name : List Known → Message → BodyMessage
+with_name channels m =
+    record { channel_name = name_in channels m.channel; time = m.time; content = m.content }
+
+-- The messages that were met, in file order, each with the name of its channel.
+abbrev pub named_messages : Met → List BodyMessage
+named_messages met = map (with_name met.channels) met.messages

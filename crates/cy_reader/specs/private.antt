@@ -6,3 +6,4 @@ pub mod Found
 pub mod Front
 pub mod Loading
 pub mod Uses
+pub mod Salvaging

@@ -2,7 +2,8 @@
 //! with its place.
 //!
 //! `specs/Tiling` says into which sections a file falls, `specs/Sections` computes them, and
-//! `specs/Record` says what they hold together. `specs/Play` says which messages are played, and in
+//! `specs/Record` says what they hold together, `specs/Salvage` what is salvaged of those before a
+//! fault. `specs/Play` says which messages are played, and in
 //! which order, and `specs/Info` has the text that tells what a record is, `specs/FaultText` the
 //! one that tells why a file is none.
 #![tactic(auto)]
@@ -21,10 +22,12 @@ mod info;
 mod joining;
 mod known;
 mod laws;
+mod loaded;
 mod loading;
 mod named;
 mod play;
 mod record;
+mod salvage;
 mod sections;
 
 pub use channel_set::ChannelSet;
@@ -32,5 +35,7 @@ pub use error::LoadError;
 pub use facts::{Counted, IndexFound};
 pub use heads::PlacedHead;
 pub use known::Known;
-pub use laws::sections_tile;
+pub use laws::{channels_have_own_names, sections_are_met_as_said, sections_tile};
+pub use loaded::Loaded;
 pub use record::{Record, load, load_whole};
+pub use salvage::{Salvaged, salvage_record};

@@ -129,7 +129,7 @@ fn message_met(
 
 // Reads the messages that are left, for the fault that may end them.
 #[inline(never)]
-fn read_out(messages: MessageReader<'_>) -> Result<(), LoadError>
+pub(crate) fn read_out(messages: MessageReader<'_>) -> Result<(), LoadError>
     ensures { result ≡ unless_ended messages.entry.fault }
 {
     let mut left = messages;

@@ -1,13 +1,13 @@
 // The channels of a record by their names.
-use crate::Record;
+use crate::{Loaded, Record};
 use cy_section::Channel;
 
-impl Record {
+impl<'a> Loaded<'a> {
     ghost use Rattle.std.specs.Prelude.{◌≡◌, option_map};
     ghost use Rattle.cy_reader.specs.Named.{known_as};
 
     /// The channel of a name, where there is one.
-    pub fn channel_named(&self, name: &str) -> Option<&Channel>
+    pub fn channel_named(&self, name: &str) -> Option<&'a Channel>
         ensures { option_map (λ c. c.now) result
             ≡ option_map (λ known. known.channel) (known_as name.now self.now.channels) }
     {
@@ -18,5 +18,18 @@ impl Record {
             }
         }
         None
+    }
+}
+
+impl Record {
+    ghost use Rattle.std.specs.Prelude.{◌≡◌, option_map};
+    ghost use Rattle.cy_reader.specs.Named.{known_as};
+
+    /// The channel of a name, where there is one.
+    pub fn channel_named(&self, name: &str) -> Option<&Channel>
+        ensures { option_map (λ c. c.now) result
+            ≡ option_map (λ known. known.channel) (known_as name.now self.now.channels) }
+    {
+        self.loaded().channel_named(name)
     }
 }

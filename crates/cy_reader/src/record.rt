@@ -18,7 +18,7 @@ use crate::gathering::{heads_in, parts_met};
 use crate::header::LONGEST_FILE;
 use crate::heads::{Heads, KeptIndex, PlacedHead, heads_of, push_index};
 use crate::loading::{Loading, parts_of};
-use crate::{LoadError, info};
+use crate::{LoadError, Loaded, info};
 use cy_msg::{Bytes, Text};
 use cy_section::{Channel, Header};
 use cy_store::{ReadFile, Store, read_file};
@@ -144,11 +144,18 @@ pub fn load<S: Store, R: Threads + Sync>(
 }
 
 impl Record {
+    /// Its channels and messages.
+    pub fn loaded(&self) -> Loaded<'_>
+        ensures { result ≡ record { channels = self.now.channels; messages = self.now.messages } }
+    {
+        Loaded::new(self.bodies.as_slice(), &self.loading)
+    }
+
     /// The number of channels.
     pub fn channels(&self) -> u32
         ensures { result ≡ length self.now.channels }
     {
-        self.loading.channels.list.len() as u32
+        self.loaded().channels()
     }
 
     /// The channel of a number. One that only messages name has an empty type and description.
@@ -157,14 +164,14 @@ impl Record {
         ensures { IfSome (slice_get self.now.channels number) (λ known. result.now
             ≡ known.channel) }
     {
-        &self.loading.channels.list[number as usize].channel
+        self.loaded().channel(number)
     }
 
     /// The number of messages.
     pub fn messages(&self) -> u32
         ensures { result ≡ length self.now.messages }
     {
-        self.loading.messages.len() as u32
+        self.loaded().messages()
     }
 
     /// The number of a message's channel, and its time in nanoseconds.
@@ -174,8 +181,7 @@ impl Record {
             × (result.1 ≡ m.time)) }
         ensures channel { result.0 < length self.now.channels }
     {
-        let message = self.loading.messages[place as usize];
-        (message.channel, message.time)
+        self.loaded().message(place)
     }
 
     // A message's time, 0 where there is none at the place.
@@ -202,11 +208,7 @@ impl Record {
         requires { place < length self.now.messages }
         ensures { IfSome (slice_get self.now.messages place) (λ m. result.now ≡ m.content) }
     {
-        let message = self.loading.messages[place as usize];
-        let body = self.bodies[message.body as usize].as_slice();
-        let start = body.len().min(message.start as usize);
-        let end = start + (body.len() - start).min(message.length as usize);
-        &body[start..end]
+        self.loaded().content(place)
     }
 
     // What `info` tells beside the channels and the header.

@@ -1,7 +1,7 @@
 use Rattle.std.proofs.Common.{◌<◌, ◌∙◌, ℕ, List, sym, ap, subst}
 use Rattle.std.specs.Str.{bytes_eq}
 use Rattle.cy_reader.proofs.NamedChannels.{met, passed, none_met}
-use Rattle.cy_reader.proofs.record.Record.channel_named.Goals as goal
+use Rattle.cy_reader.proofs.loaded.Loaded.channel_named.Goals as goal
 
 pub channel-channel-requires : goal.channel-channel-requires
 channel-channel-requires c = subst (λ (n : ℕ). c.loop-number.number < n) c.channels-number-end.ensures c.loop-number-test.true

@@ -1,0 +1,29 @@
+use Rattle.std.proofs.Common.{◌-◌, ◌∙◌, List, length, map, ap, subst, cond, inl, inr}
+use Rattle.std.specs.Prelude.{◌==◌, ◌&&◌, is_none}
+use Rattle.std.proofs.lemmas.Result.{err_from_is_err_and}
+use Rattle.cy_reader.specs.declared.cutting.Part.{Part}
+use Rattle.cy_reader.specs.Heads.{end_of}
+use Rattle.cy_reader.specs.Record.{header_end}
+use Rattle.cy_reader.specs.private.Cutting.{seen_part, fault_in}
+use Rattle.cy_reader.specs.private.Salvaging.{AreSound}
+use Rattle.cy_reader.proofs.Salvaging.{salvage_wrong, salvage_met}
+use Rattle.cy_reader.proofs.salvage.salvaged_of.Goals as goal
+
+pub returns-in_err-bodies-clause-salvaged : goal.returns-in_err-bodies-clause-salvaged
+returns-in_err-bodies-clause-salvaged c =
+    let p = err_from_is_err_and c.from_residual-in_err-bodies.result c.from_residual-in_err-bodies.ensures.1 in
+    let sound : AreSound c.args.cut.parts.items c.in_ok-count.count (fault_in c.args.cut.end) =
+    subst (λ (ps : List Part). AreSound ps c.in_ok-count.count (fault_in c.args.cut.end)) c.deref.ensures.value (c.in_ok-count.ensures.sound (fault_in c.args.cut.end)) in
+    rw (p.1, p.2) (elim c.in_err-bodies.ensures.met [
+      | inl memory ↦ inl memory
+      | inr wrong ↦ inr (salvage_wrong c.args.size c.args.cut c.in_ok-count.count c.truncate.new.self.items sound _ c.truncate.ensures.items wrong)
+    ])
+
+pub returns-clause-salvaged : goal.returns-clause-salvaged
+returns-clause-salvaged c =
+    let sound : AreSound c.args.cut.parts.items c.in_ok-count.count (fault_in c.args.cut.end) =
+    subst (λ (ps : List Part). AreSound ps c.in_ok-count.count (fault_in c.args.cut.end)) c.deref.ensures.value (c.in_ok-count.ensures.sound (fault_in c.args.cut.end)) in
+    salvage_met c.args.size c.args.cut c.in_ok-count.count c.dropped_behind-dropped.result c.is_whole-are_all.result c.truncate.new.self.items sound _
+    c.truncate.ensures.items c.in_ok-bodies.ensures.met
+    (c.is_whole-are_all.ensures ∙ ap (λ (ps : List Part). (c.in_ok-count.count == length ps) && is_none (fault_in c.args.cut.end)) c.deref-2.ensures.value)
+    (c.dropped_behind-dropped.ensures ∙ ap (λ (ps : List Part). cond c.is_whole-are_all.result 0 (c.args.size - end_of header_end (map seen_part ps))) c.deref-3.ensures.value)

@@ -1,0 +1,38 @@
+-- What is salvaged of the sections that were read.
+use Rattle.std.specs.Prelude.{◌≡◌, ◌⊎◌, ◌<◌, ◌≤◌, ℕ, List, length, map, take, Option, Some}
+use Rattle.std.specs.Prelude.{Result, Ok, Err, IfOk, IfErr, IsErrOf, IsSome}
+use Rattle.cy_store.specs.Files.{Holds}
+use Rattle.cy_store.specs.Store.{StoreView, HasCauses}
+use Rattle.cy_section.specs.declared.error.SectionError.{SectionError}
+use Rattle.cy_reader.specs.declared.error.LoadError.{LoadError}
+use Rattle.cy_reader.specs.declared.error.LoadError.TheVariants.{Store, Memory}
+use Rattle.cy_reader.specs.declared.cutting.Part.{Part}
+use Rattle.cy_reader.specs.declared.cutting.CutFile.{CutFile}
+use Rattle.cy_reader.specs.Sections.{Sections}
+use Rattle.cy_reader.specs.Record.{file_header, header_end, longest_file}
+use Rattle.cy_reader.specs.Salvage.{Salvage, until_fault, if_usable, salvage_in, salvage_of}
+use Rattle.cy_reader.specs.private.Cutting.{seen_part, fault_in}
+
+-- These many sections stand before the first that has a fault of its own, if one has.
+pub record AreSound (parts : List Part) (count : ℕ) (fault : Option SectionError) : Type 0 where
+  pub end : Option SectionError
+  pub sound : until_fault (map seen_part parts) fault
+      ≡ record { sections = map seen_part (take count parts); fault = end }
+  pub within : count ≤ length parts
+  pub all : count ≡ length parts → end ≡ fault
+  pub some : count < length parts → IsSome end
+
+-- The size of a file whose front is usable, or why it isn't.
+pub record SizeAnswer (old new : StoreView) (name : List ℕ) (result : Result ℕ LoadError) : Type 0
+  where
+    pub size : IfOk result (λ size. Holds old.files name (λ file. (size ≡ length file)
+        × (if_usable (file_header file) ≡ Ok tt)))
+    pub sized : IfOk result (λ size. (header_end ≤ size) × (size ≤ longest_file))
+    pub refused : IfErr result (λ e. (e ≡ Memory) ⊎ ((e ≡ Store)
+        ⊎ Holds old.files name (λ file. salvage_of file ≡ Err e)))
+    pub same : new.files ≡ old.files
+    pub causes : HasCauses (IsErrOf result Store) old new name
+
+-- What is salvaged of a file of this size that was cut into sections.
+unfoldable pub cut_salvage : ℕ → CutFile → Result Salvage LoadError
+cut_salvage size c = salvage_in size (until_fault (map seen_part c.parts.items) (fault_in c.end))

@@ -1,0 +1,232 @@
+// Reads what stands in a record's file before its first fault.
+ghost use Rattle.std.specs.Prelude.{◌≡◌, ◌≢◌, ◌≤◌, ◌+◌, ◌-◌, if◌then◌else◌, length, map, All};
+ghost use Rattle.std.specs.Prelude.{true, ◌==◌, ◌&&◌, is_some, is_none, IfOk, IfErr, IsOkUnless};
+ghost use Rattle.cy_msg.specs.Answer.{Answers, AnswersOr};
+ghost use Rattle.cy_reader.specs.Heads.{end_of};
+ghost use Rattle.cy_reader.specs.Record.{file_header, header_end, longest_file};
+ghost use Rattle.cy_reader.specs.Salvage.{own_fault, is_unreadable, if_usable, SalvageAnswer};
+ghost use Rattle.cy_reader.specs.private.Cutting.{seen_part, fault_in, AreWithin};
+ghost use Rattle.cy_reader.specs.private.Salvaging.{AreSound, SizeAnswer, cut_salvage};
+ghost use Rattle.cy_section.specs.declared.error.SectionError.{SectionError as SectionFault};
+ghost use Rattle.std.specs.Prelude.{Option};
+
+use crate::cutting::{CutFile, Part, cut_file};
+use crate::gathering::parts_met;
+use crate::header::{LONGEST_FILE, file_header};
+use crate::heads::KeptIndex;
+use crate::loading::{Loading, read_out};
+use crate::{LoadError, Loaded};
+use cy_msg::Bytes;
+use cy_section::{
+    HEADER_SIZE, MessageReader, SectionError, SectionKind, read_channel, read_chunk_header,
+};
+use cy_store::{Store, read_range};
+use std::alloc::Global;
+use std::marker::Model;
+
+/// What was salvaged of a file: contracts see its channels, its messages, and how many bytes were
+/// dropped.
+#[derive(Drop)]
+pub struct Salvaged {
+    bodies: Vec<Bytes>,
+    loading: Loading,
+    dropped: u64,
+}
+
+impl Model for Salvaged {
+    ghost use Rattle.std.specs.Prelude.{length};
+    ghost use Rattle.cy_reader.specs.Salvage.{Salvage};
+    ghost use Rattle.cy_reader.specs.private.Loading.{IsSound, met_of};
+
+    ghost Value = { Salvage };
+
+    ghost view = { λ s. record {
+      met = met_of s.bodies.items s.loading;
+      dropped = s.dropped;
+    } };
+
+    ghost invariant = { λ s. IsSound (length s.bodies.items) s.loading };
+}
+
+impl Salvaged {
+    /// The channels and messages.
+    pub fn loaded(&self) -> Loaded<'_>
+        ensures { result ≡ self.now.met }
+    {
+        Loaded::new(self.bodies.as_slice(), &self.loading)
+    }
+
+    /// How many bytes were dropped: those from the section with the fault on.
+    pub fn dropped(&self) -> u64
+        ensures { result ≡ self.now.dropped }
+    {
+        self.dropped
+    }
+}
+
+// Whether a header was refused because its fields can't be read.
+fn is_unreadable(error: &LoadError) -> bool
+    ensures { result ≡ is_unreadable error.now }
+{
+    matches!(error, LoadError::Section(SectionError::Wire { .. }))
+}
+
+// The length of a file whose first bytes are these, and whose header is usable.
+fn size_in(bytes: &[u8], size: u64) -> Result<u64, LoadError>
+    ensures usable { Answers (λ _. tt) result (if_usable (file_header bytes.now)) }
+    ensures size { IfOk result (λ n. n ≡ size) }
+    ensures not_store { IfErr result (λ e. e ≢ LoadError.Store) }
+{
+    match file_header(bytes) {
+        Ok(_) => Ok(size),
+        Err(error) => {
+            if is_unreadable(&error) {
+                Ok(size)
+            } else {
+                Err(error)
+            }
+        }
+    }
+}
+
+// The length of a file whose header is usable.
+fn usable_size<S: Store>(alloc: Global, store: &mut S, name: &str) -> Result<u64, LoadError>
+    ensures { SizeAnswer (S.shows store.old) (S.shows store.new) name.now result }
+{
+    let size = store.size(name)?;
+    if size > LONGEST_FILE {
+        return Err(LoadError::FileTooLarge { count: size });
+    }
+    let long = size.min(HEADER_SIZE as u64);
+    let bytes = read_range(alloc, store, name, 0, long as usize)?;
+    size_in(bytes.as_slice(), size)
+}
+
+// That an error is a fault, unless there was no memory.
+fn is_fault(error: SectionError) -> Result<bool, LoadError>
+    ensures fault { IfOk result (λ b. (b ≡ true) × (error ≢ SectionError.Memory)) }
+    ensures only_memory { IsOkUnless result LoadError.Memory }
+{
+    match error {
+        SectionError::Memory => Err(LoadError::Memory),
+        _ => Ok(true),
+    }
+}
+
+// Whether the fields of a channel's section are faulty.
+fn is_faulty_channel(alloc: Global, part: &Part) -> Result<bool, LoadError>
+    requires within { part.now.body_at + length part.now.body ≤ longest_file }
+    requires channel { part.now.kind ≡ SectionKind.Channel }
+    ensures faulty { IfOk result (λ b. b ≡ is_some (own_fault (seen_part part.now))) }
+    ensures only_memory { IsOkUnless result LoadError.Memory }
+{
+    match read_channel(alloc, part.body.as_slice(), part.body_at) {
+        Ok(channel) => {
+            drop(channel);
+            Ok(false)
+        }
+        Err(error) => is_fault(error),
+    }
+}
+
+// Whether the fields of a section are faulty.
+#[tactic(auto, unfolding(crate::specs::Salvage::own_fault))]
+fn is_faulty(alloc: Global, part: &Part) -> Result<bool, LoadError>
+    requires { part.now.body_at + length part.now.body ≤ longest_file }
+    ensures faulty { IfOk result (λ b. b ≡ is_some (own_fault (seen_part part.now))) }
+    ensures only_memory { IsOkUnless result LoadError.Memory }
+{
+    let body = part.body.as_slice();
+    match part.kind {
+        SectionKind::Header | SectionKind::Index => Ok(false),
+        SectionKind::ChunkHeader => Ok(read_chunk_header(body, part.body_at).is_err()),
+        SectionKind::ChunkBody => Ok(read_out(MessageReader::new(body, part.body_at)).is_err()),
+        SectionKind::Channel => is_faulty_channel(alloc, part),
+    }
+}
+
+// How many sections stand before the first whose fields are faulty.
+fn sound_count(alloc: Global, parts: &[Part]) -> Result<usize, LoadError>
+    requires { All (λ p. p.body_at + length p.body ≤ longest_file) parts.now }
+    ensures sound { IfOk result (λ count. (fault : Option SectionFault)
+        → AreSound parts.now count fault) }
+    ensures only_memory { IsOkUnless result LoadError.Memory }
+{
+    for (count, part) in parts.iter().enumerate() {
+        let faulty = is_faulty(alloc, part)?;
+        if faulty {
+            return Ok(count);
+        }
+    }
+    Ok(parts.len())
+}
+
+// The place behind sections, which follow the header.
+fn end_of(parts: &[Part]) -> u64
+    requires { All (λ p. p.body_at + length p.body ≤ longest_file) parts.now }
+    ensures { result ≡ end_of header_end (map seen_part parts.now) }
+{
+    let mut end = HEADER_SIZE as u64;
+    for part in parts {
+        end = part.body_at + part.body.as_slice().len() as u64;
+    }
+    end
+}
+
+// How many bytes of a file of this size are dropped behind sections, unless they are all.
+fn dropped_behind(parts: &[Part], size: u64, are_all: bool) -> u64
+    requires { All (λ p. p.body_at + length p.body ≤ longest_file) parts.now }
+    ensures { result
+        ≡ (if are_all then 0 else size - end_of header_end (map seen_part parts.now)) }
+{
+    if are_all {
+        return 0;
+    }
+    size.saturating_sub(end_of(parts))
+}
+
+// Whether sections that end so are all sound.
+fn is_whole(count: usize, parts: &[Part], end: &Result<Option<KeptIndex>, SectionError>) -> bool
+    ensures { result ≡ ((count == length parts.now) && is_none (fault_in end.now)) }
+{
+    count == parts.len() && end.is_ok()
+}
+
+// What is salvaged of a file of this size that was cut into sections.
+#[tactic(auto, unfolding(crate::specs::private::Salvaging::cut_salvage))]
+fn salvaged_of(alloc: Global, size: u64, cut: CutFile) -> Result<Salvaged, LoadError>
+    requires { AreWithin cut }
+    ensures salvaged { AnswersOr LoadError.Memory (λ s. s) result (cut_salvage size cut) }
+    ensures not_store { IfErr result (λ e. e ≢ LoadError.Store) }
+{
+    let CutFile { mut parts, end } = cut;
+    let count = sound_count(alloc, &parts)?;
+    let are_all = is_whole(count, &parts, &end);
+    drop(end);
+    parts.truncate(count);
+    let dropped = dropped_behind(&parts, size, are_all);
+    let (bodies, loading) = parts_met(alloc, parts)?;
+    Ok(Salvaged {
+        bodies,
+        loading,
+        dropped,
+    })
+}
+
+/// Reads what stands in a record's file before the first fault, section by section as `load` does:
+/// the channels and messages of the sections before it. The section with the fault gives nothing.
+/// A header whose fields can't be read is accepted. What else refuses a file whole does so here: a
+/// front that is no record's, a compression, and the limits.
+///
+/// It keeps the bodies of the chunks, beside 24 bytes a message.
+pub fn salvage_record<S: Store>(
+    alloc: Global,
+    store: &mut S,
+    name: &str,
+) -> Result<Salvaged, LoadError>
+    ensures { SalvageAnswer (S.shows store.old) (S.shows store.new) name.now result }
+{
+    let size = usable_size(alloc, store, name)?;
+    let cut = cut_file(alloc, store, name, size)?;
+    salvaged_of(alloc, size, cut)
+}
