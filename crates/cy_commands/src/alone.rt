@@ -12,10 +12,12 @@ use crate::play::due_played_alone;
 use cy_store::Store;
 use cy_words::{CommandWords, WordsError};
 use std::alloc::Global;
+use std::thread::Threads;
 
-/// Does what words that were read ask for, on this thread, and says which status is due. Where they
-/// were read for a world without threads, a play is serial.
-pub fn due_of<'s, S: Store>(
+/// Does what words that were read ask for, components on this thread, and says which status is due.
+/// Where they were read for a world without threads, a play is serial.
+pub fn due_of<'s, S: Store, R: Threads + Sync>(
+    rt: &R,
     alloc: Global,
     read: &'s Result<Option<CommandWords<'_>>, WordsError>,
     store: &mut S,
@@ -25,7 +27,7 @@ pub fn due_of<'s, S: Store>(
         → IsDue command (S.shows store.old) (S.shows store.new) result.status
         (bytes_of_line result.line) }
 {
-    match begin(alloc, read, store) {
+    match begin(rt, alloc, read, store) {
         Begun::Ended(due) => due,
         Begun::SetUp(play, replay) => due_played_alone(alloc, store, &play, replay),
     }

@@ -16,6 +16,7 @@ use cy_replay::Replay;
 use cy_store::Store;
 use cy_words::{CommandWords, Play, WordsError};
 use std::alloc::Global;
+use std::thread::Threads;
 
 /// What was begun.
 #[derive(Drop)]
@@ -39,7 +40,8 @@ fn misused<'a>() -> Due<'a>
 
 /// Does what words that were read ask for, but for playing: a play is set up alone, so that it may
 /// then be played on one thread or on several. All reading is done before the first file is made.
-pub fn begin<'s, S: Store>(
+pub fn begin<'s, S: Store, R: Threads + Sync>(
+    rt: &R,
     alloc: Global,
     read: &'s Result<Option<CommandWords<'_>>, WordsError>,
     store: &mut S,
@@ -54,7 +56,7 @@ pub fn begin<'s, S: Store>(
 {
     match read {
         Ok(Some(words)) => match words.command(alloc) {
-            Ok(command) => begin_command(alloc, &command, store),
+            Ok(command) => begin_command(rt, alloc, &command, store),
             Err(WordsError::Memory) => Begun::Ended(out_of_memory()),
         },
         Ok(None) => Begun::Ended(misused()),

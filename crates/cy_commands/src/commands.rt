@@ -20,23 +20,34 @@ use cy_words::{Command, Play};
 use info::run_info;
 use make::run_make;
 use std::alloc::Global;
+use std::thread::Threads;
 use verify::run_verify;
 
 // Reads the files of a play, and sets up what is played.
-fn begin_play<'a, S: Store>(alloc: Global, play: &Play<'a>, store: &mut S) -> Begun<'a>
+fn begin_play<'a, S: Store, R: Threads + Sync>(
+    rt: &R,
+    alloc: Global,
+    play: &Play<'a>,
+    store: &mut S,
+) -> Begun<'a>
     requires { HasReader (play_words_of play.now).request.components }
     ensures ready { IsReady result }
     ensures begun { HasBegun (Some (asked.Play (play_words_of play.now))) (S.shows store.old)
         (S.shows store.new) result }
 {
-    match read_files(alloc, store, play) {
+    match read_files(rt, alloc, store, play) {
         Ok(replay) => Begun::SetUp(*play, replay),
         Err(error) => Begun::Ended(due_unset(alloc, error)),
     }
 }
 
 /// Begins a command.
-pub fn begin_command<'a, S: Store>(alloc: Global, command: &Command<'a>, store: &mut S) -> Begun<'a>
+pub fn begin_command<'a, S: Store, R: Threads + Sync>(
+    rt: &R,
+    alloc: Global,
+    command: &Command<'a>,
+    store: &mut S,
+) -> Begun<'a>
     requires { IsInForm command.now }
     ensures ready { IsReady result }
     ensures begun { HasBegun (Some (command_asked command.now)) (S.shows store.old)
@@ -44,9 +55,9 @@ pub fn begin_command<'a, S: Store>(alloc: Global, command: &Command<'a>, store: 
 {
     match command {
         Command::Check(check) => Begun::Ended(run_check(alloc, check, store)),
-        Command::Info(info) => Begun::Ended(run_info(alloc, info, store)),
-        Command::Play(play) => begin_play(alloc, play, store),
-        Command::Make(make) => Begun::Ended(run_make(alloc, make, store)),
-        Command::Verify(play) => Begun::Ended(run_verify(alloc, play, store)),
+        Command::Info(info) => Begun::Ended(run_info(rt, alloc, info, store)),
+        Command::Play(play) => begin_play(rt, alloc, play, store),
+        Command::Make(make) => Begun::Ended(run_make(rt, alloc, make, store)),
+        Command::Verify(play) => Begun::Ended(run_verify(rt, alloc, play, store)),
     }
 }

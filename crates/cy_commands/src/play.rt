@@ -39,6 +39,7 @@ use cy_trace::{TraceError, summary_line, trace_is_read_back, trace_text};
 use cy_words::Play;
 use cy_writer::{WriteError, write_file};
 use std::alloc::{AllocError, Global};
+use std::thread::Threads;
 use wake_core::{CoreError, World, laws, serial};
 
 // The trace of a run, and the line that tells of it.
@@ -49,7 +50,8 @@ struct Told {
 }
 
 /// Reads the files, and sets up what is played.
-pub(crate) fn read_files<S: Store>(
+pub(crate) fn read_files<S: Store, R: Threads + Sync>(
+    rt: &R,
     alloc: Global,
     store: &mut S,
     play: &Play,
@@ -67,7 +69,7 @@ pub(crate) fn read_files<S: Store>(
         filter: &filter,
         stop: play.stop,
     };
-    let replay = set_up(alloc, store, &request);
+    let replay = set_up(rt, alloc, store, &request);
     drop(filter);
     replay
 }

@@ -13,13 +13,19 @@ use cy_reader::{ChannelSet, Record, load};
 use cy_request::Filter;
 use cy_store::Store;
 use std::alloc::{AllocError, Global};
+use std::thread::Threads;
 
 /// Reads a record, or tells why the file is none. No file is changed.
-pub fn read_record<S: Store>(alloc: Global, store: &mut S, name: &str) -> Result<Record, SetupError>
+pub fn read_record<S: Store, R: Threads + Sync>(
+    rt: &R,
+    alloc: Global,
+    store: &mut S,
+    name: &str,
+) -> Result<Record, SetupError>
     ensures { ComesTo (λ r. r) (record_in name.now) (λ file. file ≡ name.now) (S.shows store.old)
         (S.shows store.new) result }
 {
-    match load(alloc, store, name) {
+    match load(rt, alloc, store, name) {
         Ok(recorded) => Ok(recorded),
         Err(fault) => Err(record_fault(alloc, name, fault)),
     }

@@ -21,6 +21,7 @@ use cy_reader::Record;
 use cy_request::{Components, Request};
 use cy_store::Store;
 use std::alloc::Global;
+use std::thread::Threads;
 use wake_core::laws;
 
 /// A replay that is set up: all that a run needs.
@@ -159,7 +160,8 @@ fn judge(
 }
 
 // Sets up a replay through the components of configuration files.
-fn set_up_files<S: Store>(
+fn set_up_files<S: Store, R: Threads + Sync>(
+    rt: &R,
     alloc: Global,
     store: &mut S,
     dag: &str,
@@ -174,7 +176,7 @@ fn set_up_files<S: Store>(
     ensures set_up { IfOk result (IsSetUp (request_of request.now)) }
 {
     let configuration = read_configuration(alloc, store, dag, sched)?;
-    match read_record(alloc, store, request.input) {
+    match read_record(rt, alloc, store, request.input) {
         Ok(recorded) => judge(alloc, dag, request, configuration, recorded),
         Err(error) => {
             drop(configuration);
@@ -185,7 +187,8 @@ fn set_up_files<S: Store>(
 
 // Sets up a replay through one component that passes messages on. No file names it, so a fault of
 // the wiring or of a stop is one of the record.
-fn set_up_pass<S: Store>(
+fn set_up_pass<S: Store, R: Threads + Sync>(
+    rt: &R,
     alloc: Global,
     store: &mut S,
     from: &str,
@@ -198,7 +201,7 @@ fn set_up_pass<S: Store>(
         (S.shows store.old) (S.shows store.new) result }
     ensures set_up { IfOk result (IsSetUp (request_of request.now)) }
 {
-    let recorded = read_record(alloc, store, request.input)?;
+    let recorded = read_record(rt, alloc, store, request.input)?;
     match pass_configuration(alloc, from, to, &recorded) {
         Ok(configuration) => judge(alloc, request.input, request, configuration, recorded),
         Err(error) => {
@@ -215,7 +218,8 @@ fn set_up_pass<S: Store>(
 /// first thing in the way is answered: a file that is refused, where a fault of the wiring or of a
 /// stop is one of the DAG file, or else of the record, and too many messages or entries are one of
 /// the record. No file is changed.
-pub fn set_up<S: Store>(
+pub fn set_up<S: Store, R: Threads + Sync>(
+    rt: &R,
     alloc: Global,
     store: &mut S,
     request: &Request,
@@ -227,7 +231,7 @@ pub fn set_up<S: Store>(
     ensures set_up { IfOk result (IsSetUp (request_of request.now)) }
 {
     match request.components {
-        Components::Files { dag, sched } => set_up_files(alloc, store, dag, sched, request),
-        Components::Pass { from, to } => set_up_pass(alloc, store, from, to, request),
+        Components::Files { dag, sched } => set_up_files(rt, alloc, store, dag, sched, request),
+        Components::Pass { from, to } => set_up_pass(rt, alloc, store, from, to, request),
     }
 }

@@ -34,7 +34,7 @@ fn due_with_threads<'s, S: Store, G: Gate, R: Threads + Wait + Sync>(
         → IsDue command (S.shows store.old) (S.shows store.new) result.status
         (bytes_of_line result.line) }
 {
-    match begin(alloc, read, store) {
+    match begin(rt, alloc, read, store) {
         Begun::Ended(due) => due,
         Begun::SetUp(play, replay) => {
             due_played_with_threads(rt, alloc, store, &play, replay, gate)
@@ -95,9 +95,10 @@ pub fn cyber<S: Store, O: Sink, E: Sink, G: Gate, R: Threads + Wait + Sync>(
     tell(&due, out, err)
 }
 
-/// The same without threads, and without waiting: a `play` that is not serial is of no known form
-/// here.
-pub fn cyber_still<S: Store, O: Sink, E: Sink>(
+/// The same without waiting, and with all components on one thread: a `play` that is not serial is
+/// of no known form here. A record's bodies may be decoded on threads, which wait for nobody.
+pub fn cyber_still<S: Store, O: Sink, E: Sink, R: Threads + Sync>(
+    rt: &R,
     alloc: Global,
     words: &[Text],
     store: &mut S,
@@ -118,7 +119,7 @@ pub fn cyber_still<S: Store, O: Sink, E: Sink>(
         → StandsAnswered command (S.shows store.old) (S.shows store.new) result }
 {
     let read = CommandWords::asking_still(alloc, words);
-    let due = due_of(alloc, &read, store);
+    let due = due_of(rt, alloc, &read, store);
     verdicts_are_one();
     commands_leave_their_files();
     tell(&due, out, err)

@@ -68,7 +68,7 @@ pub fn record_with(rt: &HostRuntime, content: &[u8]) -> Result<Record, Fail> {
     writer.message(rt.alloc(), &mut store, 0, 90, b"\x08\x02")?;
     writer.message(rt.alloc(), &mut store, 1, 100, content)?;
     writer.close(rt.alloc(), &mut store)?;
-    Ok(load(rt.alloc(), &mut store, "in.rec")?)
+    Ok(load(&rt, rt.alloc(), &mut store, "in.rec")?)
 }
 
 /// A component that passes `/in` on to `/out`, whose messages have the type `U`.

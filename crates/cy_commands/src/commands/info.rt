@@ -13,14 +13,20 @@ use cy_replay::read_record;
 use cy_store::Store;
 use cy_words::Info;
 use std::alloc::Global;
+use std::thread::Threads;
 
 /// What is due for `info` of a record: the text that tells what it is, or why it is not read.
 /// Nothing is written to the store.
-pub fn run_info<'a, S: Store>(alloc: Global, info: &Info<'a>, store: &mut S) -> Due<'a>
+pub fn run_info<'a, S: Store, R: Threads + Sync>(
+    rt: &R,
+    alloc: Global,
+    info: &Info<'a>,
+    store: &mut S,
+) -> Due<'a>
     ensures { IsDueFor (command.Info (info_words_of info.now)) (S.shows store.old)
         (S.shows store.new) result.status (bytes_of_line result.line) }
 {
-    let record = match read_record(alloc, store, info.file) {
+    let record = match read_record(rt, alloc, store, info.file) {
         Ok(record) => record,
         Err(error) => return due_unset(alloc, error),
     };

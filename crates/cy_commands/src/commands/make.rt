@@ -25,6 +25,7 @@ use cy_request::Components;
 use cy_store::{MemStore, Store};
 use cy_words::{Make, Play};
 use std::alloc::{AllocError, Global};
+use std::thread::Threads;
 use wake_core::World;
 
 // The names of the files that are played, and of those that are written for it.
@@ -80,7 +81,12 @@ impl Names {
 }
 
 // Makes the files in memory, and sets up a replay of them.
-fn set_up_made(alloc: Global, make: &Make, play: &Play) -> Result<Replay, Failure>
+fn set_up_made<R: Threads + Sync>(
+    rt: &R,
+    alloc: Global,
+    make: &Make,
+    play: &Play,
+) -> Result<Replay, Failure>
     requires few { make.now.count ≤ 1048576 }
     requires play { play_words_of play.now ≡ play_made (make_words_of make.now) }
     ensures made { IfOk result (IsMade (make_words_of make.now)) }
@@ -91,7 +97,7 @@ fn set_up_made(alloc: Global, make: &Make, play: &Play) -> Result<Replay, Failur
         drop(drafts);
         return Err(Failure::Memory);
     };
-    let replay = read_files(alloc, &mut drafts, play);
+    let replay = read_files(rt, alloc, &mut drafts, play);
     drop(drafts);
     match replay {
         Ok(replay) => Ok(replay),
@@ -192,7 +198,8 @@ fn due_made<'a, S: Store>(
 }
 
 // What is due for `make` with these words, by a play of the files that it makes.
-fn make_and_play<'a, S: Store>(
+fn make_and_play<'a, S: Store, R: Threads + Sync>(
+    rt: &R,
     alloc: Global,
     make: &Make<'a>,
     play: &Play,
@@ -204,7 +211,7 @@ fn make_and_play<'a, S: Store>(
     ensures { IsDueFor (command.Make (make_words_of make.now)) (S.shows store.old)
         (S.shows store.new) result.status (bytes_of_line result.line) }
 {
-    let Ok(replay) = set_up_made(alloc, make, play) else {
+    let Ok(replay) = set_up_made(rt, alloc, make, play) else {
         return out_of_memory();
     };
     let Ok(world) = played_world(alloc, play, &replay) else {
@@ -219,7 +226,12 @@ fn make_and_play<'a, S: Store>(
 /// What is due for `make` with these words: it makes the files of a play of so many messages in
 /// memory, sets the play up from these texts and plays it. Then it writes the files, and behind
 /// them the record of all messages and the trace of all calls. It reads no file of the store.
-pub fn run_make<'a, S: Store>(alloc: Global, make: &Make<'a>, store: &mut S) -> Due<'a>
+pub fn run_make<'a, S: Store, R: Threads + Sync>(
+    rt: &R,
+    alloc: Global,
+    make: &Make<'a>,
+    store: &mut S,
+) -> Due<'a>
     requires some { 0 < make.now.count }
     requires few { make.now.count ≤ 1048576 }
     ensures { IsDueFor (command.Make (make_words_of make.now)) (S.shows store.old)
@@ -228,7 +240,7 @@ pub fn run_make<'a, S: Store>(alloc: Global, make: &Make<'a>, store: &mut S) -> 
     let Ok(names) = Names::of(alloc, make.prefix) else {
         return out_of_memory();
     };
-    let due = make_and_play(alloc, make, &names.play(), store);
+    let due = make_and_play(rt, alloc, make, &names.play(), store);
     drop(names);
     due
 }

@@ -33,6 +33,7 @@ use cy_trace::{
 use cy_verify::{Verdict, VerifyError, verify};
 use cy_words::Play;
 use std::alloc::Global;
+use std::thread::Threads;
 use wake_core::{World, laws};
 
 // What holds of all files of a play that are accepted. Nothing runs.
@@ -194,14 +195,19 @@ fn judged<S: Store>(
 }
 
 // Reads all files and judges them.
-fn verified<S: Store>(alloc: Global, play: &Play, store: &mut S) -> Result<Bytes, SetupError>
+fn verified<S: Store, R: Threads + Sync>(
+    rt: &R,
+    alloc: Global,
+    play: &Play,
+    store: &mut S,
+) -> Result<Bytes, SetupError>
     requires { HasReader (play_words_of play.now).request.components }
     ensures { Finds (IsVerifiedLine (play_words_of play.now) (S.shows store.old))
         (IsVerified (play_words_of play.now) (S.shows store.old).files)
         (IsReadToVerify (play_words_of play.now) (S.shows store.old).files)
         (S.shows store.old) (S.shows store.new) result }
 {
-    let replay = read_files(alloc, store, play)?;
+    let replay = read_files(rt, alloc, store, play)?;
     is_set_out(play, &replay);
     let line = judged(alloc, play, store, &replay);
     drop(replay);
@@ -211,12 +217,17 @@ fn verified<S: Store>(alloc: Global, play: &Play, store: &mut S) -> Result<Bytes
 /// What is due for `verify` of a trace and a record that are said to be of a play: the numbers of
 /// the run, where a lawful one has that trace and its tape that record; or why not. Nothing is
 /// written to the store.
-pub fn run_verify<'a, S: Store>(alloc: Global, play: &Play<'a>, store: &mut S) -> Due<'a>
+pub fn run_verify<'a, S: Store, R: Threads + Sync>(
+    rt: &R,
+    alloc: Global,
+    play: &Play<'a>,
+    store: &mut S,
+) -> Due<'a>
     requires { HasReader (play_words_of play.now).request.components }
     ensures { IsDueFor (command.Verify (play_words_of play.now)) (S.shows store.old)
         (S.shows store.new) result.status (bytes_of_line result.line) }
 {
-    match verified(alloc, play, store) {
+    match verified(rt, alloc, play, store) {
         Ok(line) => Due {
             status: Status::Done,
             line: Line::Made(line),

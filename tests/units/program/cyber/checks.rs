@@ -4,6 +4,7 @@ use cy_store::{MemStore, Store};
 use cyber_cli::Status;
 use std::alloc::Global;
 use std::test::Fail;
+use std::thread::Threads;
 
 const CHECK: [&str; 5] = ["check", "--dag", "d.dag", "--sched", "s.sched"];
 
@@ -50,16 +51,20 @@ fn line_at(call: usize) -> &'static [u8] {
 }
 
 // The run where this call of the program fails.
-fn failing_at(alloc: Global, call: usize) -> Result<Ran<MemStore>, Fail> {
+fn failing_at(
+    rt: &(impl Threads + Sync),
+    alloc: Global,
+    call: usize,
+) -> Result<Ran<MemStore>, Fail> {
     let mut store = files(alloc)?;
     store.fail_at(CALLS_BEFORE + call as u64, 0)?;
-    run(alloc, &CHECK, store)
+    run(rt, alloc, &CHECK, store)
 }
 
 #[test]
 fn prints_what_configuration_files_say(rt: HostRuntime) -> Result<(), Fail> {
     let alloc = rt.alloc();
-    let ran = run(alloc, &CHECK, files(alloc)?)?;
+    let ran = run(&rt, alloc, &CHECK, files(alloc)?)?;
     ends(&rt, &ran, Status::Done, TEXT.as_bytes(), b"");
     Ok(())
 }
@@ -68,10 +73,10 @@ fn prints_what_configuration_files_say(rt: HostRuntime) -> Result<(), Fail> {
 fn names_the_file_whose_call_failed(rt: HostRuntime) -> Result<(), Fail> {
     let alloc = rt.alloc();
     for call in 1..=CALLS {
-        let ran = failing_at(alloc, call)?;
+        let ran = failing_at(&rt, alloc, call)?;
         ends(&rt, &ran, Status::StoreFault, b"", line_at(call));
     }
-    let done = failing_at(alloc, CALLS + 1)?;
+    let done = failing_at(&rt, alloc, CALLS + 1)?;
     assert_eq!(rt; done.status, Status::Done);
     Ok(())
 }

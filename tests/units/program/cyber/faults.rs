@@ -8,6 +8,7 @@ use cyber_cli::Status;
 use std::alloc::Global;
 use std::process::Abort;
 use std::test::Fail;
+use std::thread::Threads;
 
 /// The calls that make the record which is played.
 const CALLS_BEFORE: u64 = 2;
@@ -23,10 +24,15 @@ const FIRST_PUT: usize = 12;
 const ENDS: [usize; 7] = [0, 2064, 2089, 2115, 2139, 2182, 2271];
 
 // The run where this call of the program fails after it kept so many bytes.
-fn failing_at(alloc: Global, call: usize, keep: usize) -> Result<Ran<MemStore>, Fail> {
+fn failing_at(
+    rt: &(impl Threads + Sync),
+    alloc: Global,
+    call: usize,
+    keep: usize,
+) -> Result<Ran<MemStore>, Fail> {
     let mut store = store_of(alloc, &in_record(alloc)?)?;
     store.fail_at(CALLS_BEFORE + call as u64, keep)?;
-    run(alloc, &PASS, store)
+    run(rt, alloc, &PASS, store)
 }
 
 // The record where this piece kept so many bytes: those before it are whole, under the header of a
@@ -73,8 +79,13 @@ fn trace_after(call: usize, keep: usize) -> Option<&'static [u8]> {
 }
 
 // What stands after a call that failed and kept so many bytes.
-fn stands(rt: &impl Abort, alloc: Global, call: usize, keep: usize) -> Result<(), Fail> {
-    let ran = failing_at(alloc, call, keep)?;
+fn stands(
+    rt: &(impl Abort + Threads + Sync),
+    alloc: Global,
+    call: usize,
+    keep: usize,
+) -> Result<(), Fail> {
+    let ran = failing_at(rt, alloc, call, keep)?;
     ends(rt, &ran, Status::StoreFault, b"", line_at(call));
     let record = record_after(alloc, call, keep)?;
     let want = record.as_ref().map(|bytes| bytes.as_slice());
@@ -93,7 +104,7 @@ fn fails_each_call_in_turn(rt: HostRuntime) -> Result<(), Fail> {
         stands(&rt, alloc, call, 0)?;
         stands(&rt, alloc, call, 9)?;
     }
-    let done = failing_at(alloc, CALLS + 1, 0)?;
+    let done = failing_at(&rt, alloc, CALLS + 1, 0)?;
     assert_eq!(rt; done.status, Status::Done);
     Ok(())
 }
@@ -128,8 +139,8 @@ fn reads_what_a_piece_left_that_failed(rt: HostRuntime) -> Result<(), Fail> {
     let alloc = rt.alloc();
     for piece in 0..ENDS.len() {
         for keep in kept_of(piece) {
-            let mut store = failing_at(alloc, FIRST_PUT + piece, keep)?.store;
-            let read = load(alloc, &mut store, "out.rec").map(|record| record.messages());
+            let mut store = failing_at(&rt, alloc, FIRST_PUT + piece, keep)?.store;
+            let read = load(&rt, alloc, &mut store, "out.rec").map(|record| record.messages());
             assert_eq!(rt; read, read_of(piece, keep), "{piece} {keep}");
         }
     }

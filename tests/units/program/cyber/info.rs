@@ -6,6 +6,7 @@ use cyber_cli::Status;
 use std::alloc::Global;
 use std::process::Abort;
 use std::test::Fail;
+use std::thread::Threads;
 
 const INFO: [&str; 2] = ["info", "in.rec"];
 
@@ -23,13 +24,13 @@ fn behind_header(alloc: Global, rest: &[u8]) -> Result<Vec<u8>, Fail> {
 
 // A file is refused as a record, with this status and this line.
 fn refuses(
-    rt: &impl Abort,
+    rt: &(impl Abort + Threads + Sync),
     alloc: Global,
     bytes: &[u8],
     status: Status,
     line: &[u8],
 ) -> Result<(), Fail> {
-    let ran = run(alloc, &INFO, store_of(alloc, bytes)?)?;
+    let ran = run(rt, alloc, &INFO, store_of(alloc, bytes)?)?;
     ends(rt, &ran, status, b"", line);
     Ok(())
 }
@@ -37,8 +38,8 @@ fn refuses(
 #[test]
 fn tells_what_a_written_record_is(rt: HostRuntime) -> Result<(), Fail> {
     let bytes = in_record(rt.alloc())?;
-    let played = run(rt.alloc(), &PASS, store_of(rt.alloc(), &bytes)?)?;
-    let told = run(rt.alloc(), &["info", "out.rec"], played.store)?;
+    let played = run(&rt, rt.alloc(), &PASS, store_of(rt.alloc(), &bytes)?)?;
+    let told = run(&rt, rt.alloc(), &["info", "out.rec"], played.store)?;
     ends(&rt, &told, Status::Done, TEXT, b"");
     Ok(())
 }
@@ -103,12 +104,12 @@ fn refuses_headers_and_limits(rt: HostRuntime) -> Result<(), Fail> {
 #[test]
 fn names_a_record_that_cannot_be_read(rt: HostRuntime) -> Result<(), Fail> {
     let line = b"cyber: in.rec: the store failed\n";
-    let missing = run(rt.alloc(), &INFO, MemStore::new(rt.alloc()))?;
+    let missing = run(&rt, rt.alloc(), &INFO, MemStore::new(rt.alloc()))?;
     ends(&rt, &missing, Status::StoreFault, b"", line);
     let bytes = in_record(rt.alloc())?;
     let mut store = store_of(rt.alloc(), &bytes)?;
     store.fail_at(3, 0)?;
-    let failed = run(rt.alloc(), &INFO, store)?;
+    let failed = run(&rt, rt.alloc(), &INFO, store)?;
     ends(&rt, &failed, Status::StoreFault, b"", line);
     Ok(())
 }
@@ -121,7 +122,7 @@ fn refuses_words_behind_info(rt: HostRuntime) -> Result<(), Fail> {
         &["info", "--x"],
         &["info", ""],
     ] {
-        let ran = run(rt.alloc(), words, MemStore::new(rt.alloc()))?;
+        let ran = run(&rt, rt.alloc(), words, MemStore::new(rt.alloc()))?;
         assert_eq!(rt; ran.status, Status::Usage);
     }
     Ok(())

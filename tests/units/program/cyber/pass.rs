@@ -9,17 +9,18 @@ use cyber_cli::Status;
 use std::alloc::Global;
 use std::process::Abort;
 use std::test::Fail;
+use std::thread::Threads;
 
 // A record is passed on: this record and this trace are written, and this line is told.
 fn passes(
-    rt: &impl Abort,
+    rt: &(impl Abort + Threads + Sync),
     alloc: Global,
     given: &[u8],
     record: &[u8],
     trace: &str,
     line: &[u8],
 ) -> Result<(), Fail> {
-    let ran = run(alloc, &PASS, store_of(alloc, given)?)?;
+    let ran = run(rt, alloc, &PASS, store_of(alloc, given)?)?;
     ends(rt, &ran, Status::Done, line, b"");
     holds(rt, &ran, "out.rec", record);
     holds(rt, &ran, "t.txt", trace.as_bytes());
@@ -67,9 +68,9 @@ fn passes_a_header_alone(rt: HostRuntime) -> Result<(), Fail> {
 #[test]
 fn passes_a_written_record_again(rt: HostRuntime) -> Result<(), Fail> {
     let alloc = rt.alloc();
-    let first = run(alloc, &PASS, store_of(alloc, &in_record(alloc)?)?)?;
+    let first = run(&rt, alloc, &PASS, store_of(alloc, &in_record(alloc)?)?)?;
     let words = ["pass", "out.rec", "again.rec", "again.txt", "/in", "/out"];
-    let ran = run(alloc, &words, first.store)?;
+    let ran = run(&rt, alloc, &words, first.store)?;
     let line = b"done: played 1, shadowed 1, calls 1, written 2\n";
     ends(&rt, &ran, Status::Done, line, b"");
     holds(&rt, &ran, "again.rec", &out_record(alloc)?);
@@ -92,7 +93,7 @@ fn leaves_both_files_where_the_line_fails(rt: HostRuntime) -> Result<(), Fail> {
             err.fail_at(1)?;
         }
         let store = store_of(alloc, &in_record(alloc)?)?;
-        let ran = run_over(alloc, &PASS, store, out, err)?;
+        let ran = run_over(&rt, alloc, &PASS, store, out, err)?;
         ends(&rt, &ran, Status::SinkFault, b"", want);
         holds(&rt, &ran, "out.rec", &out_record(alloc)?);
         holds(&rt, &ran, "t.txt", TRACE.as_bytes());

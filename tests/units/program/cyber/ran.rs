@@ -5,6 +5,7 @@ use cyber_cli::{Status, cyber_still};
 use std::alloc::Global;
 use std::process::Abort;
 use std::test::Fail;
+use std::thread::Threads;
 
 /// The words of `pass` over `in.rec`.
 pub const PASS: [&str; 6] = ["pass", "in.rec", "out.rec", "t.txt", "/in", "/out"];
@@ -28,6 +29,7 @@ pub fn store_of(alloc: Global, bytes: &[u8]) -> Result<MemStore, Fail> {
 
 /// Runs the program on these words, over this store and these sinks.
 pub fn run_over<S: Store + Drop>(
+    rt: &(impl Threads + Sync),
     alloc: Global,
     words: &[&str],
     store: S,
@@ -44,13 +46,19 @@ pub fn run_over<S: Store + Drop>(
         out,
         err,
     };
-    ran.status = cyber_still(alloc, &texts, &mut ran.store, &mut ran.out, &mut ran.err);
+    ran.status = cyber_still(rt, alloc, &texts, &mut ran.store, &mut ran.out, &mut ran.err);
     Ok(ran)
 }
 
 /// Runs the program on these words, over this store and sinks that never fail.
-pub fn run<S: Store + Drop>(alloc: Global, words: &[&str], store: S) -> Result<Ran<S>, Fail> {
+pub fn run<S: Store + Drop>(
+    rt: &(impl Threads + Sync),
+    alloc: Global,
+    words: &[&str],
+    store: S,
+) -> Result<Ran<S>, Fail> {
     run_over(
+        rt,
         alloc,
         words,
         store,

@@ -6,12 +6,18 @@ use cyber_cli::Status;
 use std::alloc::Global;
 use std::process::Abort;
 use std::test::Fail;
+use std::thread::Threads;
 
 const USAGE_LINE: &[u8] = b"cyber: the words are not of a known form\n";
 
 // A record is refused with this line, and nothing is made.
-fn is_refused(rt: &impl Abort, alloc: Global, bytes: &[u8], line: &[u8]) -> Result<(), Fail> {
-    let ran = run(alloc, &PASS, store_of(alloc, bytes)?)?;
+fn is_refused(
+    rt: &(impl Abort + Threads + Sync),
+    alloc: Global,
+    bytes: &[u8],
+    line: &[u8],
+) -> Result<(), Fail> {
+    let ran = run(rt, alloc, &PASS, store_of(alloc, bytes)?)?;
     ends(rt, &ran, Status::Refused, b"", line);
     lacks(rt, &ran, "out.rec");
     lacks(rt, &ran, "t.txt");
@@ -53,7 +59,7 @@ fn passes_the_whole_sections_of_a_cut_record(rt: HostRuntime) -> Result<(), Fail
     ] {
         let mut bytes = in_record(alloc)?;
         bytes.truncate(size);
-        let ran = run(alloc, &PASS, store_of(alloc, &bytes)?)?;
+        let ran = run(&rt, alloc, &PASS, store_of(alloc, &bytes)?)?;
         ends(&rt, &ran, Status::Done, line, b"");
     }
     Ok(())
@@ -65,14 +71,14 @@ fn refuses_a_record_that_broke_off(rt: HostRuntime) -> Result<(), Fail> {
     let alloc = rt.alloc();
     let mut store = store_of(alloc, &in_record(alloc)?)?;
     store.fail_at(18, 20)?;
-    let broken = run(alloc, &PASS, store)?;
+    let broken = run(&rt, alloc, &PASS, store)?;
     assert_eq!(rt; broken.status, Status::StoreFault);
     assert_eq!(rt;
         broken.store.file("out.rec").map(|file| file.len()),
         Some(2_159)
     );
     let words = ["pass", "out.rec", "o2", "t2", "/in", "/x"];
-    let ran = run(alloc, &words, broken.store)?;
+    let ran = run(&rt, alloc, &words, broken.store)?;
     let line = b"cyber: out.rec: at 2139: Cut\n";
     ends(&rt, &ran, Status::Refused, b"", line);
     Ok(())
@@ -81,7 +87,7 @@ fn refuses_a_record_that_broke_off(rt: HostRuntime) -> Result<(), Fail> {
 #[test]
 fn faults_where_the_record_is_missing(rt: HostRuntime) -> Result<(), Fail> {
     let alloc = rt.alloc();
-    let missing = run(alloc, &PASS, MemStore::new(alloc))?;
+    let missing = run(&rt, alloc, &PASS, MemStore::new(alloc))?;
     let line = b"cyber: in.rec: the store failed\n";
     ends(&rt, &missing, Status::StoreFault, b"", line);
     lacks(&rt, &missing, "out.rec");
@@ -89,8 +95,12 @@ fn faults_where_the_record_is_missing(rt: HostRuntime) -> Result<(), Fail> {
 }
 
 // The words are of no known form.
-fn is_misused(rt: &impl Abort, alloc: Global, words: &[&str]) -> Result<(), Fail> {
-    let ran = run(alloc, words, store_of(alloc, &in_record(alloc)?)?)?;
+fn is_misused(
+    rt: &(impl Abort + Threads + Sync),
+    alloc: Global,
+    words: &[&str],
+) -> Result<(), Fail> {
+    let ran = run(rt, alloc, words, store_of(alloc, &in_record(alloc)?)?)?;
     ends(rt, &ran, Status::Usage, b"", USAGE_LINE);
     lacks(rt, &ran, "b");
     Ok(())
@@ -109,7 +119,7 @@ fn takes_known_words_alone(rt: HostRuntime) -> Result<(), Fail> {
 
 // A play of files of which none is there, with these options, ends so.
 fn ends_a_play(
-    rt: &impl Abort,
+    rt: &(impl Abort + Threads + Sync),
     alloc: Global,
     options: [&str; 2],
     status: Status,
@@ -118,7 +128,7 @@ fn ends_a_play(
         "play", "--serial", "--dag", "d", "--record", "r", "--out", "o", "--trace", "t",
         options[0], options[1],
     ];
-    let ran = run(alloc, &words, MemStore::new(alloc))?;
+    let ran = run(rt, alloc, &words, MemStore::new(alloc))?;
     let option = options[0];
     let value = options[1];
     assert_eq!(rt; ran.status, status, "{option} {value}");
@@ -206,7 +216,7 @@ fn faults_where_a_refusal_is_not_told(rt: HostRuntime) -> Result<(), Fail> {
         };
         let mut store = store_of(alloc, whole)?;
         store.fail_at(call, 0)?;
-        let ran = run_over(alloc, words, store, MemSink::new(alloc), err)?;
+        let ran = run_over(&rt, alloc, words, store, MemSink::new(alloc), err)?;
         ends(&rt, &ran, Status::SinkFault, b"", want);
     }
     Ok(())

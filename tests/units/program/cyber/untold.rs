@@ -43,7 +43,7 @@ fn reads_a_file_that_shrank(rt: HostRuntime) -> Result<(), Fail> {
     for more in [0, 1, 70_000] {
         let inner = store_of(alloc, &in_record(alloc)?)?;
         let store = Untold { inner, more };
-        let ran = run(alloc, &PASS, store)?;
+        let ran = run(&rt, alloc, &PASS, store)?;
         assert_eq!(rt; ran.status, Status::Done, "{more}");
         assert_eq!(rt;
             ran.store.inner.file("out.rec"),
@@ -60,7 +60,7 @@ fn faults_where_nothing_is_told(rt: HostRuntime) -> Result<(), Fail> {
         inner: MemStore::new(alloc),
         more: 0,
     };
-    let ran = run(alloc, &PASS, store)?;
+    let ran = run(&rt, alloc, &PASS, store)?;
     let line = b"cyber: in.rec: the store failed\n";
     ends(&rt, &ran, Status::StoreFault, b"", line);
     Ok(())

@@ -5,6 +5,7 @@ use cyber_cli::Status;
 use std::alloc::Global;
 use std::process::Abort;
 use std::test::Fail;
+use std::thread::Threads;
 
 /// The files that `make 4 m` writes, in their order, each with the number of its calls: one that
 /// makes it, and one for each of its pieces. Of a record these are the header twice, a section for
@@ -37,10 +38,10 @@ fn file_of(call: u64) -> (usize, u64) {
 }
 
 // What stands after this call failed: the files before are there, and those behind it aren't.
-fn stands(rt: &impl Abort, alloc: Global, call: u64) -> Result<(), Fail> {
+fn stands(rt: &(impl Abort + Threads + Sync), alloc: Global, call: u64) -> Result<(), Fail> {
     let mut store = MemStore::new(alloc);
     store.fail_at(call, 0)?;
-    let ran = run(alloc, &["make", "4", "m"], store, MemSink::new(alloc))?;
+    let ran = run(rt, alloc, &["make", "4", "m"], store, MemSink::new(alloc))?;
     assert_eq!(rt; ran.status, Status::StoreFault, "{call}");
     assert_eq!(rt; ran.out.bytes(), b"".as_slice(), "{call}");
     let (failed, before) = file_of(call);
@@ -65,7 +66,7 @@ fn fails_each_call_in_turn(rt: HostRuntime) -> Result<(), Fail> {
     }
     let mut store = MemStore::new(alloc);
     store.fail_at(CALLS + 1, 0)?;
-    let ran = run(alloc, &["make", "4", "m"], store, MemSink::new(alloc))?;
+    let ran = run(&rt, alloc, &["make", "4", "m"], store, MemSink::new(alloc))?;
     assert_eq!(rt; ran.status, Status::Done);
     Ok(())
 }

@@ -20,7 +20,7 @@ const LINE: &[u8] = b"done: played 4, shadowed 0, calls 5, written 9\n";
 fn makes_four_messages_and_plays_them(rt: HostRuntime) -> Result<(), Fail> {
     let alloc = rt.alloc();
     let words = ["make", "4", "m"];
-    let ran = run(alloc, &words, MemStore::new(alloc), MemSink::new(alloc))?;
+    let ran = run(&rt, alloc, &words, MemStore::new(alloc), MemSink::new(alloc))?;
     assert_eq!(rt; ran.status, Status::Done);
     assert_eq!(rt; ran.out.bytes(), LINE);
     assert_eq!(rt; ran.err.bytes(), b"".as_slice());
@@ -38,7 +38,7 @@ fn makes_up_to_a_name_that_has_to_be_quoted(rt: HostRuntime) -> Result<(), Fail>
     let alloc = rt.alloc();
     for prefix in ["a b", "\"", "\\", "\u{1}é\n"] {
         let words = ["make", "1", prefix];
-        let ran = run(alloc, &words, MemStore::new(alloc), MemSink::new(alloc))?;
+        let ran = run(&rt, alloc, &words, MemStore::new(alloc), MemSink::new(alloc))?;
         assert_eq!(rt; ran.status, Status::Done, "{prefix}");
     }
     Ok(())
@@ -49,7 +49,7 @@ fn leaves_all_files_where_the_line_fails(rt: HostRuntime) -> Result<(), Fail> {
     let alloc = rt.alloc();
     let mut out = MemSink::new(alloc);
     out.fail_at(1)?;
-    let ran = run(alloc, &["make", "4", "m"], MemStore::new(alloc), out)?;
+    let ran = run(&rt, alloc, &["make", "4", "m"], MemStore::new(alloc), out)?;
     assert_eq!(rt; ran.status, Status::SinkFault);
     assert_eq!(rt; ran.err.bytes(), b"cyber: the output failed\n".as_slice());
     assert_eq!(rt; ran.store.file("m.trace"), Some(TRACE));

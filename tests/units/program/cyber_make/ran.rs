@@ -4,6 +4,7 @@ use cy_store::{MemSink, MemStore};
 use cyber_cli::{Status, cyber_still};
 use std::alloc::Global;
 use std::test::Fail;
+use std::thread::Threads;
 
 /// What the program answered, and what it left.
 #[derive(Drop)]
@@ -15,7 +16,13 @@ pub struct Ran {
 }
 
 /// Runs the program with these words over this store and this sink of what was done.
-pub fn run(alloc: Global, words: &[&str], store: MemStore, out: MemSink) -> Result<Ran, Fail> {
+pub fn run(
+    rt: &(impl Threads + Sync),
+    alloc: Global,
+    words: &[&str],
+    store: MemStore,
+    out: MemSink,
+) -> Result<Ran, Fail> {
     let mut texts = Vec::new(alloc);
     for word in words {
         texts.push(Text::new(alloc, word)?)?;
@@ -26,6 +33,6 @@ pub fn run(alloc: Global, words: &[&str], store: MemStore, out: MemSink) -> Resu
         out,
         err: MemSink::new(alloc),
     };
-    ran.status = cyber_still(alloc, &texts, &mut ran.store, &mut ran.out, &mut ran.err);
+    ran.status = cyber_still(rt, alloc, &texts, &mut ran.store, &mut ran.out, &mut ran.err);
     Ok(ran)
 }

@@ -5,6 +5,7 @@ use cyber_cli::Status;
 use std::alloc::Global;
 use std::process::Abort;
 use std::test::Fail;
+use std::thread::Threads;
 
 #[test]
 fn refuses_words_of_another_form(rt: HostRuntime) -> Result<(), Fail> {
@@ -21,7 +22,7 @@ fn refuses_words_of_another_form(rt: HostRuntime) -> Result<(), Fail> {
         ["make", "4", "-m"],
         ["Make", "4", "m"],
     ] {
-        let ran = run(alloc, &words, MemStore::new(alloc), MemSink::new(alloc))?;
+        let ran = run(&rt, alloc, &words, MemStore::new(alloc), MemSink::new(alloc))?;
         let number = words[1];
         assert_eq!(rt; ran.status, Status::Usage, "{number}");
         assert_eq!(rt; ran.store.file("m.adder.conf"), None, "{number}");
@@ -31,7 +32,7 @@ fn refuses_words_of_another_form(rt: HostRuntime) -> Result<(), Fail> {
 
 // A play of one message ends so with a prefix of so many bytes.
 fn ends_with_prefix(
-    rt: &impl Abort,
+    rt: &(impl Abort + Threads + Sync),
     alloc: Global,
     bytes: usize,
     status: Status,
@@ -41,7 +42,7 @@ fn ends_with_prefix(
         prefix.push('m')?;
     }
     let words = ["make", "1", prefix.as_str()];
-    let ran = run(alloc, &words, MemStore::new(alloc), MemSink::new(alloc))?;
+    let ran = run(rt, alloc, &words, MemStore::new(alloc), MemSink::new(alloc))?;
     assert_eq!(rt; ran.status, status, "{bytes}");
     Ok(())
 }
@@ -58,7 +59,7 @@ fn takes_a_prefix_of_a_million_bytes_and_no_longer_one(rt: HostRuntime) -> Resul
 fn takes_leading_zeros(rt: HostRuntime) -> Result<(), Fail> {
     let alloc = rt.alloc();
     let words = ["make", "00000000000000000001", "m"];
-    let ran = run(alloc, &words, MemStore::new(alloc), MemSink::new(alloc))?;
+    let ran = run(&rt, alloc, &words, MemStore::new(alloc), MemSink::new(alloc))?;
     assert_eq!(rt; ran.status, Status::Done);
     Ok(())
 }

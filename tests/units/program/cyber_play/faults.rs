@@ -82,12 +82,12 @@ fn fails_each_call_in_turn(rt: HostRuntime) -> Result<(), Fail> {
     for call in 1..=CALLS {
         for keep in [0, 9] {
             let store = failing_at(alloc, call, keep)?;
-            let ran = play(alloc, store, MemSink::new(alloc))?;
+            let ran = play(&rt, alloc, store, MemSink::new(alloc))?;
             stands(&rt, alloc, &ran, call, keep)?;
         }
     }
     let store = failing_at(alloc, CALLS + 1, 0)?;
-    let done = play(alloc, store, MemSink::new(alloc))?;
+    let done = play(&rt, alloc, store, MemSink::new(alloc))?;
     assert_eq!(rt; done.status, Status::Done);
     Ok(())
 }

@@ -23,7 +23,7 @@ fn is_whole(rt: &impl Abort, alloc: Global, ran: &Ran) -> Result<(), Fail> {
 #[test]
 fn plays_a_chain_of_two(rt: HostRuntime) -> Result<(), Fail> {
     let alloc = rt.alloc();
-    let ran = play(alloc, chain_store(alloc)?, MemSink::new(alloc))?;
+    let ran = play(&rt, alloc, chain_store(alloc)?, MemSink::new(alloc))?;
     is_whole(&rt, alloc, &ran)
 }
 
@@ -46,7 +46,7 @@ fn plays_a_chain_with_threads(rt: HostRuntime) -> Result<(), Fail> {
 
 #[test]
 fn has_no_threads_where_it_may_not_wait(rt: HostRuntime) -> Result<(), Fail> {
-    let ran = play_still(rt.alloc())?;
+    let ran = play_still(&rt, rt.alloc())?;
     assert_eq!(rt; ran.status, Status::Usage);
     assert!(rt; ran.store.file("out.rec").is_none());
     assert!(rt; ran.store.file("t.txt").is_none());
@@ -58,7 +58,7 @@ fn leaves_both_files_where_the_line_fails(rt: HostRuntime) -> Result<(), Fail> {
     let alloc = rt.alloc();
     let mut out = MemSink::new(alloc);
     out.fail_at(1)?;
-    let ran = play(alloc, chain_store(alloc)?, out)?;
+    let ran = play(&rt, alloc, chain_store(alloc)?, out)?;
     assert_eq!(rt; ran.status, Status::SinkFault);
     assert_eq!(rt; ran.out.bytes(), b"".as_slice());
     assert_eq!(rt; ran.err.bytes(), b"cyber: the output failed\n".as_slice());

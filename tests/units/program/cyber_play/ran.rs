@@ -76,18 +76,23 @@ fn before(alloc: Global, store: MemStore, out: MemSink) -> Ran {
 }
 
 /// Plays the chain serially over this store and this sink of what was done.
-pub fn play(alloc: Global, store: MemStore, out: MemSink) -> Result<Ran, Fail> {
+pub fn play(
+    rt: &(impl Threads + Sync),
+    alloc: Global,
+    store: MemStore,
+    out: MemSink,
+) -> Result<Ran, Fail> {
     let words = words_of(alloc, SERIAL_PLAY)?;
     let mut ran = before(alloc, store, out);
-    ran.status = cyber_still(alloc, &words, &mut ran.store, &mut ran.out, &mut ran.err);
+    ran.status = cyber_still(rt, alloc, &words, &mut ran.store, &mut ran.out, &mut ran.err);
     Ok(ran)
 }
 
 /// Asks for a play on threads where there are none.
-pub fn play_still(alloc: Global) -> Result<Ran, Fail> {
+pub fn play_still(rt: &(impl Threads + Sync), alloc: Global) -> Result<Ran, Fail> {
     let words = words_of(alloc, PLAY)?;
     let mut ran = before(alloc, chain_store(alloc)?, MemSink::new(alloc));
-    ran.status = cyber_still(alloc, &words, &mut ran.store, &mut ran.out, &mut ran.err);
+    ran.status = cyber_still(rt, alloc, &words, &mut ran.store, &mut ran.out, &mut ran.err);
     Ok(ran)
 }
 

@@ -6,12 +6,14 @@ use cy_request::{Components, Filter, Request, StopAt};
 use cy_store::{MemStore, Store};
 use std::alloc::Global;
 use std::test::Fail;
+use std::thread::Threads;
 
 /// The calls that make the files of the chain.
 const CALLS_BEFORE: u64 = 8;
 
 // Sets the chain up, with a scheduler file and a stop or without them, to play all of its record.
 fn set_up_chain(
+    rt: &(impl Threads + Sync),
     alloc: Global,
     store: &mut MemStore,
     sched: Option<&str>,
@@ -32,7 +34,7 @@ fn set_up_chain(
         filter: &filter,
         stop,
     };
-    set_up(alloc, store, &request)
+    set_up(rt, alloc, store, &request)
 }
 
 // Which kind of fault a file has.
@@ -85,11 +87,11 @@ fn names_the_file_whose_call_failed(rt: HostRuntime) -> Result<(), Fail> {
     ] {
         let mut store = chain_store(alloc)?;
         store.fail_at(CALLS_BEFORE + call, 0)?;
-        let answer = set_up_chain(alloc, &mut store, None, None);
+        let answer = set_up_chain(&rt, alloc, &mut store, None, None);
         assert_eq!(rt; told(alloc, answer)?.as_str(), want, "{call}");
     }
     let mut store = chain_store(alloc)?;
-    let answer = set_up_chain(alloc, &mut store, Some("s.sched"), None);
+    let answer = set_up_chain(&rt, alloc, &mut store, Some("s.sched"), None);
     assert_eq!(rt; told(alloc, answer)?.as_str(), "s.sched Store");
     Ok(())
 }
@@ -113,7 +115,7 @@ fn names_the_file_that_is_refused(rt: HostRuntime) -> Result<(), Fail> {
         store.put_at("s.sched", 0, b"scheduler_conf { default_proc_num: 1 }")?;
         store.create(name)?;
         store.put_at(name, 0, text.as_bytes())?;
-        let answer = set_up_chain(alloc, &mut store, Some("s.sched"), None);
+        let answer = set_up_chain(&rt, alloc, &mut store, Some("s.sched"), None);
         assert_eq!(rt; told(alloc, answer)?.as_str(), want, "{name} {text}");
     }
     Ok(())
@@ -131,7 +133,7 @@ fn counts_the_messages_up_to_a_stop(rt: HostRuntime) -> Result<(), Fail> {
     ] {
         let mut store = chain_store(alloc)?;
         let asked = Some(StopAt { component, time });
-        let Ok(replay) = set_up_chain(alloc, &mut store, None, asked) else {
+        let Ok(replay) = set_up_chain(&rt, alloc, &mut store, None, asked) else {
             panic!(rt; "{component} {time}");
         };
         let stop = replay.stop.map(|stop| (stop.component, stop.after));
@@ -153,7 +155,7 @@ fn refuses_a_stop_of_no_component(rt: HostRuntime) -> Result<(), Fail> {
         store.create("p.conf")?;
         store.put_at("p.conf", 0, text.as_bytes())?;
         let asked = Some(StopAt { component, time: 5 });
-        let answer = set_up_chain(alloc, &mut store, None, asked);
+        let answer = set_up_chain(&rt, alloc, &mut store, None, asked);
         assert_eq!(rt; told(alloc, answer)?.as_str(), want, "{component} {text}");
     }
     Ok(())
