@@ -23,6 +23,7 @@ use cy_section::{
 use cy_store::{Store, read_range};
 use std::alloc::Global;
 use std::marker::Model;
+use std::thread::Threads;
 
 /// What was salvaged of a file: contracts see its channels, its messages, and how many bytes were
 /// dropped.
@@ -194,7 +195,12 @@ fn is_whole(count: usize, parts: &[Part], end: &Result<Option<KeptIndex>, Sectio
 
 // What is salvaged of a file of this size that was cut into sections.
 #[tactic(auto, unfolding(crate::specs::private::Salvaging::cut_salvage))]
-fn salvaged_of(alloc: Global, size: u64, cut: CutFile) -> Result<Salvaged, LoadError>
+fn salvaged_of<R: Threads + Sync>(
+    rt: &R,
+    alloc: Global,
+    size: u64,
+    cut: CutFile,
+) -> Result<Salvaged, LoadError>
     requires { AreWithin cut }
     ensures salvaged { AnswersOr LoadError.Memory (λ s. s) result (cut_salvage size cut) }
     ensures not_store { IfErr result (λ e. e ≢ LoadError.Store) }
@@ -205,7 +211,7 @@ fn salvaged_of(alloc: Global, size: u64, cut: CutFile) -> Result<Salvaged, LoadE
     drop(end);
     parts.truncate(count);
     let dropped = dropped_behind(&parts, size, are_all);
-    let (bodies, loading) = parts_met(alloc, parts)?;
+    let (bodies, loading) = parts_met(rt, alloc, parts)?;
     Ok(Salvaged {
         bodies,
         loading,
@@ -219,7 +225,8 @@ fn salvaged_of(alloc: Global, size: u64, cut: CutFile) -> Result<Salvaged, LoadE
 /// front that is no record's, a compression, and the limits.
 ///
 /// It keeps the bodies of the chunks, beside 24 bytes a message.
-pub fn salvage_record<S: Store>(
+pub fn salvage_record<S: Store, R: Threads + Sync>(
+    rt: &R,
     alloc: Global,
     store: &mut S,
     name: &str,
@@ -228,5 +235,5 @@ pub fn salvage_record<S: Store>(
 {
     let size = usable_size(alloc, store, name)?;
     let cut = cut_file(alloc, store, name, size)?;
-    salvaged_of(alloc, size, cut)
+    salvaged_of(rt, alloc, size, cut)
 }
