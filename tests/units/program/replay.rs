@@ -3,7 +3,7 @@ use crate::records::HEADER_END;
 use cy_comp::{Kind, Plan, Wiring};
 use cy_fuse::Overflow;
 use cy_msg::{Items, Names, PlayList, Text, Token};
-use cy_reader::{Record, load};
+use cy_reader::{Record, load_whole};
 use cy_recording::{Played, write_record};
 use cy_store::MemStore;
 use cy_writer::{RecordWriter, WriteError};
@@ -68,7 +68,7 @@ pub fn record_with(rt: &HostRuntime, content: &[u8]) -> Result<Record, Fail> {
     writer.message(rt.alloc(), &mut store, 0, 90, b"\x08\x02")?;
     writer.message(rt.alloc(), &mut store, 1, 100, content)?;
     writer.close(rt.alloc(), &mut store)?;
-    Ok(load(&rt, rt.alloc(), &mut store, "in.rec")?)
+    Ok(load_whole(rt.alloc(), &mut store, "in.rec")?)
 }
 
 /// A component that passes `/in` on to `/out`, whose messages have the type `U`.
