@@ -43,17 +43,19 @@ fn has_ticks(plans: &[Plan], channel: u32) -> bool
     plans.iter().any(|plan| is_ticked_on(plan, channel))
 }
 
+// Whether a channel is among those of readers.
+fn is_read_by(readers: &[u32], channel: u32) -> bool
+    ensures { result ≡ list_any (λ reader. reader == channel) readers.now }
+{
+    readers.iter().any(|reader| *reader == channel)
+}
+
 // Whether the ticks of a component stand on a channel.
 fn is_ticked_on(plan: &Plan, channel: u32) -> bool
     ensures { result ≡ (is_some plan.now.interval
         && list_any (λ reader. reader == channel) plan.now.readers) }
 {
-    plan.interval.is_some()
-        && plan
-            .readers
-            .as_slice()
-            .iter()
-            .any(|reader| *reader == channel)
+    plan.interval.is_some() && is_read_by(plan.readers.as_slice(), channel)
 }
 
 // The type and description of a channel.
