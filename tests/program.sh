@@ -664,6 +664,8 @@ plays_as_described "${drive[@]}"
 plays_as_described "${drive[@]}" --sched examples/drive/drive.sched
 plays_as_described "${drive[@]}" --channels /wheel/speed,/map/limit --begin 1700000005000000000
 plays_as_described "${drive[@]}" --drop /map/limit --end 1700000005000000000
+plays_as_described --dag examples/drive/heartbeat.dag --record examples/drive/drive.rec
+plays_as_described --dag examples/drive/heartbeat.dag --record examples/drive/drive.rec --channels /imu/yaw --stop sampled@1700000007000000000
 # A frame is held back while `late` is stopped. Whose trigger is stopped goes on, and gets nothing more.
 for stop in margin@1700000010000000000 late@1700000005010000000 smooth@1700000004700000000 frames@0; do
   plays_as_described "${drive[@]}" --stop "$stop"
@@ -886,6 +888,7 @@ tells_of_standard_output 'cannot be written' '</dev/null >&0'
 fails_without_standard_error 'is full' '2>/dev/full'
 fails_without_standard_error 'is closed' '2>&-'
 
+. "$top/tests/program/timers.sh"
 . "$top/tests/program/refused.sh"
 . "$top/tests/program/verify.sh"
 

@@ -1,6 +1,6 @@
 #!/usr/bin/env python3
 """Plays random records through random components, and compares what the program writes with what replay.py makes of the files.
-One in five is played by `pass`; of the others a third has a stop. Where the program has the command `verify`, what it wrote is verified.
+One in five is played by `pass`; of the others a third has a stop, and a third timer components. Where the program has the command `verify`, what it wrote is verified.
 
     replays.py PROGRAM COUNT SEED
 
@@ -18,31 +18,46 @@ from record import content_of, forms_of, record
 
 KINDS = {"Pass": 1, "Filter": 1, "Sum": 1, "Count": 1, "Max": 1, "Window": 1, "Change": 1, "Select": 3, "Hold": 1, "Take": 1}
 CHANNELS = ["/a", "/b", "/c", "/d"]
+HALF_A_MILLISECOND = 500_000  # what a play with timers counts its times in, so that there are some ticks
 BAD_CONTENTS = [b"", b"\xff", b"\x08", b"\x10\x02", b"\x0a\x01x"]
 
 
-def parameters(kind, chance):
+def parameters(kind, chance, unit):
     if kind == "Filter":
         low = chance.randint(-20, 10)
         return f"lo: {low} hi: {low + chance.randint(-1, 20)}"
     if kind == "Hold":
-        return f"delay: {chance.choice([0, 1, 3, 10, 2**64 - 1])}"
+        return f"delay: {chance.choice([0, unit, 3 * unit, 10 * unit, 2**64 - 1])}"
     if kind in ("Window", "Take"):
         return f"n: {chance.randint(1, 5)}"
     return ""
 
 
-def component(number, triggers, outs, chance):
+def file_of(number, kind, overflow, outs, chance, unit):
+    """The file of a component."""
+    return f'out: "{outs[number]}" out_type: "t{number}" {overflow} {parameters(kind, chance, unit)}'
+
+
+def timer(number, outs, chance):
+    """A timer component of the DAG and its file."""
+    kind = chance.choice([kind for kind, needed in KINDS.items() if needed == 1])
+    config = f'name: "c{number}" config_file_path: "c{number}.conf" interval: {chance.choice([1, 1, 2, 3, 7])}'
+    overflow = chance.choice(["", "on_overflow: OLDEST"])
+    file = file_of(number, kind, overflow, outs, chance, HALF_A_MILLISECOND)
+    return f'timer_components {{ class_name: "{kind}Component" config {{ {config} }} }}', file
+
+
+def component(number, triggers, outs, chance, unit):
     """A component of the DAG and its file: its first reader is one of `triggers`, its channel one that no other writes."""
     kind = chance.choice(list(KINDS) + ["Hold", "Hold"])  # in a serial play none is too late but one that holds its output back
     overflow = chance.choice(["", "", "on_overflow: NEWEST", "on_overflow: OLDEST", "on_overflow: OLDEST"])
     queues = [2, 3] if "OLDEST" in overflow else [0, 1, 1, 2, 4]
     trigger = chance.choice(triggers)
-    others = [it for it in dict.fromkeys(CHANNELS + outs) if it != trigger]
+    others = [it for it in dict.fromkeys(CHANNELS + outs + triggers) if it != trigger]
     readers = [trigger] + chance.sample(others, chance.randint(KINDS[kind] - 1, 3))
     texts = [f'readers {{ channel: "{it}" pending_queue_size: {chance.choice(queues)} }}' for it in readers]
     config = f'name: "c{number}" config_file_path: "c{number}.conf" {" ".join(texts)}'
-    file = f'out: "{outs[number]}" out_type: "t{number}" {overflow} {parameters(kind, chance)}'
+    file = file_of(number, kind, overflow, outs, chance, unit)
     return f'components {{ class_name: "{kind}Component" config {{ {config} }} }}', file
 
 
@@ -55,11 +70,11 @@ def scheduler(count, chance):
     return f'scheduler_conf {{ policy: "choreography" choreography_conf {{ choreography_processor_num: 2 {pinned} }} }}'
 
 
-def messages(chance, outs):
-    found, time = [], 0
+def messages(chance, outs, unit):
+    found, time = [], chance.choice([0, unit // 2])
     for _ in range(chance.randint(0, 40)):
-        time += chance.choice([0, 0, 1, 1, 2, 7])
-        channel = chance.choice(CHANNELS + outs[:1] if chance.random() < 0.1 else CHANNELS)
+        time += chance.choice([0, 0, 1, 1, 2, 7]) * unit
+        channel = chance.choice(CHANNELS + outs if chance.random() < 0.1 else CHANNELS)
         value = chance.choice([chance.randint(-20, 20), 2**63 - 1, -(2**63)] if chance.random() < 0.2 else [chance.randint(-20, 20)])
         content = chance.choice(BAD_CONTENTS) if chance.random() < 0.05 else content_of(value)
         found.append((channel.encode(), time, content))
@@ -68,14 +83,14 @@ def messages(chance, outs):
     return found
 
 
-def options(chance):
+def options(chance, unit):
     words = []
     if chance.random() < 0.3:
         words += ["--channels", ",".join(chance.sample(CHANNELS, chance.randint(1, 4)))]
     if chance.random() < 0.2:
         words += [f"--drop={chance.choice(CHANNELS)}"]
     if chance.random() < 0.2:
-        words += ["--begin", str(chance.randint(0, 20)), "--end", str(chance.randint(10, 60))]
+        words += ["--begin", str(chance.randint(0, 20) * unit), "--end", str(chance.randint(10, 60) * unit)]
     return words
 
 
@@ -89,31 +104,33 @@ def stop(texts, times, chance):
     return chance.choice([["--stop", f"c{number}@{time}"], [f"--stop=c{number}@{time}"]])
 
 
-def write_record(chance, outs):
-    """Makes the record, and gives the times of its messages."""
-    found = messages(chance, outs)
+def write_record(chance, outs, unit=1):
+    """Makes the record, some of whose messages stand on written channels, and gives the times of its messages."""
+    found = messages(chance, outs, unit)
     with open("in.rec", "wb") as file:
-        file.write(record(found, {b"/a": (b"a.Type", b"described")}))
+        file.write(record(found, {channel.encode(): (b"a.Type", b"described") for channel in ["/a"] + outs[1:]}))
     return [time for _, time, _ in found]
 
 
 def write_files(chance):
     """Makes the files of a replay, and gives the words that name them."""
-    count = chance.randint(1, 6)
-    outs = [f"/o{k}" for k in range(count)]
+    plain, timers = chance.randint(1, 6), chance.choice([0, 0, 0, 0, 1, 2])
+    count, unit = plain + timers, HALF_A_MILLISECOND if timers else 1
+    outs, ticks = [f"/o{k}" for k in range(count)], [f"@timer/c{k}" for k in range(plain, count)]
     if chance.random() < 0.2:
         outs[0] = "/d"
-    parts = [component(k, CHANNELS[:3] + outs[:k], outs, chance) for k in range(count)]
+    parts = [component(k, CHANNELS[:3] + outs[:k] + ticks, outs, chance, unit) for k in range(plain)]
+    parts += [timer(k, outs, chance) for k in range(plain, count)]
     files = {"m.dag": "module_config { " + " ".join(text for text, _ in parts) + " }"}
     files |= {f"c{k}.conf": text for k, (_, text) in enumerate(parts)}
-    words = ["--dag", "m.dag", "--record", "in.rec"] + options(chance)
+    words = ["--dag", "m.dag", "--record", "in.rec"] + options(chance, unit)
     if chance.random() < 0.6:
         files["m.sched"] = scheduler(count, chance)
         words += ["--sched", "m.sched"]
     for name, text in files.items():
         with open(name, "w", encoding="utf-8") as file:
             file.write(text)
-    return words + stop([text for text, _ in parts], write_record(chance, outs), chance)
+    return words + stop([text for text, _ in parts], write_record(chance, outs[:1] + ticks, unit), chance)
 
 
 def write_pass(chance):

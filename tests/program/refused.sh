@@ -109,7 +109,8 @@ refuses_a_dag 'too few readers' 'd.dag: TooFewReaders 0 1' SelectComponent "$REA
 refuses_a_dag 'a channel that is read twice' 'd.dag: ReaderTwice 0 "/a"' SumComponent "$READS_A readers { channel: \"/a\" }" ''
 
 A_COMPONENT="components { class_name: \"PassComponent\" config { name: \"p\" $READS_A } }"
-refuses_files 'timer components' 1 'cyber: d.dag: Timers 2' "$(write_dag "$A_COMPONENT" 'timer_components [ {}, {} ]')"
+refuses_files 'a timer component without a name' 1 'cyber: d.dag: Missing 1 "name"' \
+  "$(write_dag "$A_COMPONENT" 'timer_components [ {}, {} ]')"
 refuses_files 'a name that is given twice' 1 'cyber: d.dag: NameTwice 0 1' "$(write_dag "$A_COMPONENT" "$A_COMPONENT")"
 refuses_files 'two components that write one channel' 1 'cyber: d.dag: TwoWriters 0 1' \
   "$(write_dag "$A_COMPONENT" "${A_COMPONENT/name: \"p\"/name: \"q\"}"); $A_SCHED"

@@ -1,5 +1,6 @@
 -- The text that tells what the configuration files of a run say.
-use Rattle.std.specs.Prelude.{ℕ, true, List, [], ◌∷◌, ◌++◌, codes, slice_get, unwrap_or, option_map}
+use Rattle.std.specs.Prelude.{ℕ, true, List, [], ◌∷◌, ◌++◌, codes, slice_get, Option, Some, None}
+use Rattle.std.specs.Prelude.{unwrap_or, option_map}
 use Rattle.std.specs.Fmt.{decimal}
 use Rattle.std.specs.List.{flat_map, zip}
 use Rattle.cy_msg.specs.Quoted.{quoted}
@@ -27,6 +28,22 @@ component_line c config =
     ++ flat_map (λ r. spaced r.channel) c.readers
     ++ codes " queue " ++ decimal (queue_of_first c.readers)
     ++ codes " writes " ++ quoted true config.out ++ overflow_text config.overflow ++ codes "\n"
+
+-- How often a tick triggers a timer component.
+unfoldable pub interval_text : ℕ → List ℕ
+interval_text interval = codes " every " ++ decimal interval ++ codes " ms"
+
+-- A timer component: its name, its class, each how many milliseconds a tick triggers it, and the
+-- channel that it writes.
+abbrev pub timer_line : ℕ → DagComponent → Config → List ℕ
+timer_line interval c config =
+    codes "timer " ++ quoted true c.name ++ codes " class " ++ c.class_name
+    ++ interval_text interval ++ codes " writes " ++ quoted true config.out ++ codes "\n"
+
+-- The line of a component of either kind.
+abbrev pub line_by : Option ℕ → DagComponent → Config → List ℕ
+line_by None c config = component_line c config
+line_by (Some interval) c config = timer_line interval c config
 
 -- The name of the component with a number.
 abbrev pub name_in : List DagComponent → ℕ → List ℕ
@@ -57,7 +74,8 @@ unknown_lines file paths = flat_map (unknown_line file) paths
 -- The lines of all components, those of all contexts, and those of the unknown fields of each
 -- component file.
 abbrev pub component_lines : List DagComponent → List Config → List ℕ
-component_lines components configs = flat_map (λ p. component_line p.0 p.1) (zip components configs)
+component_lines components configs =
+    flat_map (λ p. line_by p.0.interval p.0 p.1) (zip components configs)
 
 abbrev pub context_lines : List DagComponent → List ContextPlan → List ℕ
 context_lines components contexts = flat_map (context_line components) contexts

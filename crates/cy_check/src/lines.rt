@@ -4,7 +4,8 @@ ghost use Rattle.std.specs.List.{flat_map};
 ghost use Rattle.cy_msg.specs.Quoted.{quoted};
 ghost use Rattle.cy_check.specs.CheckText.{component_line, component_lines, config_lines};
 ghost use Rattle.cy_check.specs.CheckText.{context_head, context_line, context_lines, name_in};
-ghost use Rattle.cy_check.specs.CheckText.{order_text, overflow_text, spaced, unknown_lines};
+ghost use Rattle.cy_check.specs.CheckText.{interval_text, line_by, order_text, overflow_text, spaced};
+ghost use Rattle.cy_check.specs.CheckText.{timer_line, unknown_lines};
 ghost use Rattle.cy_dag.specs.Wiring.{queue_of_first};
 
 use cy_dag::{Config, DagComponent, DagReader};
@@ -24,12 +25,50 @@ pub(crate) fn push_components(
         ≡ to.old.items ++ component_lines components.now configs.now) }
 {
     for (place, component) in components.iter().enumerate() {
-        push_component(to, component, &configs[place])?;
+        push_line(to, component, &configs[place])?;
     }
     Ok(())
 }
 
-// A component.
+// A component of either kind.
+fn push_line(to: &mut Vec<u8>, component: &DagComponent, config: &Config) -> io::Result<()>
+    ensures { OnOk result (to.new.items
+        ≡ to.old.items ++ line_by component.now.interval component.now config.now) }
+{
+    match component.interval {
+        Some(interval) => push_timer(to, interval, component, config),
+        None => push_component(to, component, config),
+    }
+}
+
+// A timer component.
+fn push_timer(
+    to: &mut Vec<u8>,
+    interval: u32,
+    component: &DagComponent,
+    config: &Config,
+) -> io::Result<()>
+    ensures { OnOk result (to.new.items
+        ≡ to.old.items ++ timer_line interval component.now config.now) }
+{
+    write!(to, "timer ")?;
+    push_name(to, component.name.as_str())?;
+    write!(to, " class {}", component.class_name.as_str())?;
+    push_interval(to, interval)?;
+    write!(to, " writes ")?;
+    push_name(to, config.out.as_str())?;
+    writeln!(to, "")
+}
+
+// How often a tick triggers a timer component.
+#[tactic(auto, unfolding(crate::specs::CheckText::interval_text))]
+fn push_interval(to: &mut Vec<u8>, interval: u32) -> io::Result<()>
+    ensures { OnOk result (to.new.items ≡ to.old.items ++ interval_text interval) }
+{
+    write!(to, " every {interval} ms")
+}
+
+// A component that reads what others send.
 fn push_component(to: &mut Vec<u8>, component: &DagComponent, config: &Config) -> io::Result<()>
     ensures { OnOk result (to.new.items ≡ to.old.items ++ component_line component.now config.now) }
 {

@@ -8,6 +8,12 @@ use Rattle.std.specs.declared.cmp.Ordering.TheVariants as ordering
 use Rattle.std.proofs.lemmas.Bool.{cases_order}
 use Rattle.std.proofs.lemmas.Map.Keys.{ge_from_not_lt}
 use Rattle.cy_msg.specs.declared.play_list.PlayList.{PlayList}
+use Rattle.cy_msg.specs.declared.token.Token.{Token}
+use Rattle.cy_request.specs.declared.filter.Filter.{Filter}
+use Rattle.cy_timer.specs.Merged.{merged}
+use Rattle.cy_timer.specs.Timers.{timers_of}
+use Rattle.cy_replay.specs.Listing.{IsListed, choice_of}
+use Rattle.cy_replay.specs.Wiring.{Wired}
 use Rattle.cy_reader.specs.Record.{Contents}
 use Rattle.cy_reader.specs.Play.{Choice, IsPlayList, number_at, time_at, tokens_behind}
 
@@ -100,11 +106,21 @@ pub record SameList (a b : PlayList) : Type 0 where
   pub tokens : a.tokens ≡ b.tokens
   pub shadowed : a.shadowed ≡ b.shadowed
 
-pub one_list : (whole : Contents) (choice : Choice) (a b : PlayList) → IsPlayList whole choice a → IsPlayList whole choice b → SameList a b
+one_list : (whole : Contents) (choice : Choice) (a b : PlayList) → IsPlayList whole choice a → IsPlayList whole choice b → SameList a b
 one_list whole choice a b p q =
     let places = one_order (time_at whole) a.places b.places p.order.by_time q.order.by_time (λ z. p.order.stable z ∙ sym (q.order.stable z)) in
     record {
       places = places;
       tokens = p.tokens ∙ ap (tokens_behind (number_at whole choice) whole []) places ∙ sym q.tokens;
       shadowed = p.shadowed ∙ sym q.shadowed;
+    }
+
+-- and so are two with ticks among their messages
+pub one_listed : (whole : Contents) (filter : Filter) (w : Wired) (a b : PlayList) → IsListed whole filter w a → IsListed whole filter w b → SameList a b
+one_listed whole filter w a b p q =
+    let same = one_list whole (choice_of filter w) p.messages q.messages p.chosen q.chosen in
+    record {
+      places = p.merged.places ∙ same.places ∙ sym q.merged.places;
+      tokens = p.merged.tokens ∙ ap (λ (ts : List Token). merged ts (timers_of w.plans)) same.tokens ∙ sym q.merged.tokens;
+      shadowed = p.merged.shadowed ∙ same.shadowed ∙ sym q.merged.shadowed;
     }

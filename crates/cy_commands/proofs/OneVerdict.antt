@@ -19,7 +19,6 @@ use Rattle.cy_trace.specs.TraceText.{trace_text}
 use Rattle.cy_compare.specs.Compare.{first_difference}
 use Rattle.cy_recording.specs.Recording.{Source}
 use Rattle.cy_replay.specs.declared.error.Refusal.{Refusal}
-use Rattle.cy_replay.specs.Listing.{choice_of}
 use Rattle.cy_replay.specs.Setup.{Replayed}
 use Rattle.cy_replay.specs.Stops.{stop_of}
 use Rattle.cy_replay.specs.TraceFile.{trace_in}
@@ -30,7 +29,7 @@ use Rattle.cy_commands.specs.Commands.PlayWork.{source_in, tape_record}
 use Rattle.cy_commands.specs.Commands.VerifyWork.{IsLawful, IsOfNone, IsSetOut, Judged, VerdictsAreOne, absent, bad, differs, judged, lawful, no_record, no_trace, record_of, refused, too_large, trace_of, unlawful}
 use Rattle.cy_commands.specs.Status.{status_of}
 use Rattle.cy_commands.specs.Work.{Work}
-use Rattle.cy_commands.proofs.OneList.{SameList, one_list}
+use Rattle.cy_commands.proofs.OneList.{SameList, one_listed}
 
 -- ---- the record that is judged
 
@@ -145,7 +144,7 @@ module _ (tell : TracesTellRuns) (texts : TextsTellTraces) (runs : RunsAreTraces
 
   one_judged : (list other : PlayList) (a b : Reads Refusal Work) → IsSetOut w read list → IsSetOut w read other → Judged w read list (Some m) a → Judged w read other (Some m) b → status_of a ≡ status_of b
   one_judged list other a b out also p q =
-      let same = one_list read.contents (choice_of w.request.filter read.wired) other list also.listed out.listed in
+      let same = one_listed read.contents w.request.filter read.wired other list also.listed out.listed in
       one_seen list (status_of a) (status_of b) out (seen list a out p) (seen_too list other same (status_of b) (seen other b also q))
 
 -- ---- all files

@@ -1,5 +1,5 @@
 -- A replay that was played, and what is told of it.
-use Rattle.std.proofs.Common.{ℕ, Bool, true, false, ◌≡◌, ◌≤◌, List, length, ap, subst, ◌∙◌, arith}
+use Rattle.std.proofs.Common.{ℕ, Bool, true, false, ◌≡◌, ◌≤◌, List, length, slice_get, ap, subst, sym, ◌∙◌, arith}
 use Rattle.cy_msg.specs.Placement.{scan_of}
 use Rattle.cy_request.specs.Request.{Request}
 use Rattle.wake_core.specs.Bounds.{PlaceLaws}
@@ -60,8 +60,8 @@ planned_as x w routes counts few =
 pub writable : (r : Request) (x : Replay) (w : Plain) → PlacesAreThere → PlaceLaws → IsSetUp r x → LawfulRun x.list.tokens (routes_of x.wiring.plans) x.stop w → length w.counts ≡ length x.wiring.names → IsWritable (source_by x) w.tape
 writable r x w places stand s lawful many = record {
   channels = λ n t at. let below = lawful.sound.consistent.room.channels n t at in omega (arith, below, many);
-  origins = lawful_origins stand x.recorded (choice_of r.filter (wired_by x.wiring)) x.list (routes_of x.wiring.plans) x.stop w s.listed lawful;
-  places = places x.recorded (choice_of r.filter (wired_by x.wiring)) x.list s.listed;
+  origins = lawful_origins stand x.list (routes_of x.wiring.plans) x.stop w lawful;
+  places = λ n place at. places x.recorded (choice_of r.filter (wired_by x.wiring)) s.listed.messages s.listed.chosen n place (ap (λ (ps : List ℕ). slice_get ps n) (sym s.listed.merged.places) ∙ at);
 }
 
 -- a lawful run from the opening world can be written, and its trace is read back

@@ -11,15 +11,13 @@ use Rattle.cy_msg.specs.Tuple.{messages_of}
 use Rattle.cy_fuse.specs.Fusion.{fused}
 use Rattle.cy_comp.specs.declared.call.Call.{Call}
 use Rattle.cy_comp.specs.Calls.{tuples_of, outs, output}
-use Rattle.cy_reader.specs.Record.{Contents}
-use Rattle.cy_reader.specs.Play.{Choice, IsPlayList}
 use Rattle.wake_core.specs.Bounds.{PlaceLaws}
 use Rattle.wake_core.specs.LawfulRun.{LawfulRun}
 use Rattle.wake_core.specs.Plain.{Plain}
 use Rattle.wake_core.specs.Run.{played_of, writes_from}
 use Rattle.wake_core.specs.declared.route.Route.{Route}
 use Rattle.wake_core.specs.Sound.{Sound, IsOutput, StandsOn}
-use Rattle.cy_recording.proofs.Origins.{GoodOut, GoodTuple, outcome-good, IsAmong, list_origins}
+use Rattle.cy_recording.proofs.Origins.{GoodOut, GoodTuple, outcome-good, IsAmong}
 use Rattle.cy_trace.proofs.OutSuits.{on_each, taken_at, Made, outs_count, outs_made, passing}
 
 -- a message that no component wrote is among those that were played
@@ -70,10 +68,10 @@ module _ (stand : PlaceLaws) (Q : Option ℕ → Type 0) (none : Q None) (w : Pl
   tape_good zero i t less on = absurd (omega (arith, less))
   tape_good (suc k) i t less on = token_good i t on (λ j m sooner at. tape_good k j m (omega (arith, sooner, less)) at)
 
-pub lawful_origins : PlaceLaws → (whole : Contents) (choice : Choice) (list : PlayList) (routes : List Route) (stop : Option Stop) (w : Plain) → IsPlayList whole choice list → LawfulRun list.tokens routes stop w
+pub lawful_origins : PlaceLaws → (list : PlayList) (routes : List Route) (stop : Option Stop) (w : Plain) → LawfulRun list.tokens routes stop w
     → (n o : ℕ) (t : Token) → slice_get w.tape n ≡ Some t → t.origin ≡ Some o → o < length list.places
-lawful_origins stand whole choice list routes stop w is lawful n o t at e =
+lawful_origins stand list routes stop w lawful n o t at e =
     let Q : Option ℕ → Type 0 = IsAmong (length list.places) in
     let played : (k : ℕ) (u : Token) → slice_get (played_of w.routes w.tape) k ≡ Some u → Q u.origin =
-    λ k u on. list_origins whole choice list is k u (ap (λ (ts : List Token). slice_get ts k) (sym lawful.exact) ∙ on) in
+    λ k u on p from. list.origins k p u (ap (λ (ts : List Token). slice_get ts k) (sym lawful.exact) ∙ on) from in
     tape_good stand Q (λ o e. absurd cc) w lawful.sound played (suc n) n t (omega arith) at o e

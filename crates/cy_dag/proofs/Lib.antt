@@ -7,6 +7,8 @@ pub mod Queues
 pub mod ReadFacts
 pub mod Repeats
 pub mod Tested
+pub mod TimerFacts
+pub mod TimersTested
 pub mod TriggerCycles
 pub mod TriggerSteps
 pub mod WireSteps

@@ -1,4 +1,4 @@
--- Each queue that is read keeps at least one message.
+-- Each queue that a component reads keeps at least one message.
 use Rattle.std.proofs.Common.{ℕ, zero, suc, ◌≡◌, ◌≤◌, List, map, slice_get, codes, Option, Some, None, sym, ap, ◌∙◌, arith}
 use Rattle.std.proofs.lemmas.Option.{slice_get-map}
 use Rattle.cy_text.specs.Fields.{Fields}
@@ -13,13 +13,10 @@ queue_least None = omega arith
 queue_least (Some zero) = omega arith
 queue_least (Some (suc n)) = omega arith
 
-queues_of : (ms : List Fields) → HaveQueues (map component_of ms)
+pub queues_of : (ms : List Fields) → HaveQueues (map component_of ms)
 queues_of ms i c at j r reads =
     let m = mapped_some component_of (slice_get ms i) c (sym (slice_get-map component_of ms i) ∙ at) in
     let rs = messages_under (codes "readers") (settings_of m.0) in
     let e : slice_get (map reader_of rs) j ≡ Some r = ap (λ (x : DagComponent). slice_get x.readers j) m.2 ∙ reads in
     let f = mapped_some reader_of (slice_get rs j) r (sym (slice_get-map reader_of rs j) ∙ e) in
     omega (arith, ap (λ (x : DagReader). x.queue) f.2, queue_least (u32_under (codes "pending_queue_size") f.0))
-
-pub queues_kept : (cs : List DagComponent) (ms : List Fields) → cs ≡ map component_of ms → HaveQueues cs
-queues_kept cs ms is = rw is (queues_of ms)

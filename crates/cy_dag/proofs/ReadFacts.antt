@@ -17,7 +17,7 @@ pub record Accepted (earlier : List DagComponent) (c : DagComponent) : Type 0 wh
   pub own_readers : first_repeated (map (λ r. r.channel) c.readers) ≡ None
   pub needed : needed_by c.class_name ≤ length c.readers
 
-refuse_none : (b : Bool) (e : DagError) → refuse_if b e ≡ None → b ≡ false
+pub refuse_none : (b : Bool) (e : DagError) → refuse_if b e ≡ None → b ≡ false
 refuse_none true e h = absurd (none-some e (sym h))
 refuse_none false e h = refl
 
@@ -25,7 +25,7 @@ pub unmapped : {A B : Type 0} (f : A → B) (o : Option A) → option_map f o �
 unmapped f None h = refl
 unmapped f (Some a) h = absurd (none-some (f a) (sym h))
 
-some_where : (n : ℕ) → (n == 0) ≡ false → 1 ≤ n
+pub some_where : (n : ℕ) → (n == 0) ≡ false → 1 ≤ n
 some_where zero h = absurd (false≢true (sym h))
 some_where (suc n) h = omega arith
 

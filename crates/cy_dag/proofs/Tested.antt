@@ -34,7 +34,7 @@ accepted_one found k m earlier lent after c there here is before same accepted p
     ∙ ap (λ (e : List DagComponent). refusal_behind e more) (sym pushed)
 
 -- One that is refused.
-due_first : (due later : Option DagError) (e : DagError) → IsDue due e → IsDue (option_or due later) e
+pub due_first : (due later : Option DagError) (e : DagError) → IsDue due e → IsDue (option_or due later) e
 due_first due later Memory is = tt
 due_first due later e is = ap (λ (o : Option DagError). option_or o later) is
 

@@ -3,8 +3,8 @@ use Rattle.std.proofs.Common.{ℕ, Bor, ◌≡◌, Option, None, Result, List, l
 use Rattle.std.specs.Prelude.{IfOk, IfErr}
 use Rattle.std.specs.List.{zip}
 use Rattle.cy_dag.specs.Refusals.{IsDue}
-use Rattle.cy_dag.specs.Triggers.{cycle_refusal, triggers_of, writers_refusal}
-use Rattle.cy_dag.specs.Wiring.{channels_refusal, named, names_of, wire_refusal}
+use Rattle.cy_dag.specs.Triggers.{cycle_refusal, triggers_of}
+use Rattle.cy_dag.specs.Wiring.{channels_refusal, named, names_of, outs_refusal, wire_refusal}
 use Rattle.cy_dag.specs.declared.config.Config.{Config}
 use Rattle.cy_dag.specs.declared.dag.DagComponent.{DagComponent}
 use Rattle.cy_dag.specs.declared.error.DagError.{DagError}
@@ -35,21 +35,29 @@ module _ (channels : List (List ℕ)) (cs : List DagComponent) (configs : List C
   abbrev count : ℕ
   count = length (names_of channels (zip cs configs))
 
-  pub writers_due : (e : DagError) → IsDue (writers_refusal configs) e → IsDue (wire_refusal channels cs configs) e
-  writers_due e due = first_due (writers_refusal configs) triggers (channels_refusal count) e due
+  abbrev outs : Option DagError
+  outs = outs_refusal cs configs
 
-  pub cycles_due : (lent : List DagComponent) (e : DagError) → writers_refusal configs ≡ None → lent ≡ cs → IsDue (cycle_refusal (triggers_of lent configs)) e → IsDue (wire_refusal channels cs configs) e
-  cycles_due lent e apart is due =
-      second_due (writers_refusal configs) triggers (channels_refusal count) e apart (subst (λ (x : List DagComponent). IsDue (cycle_refusal (triggers_of x configs)) e) is due)
+  module _ (lent : List DagComponent) (is : lent ≡ cs) where
+    pub outs_due : (e : DagError) → IsDue (outs_refusal lent configs) e → IsDue (wire_refusal channels cs configs) e
+    outs_due e due = first_due outs triggers (channels_refusal count) e (subst (λ (x : List DagComponent). IsDue (outs_refusal x configs) e) is due)
 
-  pub channels_due : (lent : List DagComponent) (e : DagError) → writers_refusal configs ≡ None → lent ≡ cs → cycle_refusal (triggers_of lent configs) ≡ None
-      → IsDue (channels_refusal (length (names_of channels (zip lent configs)))) e → IsDue (wire_refusal channels cs configs) e
-  channels_due lent e apart is none due =
-      third_due (writers_refusal configs) triggers (channels_refusal count) e apart (ap (λ (x : List DagComponent). cycle_refusal (triggers_of x configs)) (sym is) ∙ none)
-      (subst (λ (x : List DagComponent). IsDue (channels_refusal (length (names_of channels (zip x configs)))) e) is due)
+    module _ (apart : outs_refusal lent configs ≡ None) where
+      lawful : outs ≡ None
+      lawful = ap (λ (x : List DagComponent). outs_refusal x configs) (sym is) ∙ apart
 
-  pub wire_accepted : (lent : List DagComponent) (names : List (List ℕ)) → writers_refusal configs ≡ None → lent ≡ cs → cycle_refusal (triggers_of lent configs) ≡ None
-      → (channels_refusal (length names) ≡ None) × (names ≡ names_of channels (zip lent configs)) → wire_refusal channels cs configs ≡ None
-  wire_accepted lent names apart is none few =
-      none_due (writers_refusal configs) triggers (channels_refusal count) apart (ap (λ (x : List DagComponent). cycle_refusal (triggers_of x configs)) (sym is) ∙ none)
-      (ap (λ (x : List DagComponent). channels_refusal (length (names_of channels (zip x configs)))) (sym is) ∙ ap (λ (x : List (List ℕ)). channels_refusal (length x)) (sym few.1) ∙ few.0)
+      pub cycles_due : (e : DagError) → IsDue (cycle_refusal (triggers_of lent configs)) e → IsDue (wire_refusal channels cs configs) e
+      cycles_due e due = second_due outs triggers (channels_refusal count) e lawful (subst (λ (x : List DagComponent). IsDue (cycle_refusal (triggers_of x configs)) e) is due)
+
+      module _ (none : cycle_refusal (triggers_of lent configs) ≡ None) where
+        ends : triggers ≡ None
+        ends = ap (λ (x : List DagComponent). cycle_refusal (triggers_of x configs)) (sym is) ∙ none
+
+        pub channels_due : (e : DagError) → IsDue (channels_refusal (length (names_of channels (zip lent configs)))) e → IsDue (wire_refusal channels cs configs) e
+        channels_due e due =
+            third_due outs triggers (channels_refusal count) e lawful ends (subst (λ (x : List DagComponent). IsDue (channels_refusal (length (names_of channels (zip x configs)))) e) is due)
+
+        pub wire_accepted : (names : List (List ℕ)) → (channels_refusal (length names) ≡ None) × (names ≡ names_of channels (zip lent configs)) → wire_refusal channels cs configs ≡ None
+        wire_accepted names few =
+            none_due outs triggers (channels_refusal count) lawful ends
+            (ap (λ (x : List DagComponent). channels_refusal (length (names_of channels (zip x configs)))) (sym is) ∙ ap (λ (x : List (List ℕ)). channels_refusal (length x)) (sym few.1) ∙ few.0)

@@ -1,7 +1,7 @@
 -- Components over numbered channels are a wiring where none of the tests refuses them.
-use Rattle.std.proofs.Common.{ℕ, zero, suc, ◌≡◌, ◌+◌, ◌<◌, ◌≤◌, eqb, Bool, true, false, cond, List, [], ◌∷◌, length, map, take, slice_get, Option, Some, None, unwrap_or, option_map, option_and_then, refl, sym, ap, ◌∙◌, inl, inr, arith}
+use Rattle.std.proofs.Common.{ℕ, zero, suc, ◌≡◌, ◌+◌, ◌<◌, ◌≤◌, eqb, Bool, true, false, cond, List, [], ◌∷◌, length, map, take, slice_get, Option, Some, None, unwrap_or, option_map, option_and_then, is_some, codes, refl, sym, ap, ◌∙◌, inl, inr, arith}
 use Rattle.std.proofs.lemmas.Bool.{false≢true, cases_order, or_left, or_right, eq-eqb, ne_eqb}
-use Rattle.std.proofs.lemmas.List.{length-map}
+use Rattle.std.proofs.lemmas.List.{append_cancel_left, length-map}
 use Rattle.std.proofs.lemmas.List.Folds.{list_any-append, list_any_at}
 use Rattle.std.proofs.lemmas.Slice.Zip.{length-zip, seconds-zip}
 use Rattle.std.proofs.lemmas.Iterator.Adapters.{position_from-zero}
@@ -10,18 +10,18 @@ use Rattle.std.proofs.lemmas.Slice.Eq.{bytes_eq-Decides}
 use Rattle.std.specs.List.{list_any, flat_map, position_from, zip}
 use Rattle.std.specs.Str.{bytes_eq}
 use Rattle.cy_comp.specs.Kind.{is_kind_in_range, messages_needed}
-use Rattle.cy_comp.specs.Wiring.{IsWiring, trigger_after, trigger_of as triggered_by, writer_from, writer_of}
+use Rattle.cy_comp.specs.Wiring.{IsTimer, IsWiring, trigger_after, trigger_of as triggered_by, writer_from, writer_of}
 use Rattle.cy_comp.specs.declared.kind.Kind.{Kind}
 use Rattle.cy_comp.specs.declared.kind.Kind.TheVariants as kind
 use Rattle.cy_comp.specs.declared.plan.Plan.{Plan}
 use Rattle.cy_dag.specs.Classes.{class_of, readers_needed}
-use Rattle.cy_dag.specs.DagFile.{HaveQueues, components_refusal}
-use Rattle.cy_dag.specs.Triggers.{after, cycle_refusal, earlier_writer, trigger_in, trigger_of, triggers_of, writer_named, writers_at, writers_refusal}
-use Rattle.cy_dag.specs.Wiring.{AreConfigs, channels_of, mentions_of, names_of, number_in, plan_of, plans_of, queue_of_first}
+use Rattle.cy_dag.specs.DagFile.{HaveQueues, HaveTicks, IsTimer as IsTicked, components_refusal, tick_channel, tick_reader}
+use Rattle.cy_dag.specs.Triggers.{after, cycle_refusal, earlier_writer, ticks_at, ticks_on, ticks_refusal, timer_named, timer_written, trigger_in, trigger_of, triggers_of, writer_named, writers_at, writers_refusal}
+use Rattle.cy_dag.specs.Wiring.{AreConfigs, channels_of, mentions_of, names_of, number_in, outs_refusal, plan_of, plans_of, queue_of_first}
 use Rattle.cy_dag.specs.declared.config.Config.{Config}
 use Rattle.cy_dag.specs.declared.dag.DagComponent.{DagComponent}
 use Rattle.cy_dag.specs.declared.dag.DagReader.{DagReader}
-use Rattle.cy_dag.proofs.Found.{none_given}
+use Rattle.cy_dag.proofs.Found.{none_given, or_none}
 use Rattle.cy_dag.proofs.NameSteps.{behind_has, none_passes, number_has}
 use Rattle.cy_dag.proofs.PairSteps.{mapped_some, plan_at, zip_at, zip_none}
 use Rattle.cy_dag.proofs.ReadFacts.{each_accepted, once_each, take_at, unmapped}
@@ -72,6 +72,13 @@ writers_same : (names : List (List ℕ)) (name : List ℕ) (ps : List (DagCompon
 writers_same names name [] from has each = refl
 writers_same names name (p ∷ ps) from has each =
     rw (same_test names p.1.out name (each 0 p refl) has) (ap (cond (bytes_eq p.1.out name) (Some from)) (writers_same names name ps (from + 1) has (λ i. each (suc i))))
+
+-- What a DAG keeps of its components.
+pub record IsTested (cs : List DagComponent) : Type 0 where
+  pub few : length cs ≤ 64
+  pub tested : components_refusal cs ≡ None
+  pub queues : HaveQueues cs
+  pub ticks : HaveTicks cs
 
 module _ (record_channels : List (List ℕ)) (cs : List DagComponent) (configs : List Config) (fit : AreConfigs cs configs) where
   abbrev ps : List (DagComponent × Config)
@@ -246,11 +253,59 @@ module _ (record_channels : List (List ℕ)) (cs : List DagComponent) (configs :
   after_same (suc n) c =
       ap (option_and_then (trigger_after plans n)) (trigger_same c) ∙ follow n (trigger_in (triggers_of cs configs) c) (after_same n) ∙ sym (after_first (triggers_of cs configs) n c)
 
-  no_ticks : (i interval : ℕ) (a : Plan) → slice_get plans i ≡ Some a → a.interval ≡ Some interval → ⊥
-  no_ticks i interval a h ticks = none-some interval (ap (λ (x : Plan). x.interval) (at_place i a h).is ∙ ticks)
+  -- The ticks of a timer component stand on a channel of its own, which no component writes.
+  module _ (ticks : HaveTicks cs) where
+    timer_at : (i interval : ℕ) (a : Plan) (w : At i a) → a.interval ≡ Some interval → IsTicked w.pair.0 interval
+    timer_at i interval a w given = ticks i interval w.pair.0 w.component (ap (λ (x : Plan). x.interval) w.is ∙ given)
 
-  pub is_wiring : length cs ≤ 64 → components_refusal cs ≡ None → HaveQueues cs → writers_refusal configs ≡ None → cycle_refusal (triggers_of cs configs) ≡ None → IsWiring names plans
-  is_wiring few tested queues apart none = record {
+    module _ (unwritten : ticks_refusal cs configs ≡ None) where
+      ticks_apart : (i j interval : ℕ) (c : DagComponent) (config : Config) (k : ℕ) (r : DagReader) → slice_get cs i ≡ Some c → c.interval ≡ Some interval → slice_get c.readers k ≡ Some r
+          → slice_get configs j ≡ Some config → r.channel ≡ config.out → ⊥
+      unfolding ticks_refusal
+      ticks_apart i j interval c config k r here given reads there same =
+          let none = unmapped _ (timer_written cs configs j) (none_given (ticks_at cs configs) j (length configs) (slice_get_within configs j config there) unwritten) in
+          let unnamed : timer_named cs config.out ≡ None = sym (ap (option_and_then (λ (x : Config). timer_named cs x.out)) there) ∙ none in
+          let ticked : is_some c.interval ≡ true = ap is_some given in
+          let reading = any_get (λ (e : DagReader). bytes_eq e.channel config.out) c.readers k r reads ((bytes_eq-Decides r.channel config.out).1 same) in
+          none_passes (ticks_on config.out) cs i c unnamed here (rw (ticked, reading) refl)
+
+      is_timer : (i interval : ℕ) (a : Plan) → slice_get plans i ≡ Some a → a.interval ≡ Some interval → IsTimer plans a interval
+      is_timer i interval a h given =
+          let w = at_place i a h in
+          let t = timer_at i interval a w given in
+          record {
+            some = t.some;
+            reader = reader_count i a w ∙ ap (λ (rs : List DagReader). length rs) t.readers;
+            queue = sym (ap (λ (x : Plan). x.queue) w.is) ∙ ap queue_of_first t.readers;
+            unwritten = λ j r b at reads writes.
+                let v = at_place j b at in
+                let e = reader_at i a w 0 r reads in
+                let numbers : number_in names e.reader.channel ≡ number_in names v.pair.1.out = e.is ∙ sym writes ∙ sym (ap (λ (x : Plan). x.out) v.is) in
+                let same = same_number names e.reader.channel v.pair.1.out (reader_named i w.pair 0 e.reader w.here e.reads) (out_named j v.pair v.here) numbers in
+                ticks_apart i j interval w.pair.0 v.pair.1 0 e.reader w.component (ap (λ (x : Plan). x.interval) w.is ∙ given) e.reads v.config same;
+          }
+
+    -- The channel of a timer component's ticks is told by its name.
+    ticks_named : (c : DagComponent) (interval : ℕ) (r : DagReader) → IsTicked c interval → slice_get c.readers 0 ≡ Some r → r.channel ≡ tick_channel c.name
+    ticks_named c interval r is reads =
+        let same = same_Some (tick_reader c.name) r (ap (λ (rs : List DagReader). slice_get rs 0) (sym is.readers) ∙ reads) in
+        sym (ap (λ (x : DagReader). x.channel) same)
+
+    own_ticks : components_refusal cs ≡ None → (i j m n r : ℕ) (a b : Plan) → slice_get plans i ≡ Some a → slice_get plans j ≡ Some b → a.interval ≡ Some m → b.interval ≡ Some n
+        → slice_get a.readers 0 ≡ Some r → slice_get b.readers 0 ≡ Some r → i ≡ j
+    own_ticks tested i j m n r a b p q given other reads also =
+        let v = at_place i a p in
+        let w = at_place j b q in
+        let d = reader_at i a v 0 r reads in
+        let e = reader_at j b w 0 r also in
+        let same = same_number names d.reader.channel e.reader.channel (reader_named i v.pair 0 d.reader v.here d.reads) (reader_named j w.pair 0 e.reader w.here e.reads) (d.is ∙ sym e.is) in
+        let channels : tick_channel v.pair.0.name ≡ tick_channel w.pair.0.name =
+        sym (ticks_named v.pair.0 m d.reader (timer_at i m a v given) d.reads) ∙ same ∙ ticks_named w.pair.0 n e.reader (timer_at j n b w other) e.reads in
+        let named = append_cancel_left (codes "@timer/") v.pair.0.name w.pair.0.name channels in
+        own_names tested i j a b p q (sym (ap (λ (x : Plan). x.name) v.is) ∙ named ∙ ap (λ (x : Plan). x.name) w.is)
+
+  all_wired : length cs ≤ 64 → components_refusal cs ≡ None → HaveQueues cs → HaveTicks cs → writers_refusal configs ≡ None → ticks_refusal cs configs ≡ None → cycle_refusal (triggers_of cs configs) ≡ None → IsWiring names plans
+  all_wired few tested queues ticks apart unwritten none = record {
     few = omega (arith, length-map ps (plan_of names), length-zip cs configs);
     own_names = own_names tested;
     in_range = λ i a h.
@@ -275,14 +330,21 @@ module _ (record_channels : List (List ℕ)) (cs : List DagComponent) (configs :
         let w = at_place i a h in
         omega (arith, ap (λ (x : Plan). x.queue) w.is, queue_some w.pair.0.readers (queues i w.pair.0 w.component));
     own_outs = own_outs apart;
-    timers = λ i interval a h ticks. absurd (no_ticks i interval a h ticks);
-    own_ticks = λ i j m n r a b h k ticks other p q. absurd (no_ticks i m a h ticks);
+    timers = is_timer ticks unwritten;
+    own_ticks = own_ticks ticks tested;
     no_cycle = λ n c h. no_cycle (triggers_of cs configs) none n c (sym (after_same (suc n) c) ∙ h);
   }
 
+  pub is_wiring : IsTested cs → outs_refusal cs configs ≡ None → cycle_refusal (triggers_of cs configs) ≡ None → IsWiring names plans
+  is_wiring is apart none =
+      let outs = or_none (writers_refusal configs) _ apart in
+      let ticked = or_none (ticks_refusal cs configs) _ outs.1 in
+      all_wired is.few is.tested is.queues is.ticks outs.0 ticked.0 none
+
 -- The same of what the parts of the code have made.
 pub made_wiring : (record_channels : List (List ℕ)) (cs lent : List DagComponent) (configs : List Config) (names : List (List ℕ)) (plans : List Plan) → lent ≡ cs → AreConfigs cs configs
-    → length cs ≤ 64 → components_refusal cs ≡ None → HaveQueues cs → writers_refusal configs ≡ None → cycle_refusal (triggers_of lent configs) ≡ None
+    → IsTested cs → outs_refusal lent configs ≡ None → cycle_refusal (triggers_of lent configs) ≡ None
     → names ≡ names_of record_channels (zip lent configs) → plans ≡ plans_of names (zip lent configs) → IsWiring names plans
-made_wiring record_channels cs lent configs names plans same fit few tested queues apart none named planned =
-    rw (planned, named, same) (is_wiring record_channels cs configs fit few tested queues apart (ap (λ (x : List DagComponent). cycle_refusal (triggers_of x configs)) (sym same) ∙ none))
+made_wiring record_channels cs lent configs names plans same fit tested apart none named planned =
+    rw (planned, named, same) (is_wiring record_channels cs configs fit tested (ap (λ (x : List DagComponent). outs_refusal x configs) (sym same) ∙ apart)
+    (ap (λ (x : List DagComponent). cycle_refusal (triggers_of x configs)) (sym same) ∙ none))

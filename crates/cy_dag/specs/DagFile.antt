@@ -1,5 +1,5 @@
 -- What a DAG file says, and the first cause for which it is refused.
-use Rattle.std.specs.Prelude.{ℕ, zero, suc, ◌≡◌, ◌≤◌, ◌==◌, nat_lt, min, ◌&&◌, Bool, List, []}
+use Rattle.std.specs.Prelude.{ℕ, zero, suc, ◌+◌, ◌≡◌, ◌≤◌, ◌==◌, nat_lt, min, Bool, List, []}
 use Rattle.std.specs.Prelude.{◌∷◌, ◌++◌, map, slice_get, length, codes, Option, Some, None, is_none}
 use Rattle.std.specs.Prelude.{if◌then◌else◌, unwrap_or}
 use Rattle.std.specs.Prelude.{option_map}
@@ -16,10 +16,10 @@ use Rattle.cy_dag.specs.declared.format.DagMessage.TheVariants.{File}
 use Rattle.cy_dag.specs.declared.dag.DagReader.{DagReader}
 use Rattle.cy_dag.specs.declared.dag.DagComponent.{DagComponent}
 use Rattle.cy_dag.specs.declared.error.DagError.{DagError}
-use Rattle.cy_dag.specs.declared.error.DagError.TheVariants.{Shape, NoComponents, Timers, TooMany}
+use Rattle.cy_dag.specs.declared.error.DagError.TheVariants.{Shape, NoComponents, TooMany}
 use Rattle.cy_dag.specs.declared.error.DagError.TheVariants.{Missing, NameTwice, UnknownClass}
 use Rattle.cy_dag.specs.declared.error.DagError.TheVariants.{NoReader, TooManyReaders, ReaderTwice}
-use Rattle.cy_dag.specs.declared.error.DagError.TheVariants.{TooFewReaders}
+use Rattle.cy_dag.specs.declared.error.DagError.TheVariants.{TooFewReaders, ZeroInterval}
 
 -- The messages under a name in all modules of a file.
 abbrev pub in_modules : List ℕ → Fields → List Fields
@@ -51,17 +51,37 @@ component_of fields = record {
   name = text_in (codes "name") (settings_of fields);
   config_file_path = text_in (codes "config_file_path") (settings_of fields);
   readers = map reader_of (messages_under (codes "readers") (settings_of fields));
+  interval = None;
 }
 
--- The components of a file, and how many components and timer components it has.
+-- The channel on which the ticks of a timer component stand, by its name, and how it reads them.
+abbrev pub tick_channel : List ℕ → List ℕ
+tick_channel name = codes "@timer/" ++ name
+
+abbrev pub tick_reader : List ℕ → DagReader
+tick_reader name = record { channel = tick_channel name; queue = 1 }
+
+-- The interval that a message gives a timer component, and the timer component that it describes.
+abbrev pub interval_of : Fields → Option ℕ
+interval_of timer = u32_under (codes "interval") (settings_of timer)
+
+abbrev pub timer_of : Fields → DagComponent
+timer_of fields = record {
+  class_name = text_in (codes "class_name") fields;
+  name = text_in (codes "name") (settings_of fields);
+  config_file_path = text_in (codes "config_file_path") (settings_of fields);
+  readers = tick_reader (text_in (codes "name") (settings_of fields)) ∷ [];
+  interval = Some (unwrap_or (interval_of fields) 0);
+}
+
+-- What messages describe: first components, and behind them timer components.
+abbrev pub described : (components timers : List Fields) → List DagComponent
+described components timers = map component_of components ++ map timer_of timers
+
+-- All components of a file.
 abbrev pub components_of : Fields → List DagComponent
-components_of file = map component_of (in_modules (codes "components") file)
-
-abbrev pub component_count : Fields → ℕ
-component_count file = length (in_modules (codes "components") file)
-
-abbrev pub timer_count : Fields → ℕ
-timer_count file = length (in_modules (codes "timer_components") file)
+components_of file =
+    described (in_modules (codes "components") file) (in_modules (codes "timer_components") file)
 
 -- A count as a u32.
 abbrev pub count_of : ℕ → ℕ
@@ -118,27 +138,49 @@ refusal_behind earlier (c ∷ cs) =
 abbrev pub components_refusal : List DagComponent → Option DagError
 components_refusal cs = refusal_behind [] cs
 
--- Why a file with so many components and timer components is refused.
-abbrev pub counts_refusal : ℕ → ℕ → Option DagError
-counts_refusal components timers = first_of (
-    refuse_if ((components == 0) && (timers == 0)) NoComponents
-    ∷ refuse_if (nat_lt 0 timers) (Timers (count_of timers))
-    ∷ refuse_if (nat_lt 64 components) (TooMany (count_of components))
+-- Why the interval of a timer component with some number is refused.
+abbrev pub interval_refusal : ℕ → Option ℕ → Option DagError
+interval_refusal number None = Some (Missing number (codes "interval"))
+interval_refusal number (Some interval) = refuse_if (interval == 0) (ZeroInterval number)
+
+-- The first cause for which a timer component is refused that a message describes, behind the
+-- components before it: it is tested as one that reads its ticks, and then its interval is.
+abbrev pub timer_refusal : List DagComponent → Fields → Option DagError
+timer_refusal earlier fields = first_of (
+    component_refusal earlier (timer_of fields)
+    ∷ interval_refusal (length earlier) (interval_of fields)
+    ∷ [])
+
+abbrev pub timers_refusal : List DagComponent → List Fields → Option DagError
+timers_refusal earlier [] = None
+timers_refusal earlier (fields ∷ rest) =
+    option_or (timer_refusal earlier fields) (timers_refusal (earlier ++ timer_of fields ∷ []) rest)
+
+-- Why so many components, timer components among them, are refused.
+abbrev pub count_refusal : ℕ → Option DagError
+count_refusal count = first_of (
+    refuse_if (count == 0) NoComponents
+    ∷ refuse_if (nat_lt 64 count) (TooMany (count_of count))
+    ∷ [])
+
+-- The first cause for which messages are refused that describe components and timer components.
+abbrev pub described_refusal : (components timers : List Fields) → Option DagError
+described_refusal components timers = first_of (
+    count_refusal (length components + length timers)
+    ∷ components_refusal (map component_of components)
+    ∷ timers_refusal (map component_of components) timers
     ∷ [])
 
 -- The first cause for which a file is refused whose fields are of their kinds.
 abbrev pub fields_refusal : Fields → Option DagError
-fields_refusal file = first_of (
-    counts_refusal (component_count file) (timer_count file)
-    ∷ components_refusal (components_of file)
-    ∷ [])
+fields_refusal file = described_refusal (in_modules (codes "components") file)
+    (in_modules (codes "timer_components") file)
 
 -- The first cause for which a file is refused.
 abbrev pub dag_refusal : Fields → Option DagError
 dag_refusal file = first_of (
     option_map (λ path. Shape path) (first_misfit dag_field File [] file)
-    ∷ counts_refusal (component_count file) (timer_count file)
-    ∷ components_refusal (components_of file)
+    ∷ fields_refusal file
     ∷ [])
 
 -- The paths of the fields that a DAG doesn't have.
@@ -149,3 +191,13 @@ unknown_in_dag file = unknown_paths dag_field File [] file
 abbrev pub HaveQueues : List DagComponent → Type 0
 HaveQueues components = (i : ℕ) (c : DagComponent) → slice_get components i ≡ Some c → (j : ℕ)
     (r : DagReader) → slice_get c.readers j ≡ Some r → 1 ≤ r.queue
+
+-- A component with an interval is a timer component: its interval isn't 0, and it reads the channel
+-- of its ticks alone.
+pub record IsTimer (c : DagComponent) (interval : ℕ) : Type 0 where
+  pub some : 1 ≤ interval
+  pub readers : c.readers ≡ tick_reader c.name ∷ []
+
+abbrev pub HaveTicks : List DagComponent → Type 0
+HaveTicks components = (i interval : ℕ) (c : DagComponent) → slice_get components i ≡ Some c
+    → c.interval ≡ Some interval → IsTimer c interval

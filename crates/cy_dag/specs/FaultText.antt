@@ -8,7 +8,6 @@ use Rattle.cy_dag.specs.declared.error.DagError.TheVariants as dag
 abbrev pub dag_text : DagError → List ℕ
 dag_text (dag.Shape path) = named_text (codes "Shape") [] path
 dag_text dag.NoComponents = codes "NoComponents"
-dag_text (dag.Timers count) = numbers_text (codes "Timers") (count ∷ [])
 dag_text (dag.TooMany count) = limit_text (codes "TooMany") count
 dag_text (dag.Missing component field) = named_text (codes "Missing") (component ∷ []) field
 dag_text (dag.NameTwice first second) = numbers_text (codes "NameTwice") (first ∷ second ∷ [])
@@ -22,7 +21,10 @@ dag_text (dag.TooFewReaders component count) =
     numbers_text (codes "TooFewReaders") (component ∷ count ∷ [])
 dag_text (dag.NotOverflow component) = numbers_text (codes "NotOverflow") (component ∷ [])
 dag_text (dag.NotWhole component field) = named_text (codes "NotWhole") (component ∷ []) field
+dag_text (dag.ZeroInterval component) = numbers_text (codes "ZeroInterval") (component ∷ [])
 dag_text (dag.TwoWriters first second) = numbers_text (codes "TwoWriters") (first ∷ second ∷ [])
+dag_text (dag.TimerWritten component timer) =
+    numbers_text (codes "TimerWritten") (component ∷ timer ∷ [])
 dag_text (dag.TriggerCycle components) = numbers_text (codes "TriggerCycle") components
 dag_text (dag.TooManyChannels count) = limit_text (codes "TooManyChannels") count
 dag_text dag.Memory = codes "out of memory"

@@ -1,14 +1,15 @@
--- Which component triggers which, and where following triggers comes back.
+-- Who writes which channel, which component triggers which, and where following triggers comes
+-- back.
 use Rattle.std.specs.Prelude.{ℕ, zero, suc, ◌==◌, Bool, false, if◌then◌else◌, List, [], ◌∷◌, ◌++◌}
 use Rattle.std.specs.Prelude.{length, map, take, slice_get, Option, Some, None, unwrap_or}
-use Rattle.std.specs.Prelude.{option_map, option_and_then}
-use Rattle.std.specs.List.{position}
+use Rattle.std.specs.Prelude.{option_map, option_and_then, is_some, ◌&&◌}
+use Rattle.std.specs.List.{list_any, position}
 use Rattle.std.specs.Option.{option_or}
 use Rattle.std.specs.Str.{bytes_eq}
 use Rattle.cy_dag.specs.declared.config.Config.{Config}
 use Rattle.cy_dag.specs.declared.dag.DagComponent.{DagComponent}
 use Rattle.cy_dag.specs.declared.error.DagError.{DagError}
-use Rattle.cy_dag.specs.declared.error.DagError.TheVariants.{TwoWriters, TriggerCycle}
+use Rattle.cy_dag.specs.declared.error.DagError.TheVariants.{TwoWriters, TimerWritten, TriggerCycle}
 
 -- What is given for the least number below a bound for which something is given.
 abbrev pub first_found : {A : Type 0} → (ℕ → Option A) → ℕ → Option A
@@ -31,6 +32,26 @@ writers_at configs c = option_map (λ first. TwoWriters first c) (earlier_writer
 
 unfoldable pub writers_refusal : List Config → Option DagError
 writers_refusal configs = first_found (writers_at configs) (length configs)
+
+-- Whether ticks of a component stand on a channel, and the first of some components of which they do.
+abbrev pub ticks_on : List ℕ → DagComponent → Bool
+ticks_on channel c = is_some c.interval && list_any (λ r. bytes_eq r.channel channel) c.readers
+
+abbrev pub timer_named : List DagComponent → List ℕ → Option ℕ
+timer_named components channel = position (ticks_on channel) components
+
+-- The timer component whose ticks stand on the channel that a component writes.
+abbrev pub timer_written : List DagComponent → List Config → ℕ → Option ℕ
+timer_written components configs c =
+    option_and_then (λ config. timer_named components config.out) (slice_get configs c)
+
+-- A component writes the channel of ticks: the least that does so, and the timer component.
+abbrev pub ticks_at : List DagComponent → List Config → ℕ → Option DagError
+ticks_at components configs c =
+    option_map (λ timer. TimerWritten c timer) (timer_written components configs c)
+
+unfoldable pub ticks_refusal : List DagComponent → List Config → Option DagError
+ticks_refusal components configs = first_found (ticks_at components configs) (length configs)
 
 -- The trigger of a component: the one that writes its first reader's channel.
 abbrev pub trigger_of : List Config → DagComponent → Option ℕ

@@ -1,7 +1,7 @@
 -- The wiring that a DAG and its component files describe, and the first cause for which there is
 -- none.
 use Rattle.std.specs.Prelude.{ℕ, ◌≡◌, nat_lt, if◌then◌else◌, true, List, [], ◌∷◌, ◌++◌}
-use Rattle.std.specs.Prelude.{length, map, slice_get, Option, Some, None, unwrap_or}
+use Rattle.std.specs.Prelude.{length, map, slice_get, Option, Some, unwrap_or}
 use Rattle.std.specs.Prelude.{option_map}
 use Rattle.std.specs.List.{list_any, flat_map, position, zip}
 use Rattle.std.specs.Str.{bytes_eq}
@@ -12,7 +12,7 @@ use Rattle.cy_comp.specs.declared.wiring.Wiring.{Wiring}
 use Rattle.cy_config.specs.Refusals.{first_of}
 use Rattle.cy_dag.specs.Classes.{class_named, class_of}
 use Rattle.cy_dag.specs.DagFile.{count_of, refuse_if}
-use Rattle.cy_dag.specs.Triggers.{writers_refusal, triggers_of, cycle_refusal}
+use Rattle.cy_dag.specs.Triggers.{writers_refusal, ticks_refusal, triggers_of, cycle_refusal}
 use Rattle.cy_dag.specs.declared.class.Class.{Class}
 use Rattle.cy_dag.specs.declared.config.Config.{Config}
 use Rattle.cy_dag.specs.declared.dag.DagComponent.{DagComponent}
@@ -78,7 +78,7 @@ plan_of names p = record {
   overflow = p.1.overflow;
   out = number_in names p.1.out;
   out_type = p.1.out_type;
-  interval = None;
+  interval = p.0.interval;
 }
 
 abbrev pub plans_of : List (List ℕ) → List (DagComponent × Config) → List Plan
@@ -88,10 +88,15 @@ plans_of names components = map (plan_of names) components
 abbrev pub channels_refusal : ℕ → Option DagError
 channels_refusal count = refuse_if (nat_lt 1024 count) (TooManyChannels (count_of count))
 
+-- Why what components write is refused: it is what another one writes, or a channel of ticks.
+abbrev pub outs_refusal : List DagComponent → List Config → Option DagError
+outs_refusal components configs =
+    first_of (writers_refusal configs ∷ ticks_refusal components configs ∷ [])
+
 -- The first cause for which components can't be wired over the channels of a record.
 abbrev pub wire_refusal : List (List ℕ) → List DagComponent → List Config → Option DagError
 wire_refusal record_channels components configs = first_of (
-    writers_refusal configs
+    outs_refusal components configs
     ∷ cycle_refusal (triggers_of components configs)
     ∷ channels_refusal (length (names_of record_channels (zip components configs)))
     ∷ [])

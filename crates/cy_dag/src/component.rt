@@ -40,11 +40,12 @@ fn component_with(alloc: Global, fields: &Tree, settings: &Tree) -> Result<DagCo
         name: text(alloc, settings, "name")?,
         config_file_path: text(alloc, settings, "config_file_path")?,
         readers: Items::new(readers(alloc, settings)?),
+        interval: None,
     })
 }
 
 // The `config` of a component, or an empty one in its place.
-fn settings<'a>(component: &'a Tree, none: &'a Tree) -> &'a Tree
+pub(crate) fn settings<'a>(component: &'a Tree, none: &'a Tree) -> &'a Tree
     requires { none.now ≡ Nothing }
     ensures { result.now ≡ settings_of component.now }
 {
@@ -212,7 +213,7 @@ fn repeated_channel(readers: &[DagReader]) -> Option<&str>
 }
 
 // Whether one of some readers reads a channel.
-fn reads(readers: &[DagReader], channel: &str) -> bool
+pub(crate) fn reads(readers: &[DagReader], channel: &str) -> bool
     ensures { result ≡ list_any (λ r. bytes_eq r.channel channel.now) readers.now }
 {
     readers.iter().any(|r| r.channel.as_str() == channel)

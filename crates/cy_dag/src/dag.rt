@@ -1,6 +1,6 @@
 // What a DAG file says.
 ghost use Rattle.std.specs.Prelude.{◌≡◌, ◌≤◌, length, None};
-ghost use Rattle.cy_dag.specs.DagFile.{components_refusal, HaveQueues};
+ghost use Rattle.cy_dag.specs.DagFile.{components_refusal, HaveQueues, HaveTicks};
 
 use cy_msg::{Items, Text};
 
@@ -30,12 +30,15 @@ pub struct DagComponent {
     pub config_file_path: Text,
     /// What it reads, in order. A message of the first one triggers a call.
     pub readers: Items<DagReader>,
+    /// Each how many milliseconds a tick comes to the one channel that a timer component reads; none
+    /// where it is no timer component.
+    pub interval: Option<u32>,
 }
 
 /// The components of a DAG file, of which no test refuses one.
 #[derive(Drop)]
 pub struct Dag {
-    /// The components, in the order of the file.
+    /// The components and behind them the timer components, each in the order of the file.
     pub components: Items<DagComponent>,
     /// The paths of the fields that are not known, in the order of the file.
     pub unknown: Items<Text>,
@@ -48,4 +51,6 @@ pub struct Dag {
     pub ghost tested: { components_refusal components ≡ None },
     /// Each reader's queue keeps at least one message.
     pub ghost queues: { HaveQueues components },
+    /// A timer component's interval isn't 0, and it reads the channel of its ticks alone.
+    pub ghost ticks: { HaveTicks components },
 }

@@ -20,14 +20,9 @@ pub enum DagError {
         /// The field, as `module_config[0].components[1].config.name`.
         path: Text,
     },
-    /// There is no component.
+    /// There is neither a component nor a timer component.
     NoComponents,
-    /// There are timer components.
-    Timers {
-        /// How many.
-        count: u32,
-    },
-    /// There are more than 64 components.
+    /// There are more than 64 components, timer components among them.
     TooMany {
         /// How many.
         count: u32,
@@ -89,12 +84,24 @@ pub enum DagError {
         /// The parameter's name.
         field: Text,
     },
+    /// A timer component's interval is 0.
+    ZeroInterval {
+        /// The component.
+        component: u32,
+    },
     /// Two components write one channel.
     TwoWriters {
         /// The first that writes it.
         first: u32,
         /// The least one that writes a channel of an earlier one.
         second: u32,
+    },
+    /// A component writes the channel of a timer component's ticks.
+    TimerWritten {
+        /// The least component that writes such a channel.
+        component: u32,
+        /// The timer component.
+        timer: u32,
     },
     /// Components trigger one another in a circle.
     TriggerCycle {
@@ -118,7 +125,6 @@ impl DagError {
         match self {
             Self::Shape { path } => push_named(to, "Shape", &[], path),
             Self::NoComponents => to.extend_from_slice(b"NoComponents"),
-            Self::Timers { count } => push_one(to, "Timers", *count),
             Self::TooMany { count } => push_limit(to, "TooMany", u64::from(*count)),
             Self::Missing { component, field } => push_of(to, "Missing", *component, field),
             Self::NameTwice { first, second } => push_two(to, "NameTwice", *first, *second),
@@ -135,7 +141,11 @@ impl DagError {
             }
             Self::NotOverflow { component } => push_one(to, "NotOverflow", *component),
             Self::NotWhole { component, field } => push_of(to, "NotWhole", *component, field),
+            Self::ZeroInterval { component } => push_one(to, "ZeroInterval", *component),
             Self::TwoWriters { first, second } => push_two(to, "TwoWriters", *first, *second),
+            Self::TimerWritten { component, timer } => {
+                push_two(to, "TimerWritten", *component, *timer)
+            }
             Self::TriggerCycle { components } => {
                 push_numbers(to, "TriggerCycle", components.as_slice())
             }

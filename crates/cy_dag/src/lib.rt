@@ -1,5 +1,5 @@
-//! DAG files and component files: which components a run has, what they read and write, and of
-//! which class they are.
+//! DAG files and component files: which components and timer components a run has, what they read
+//! and write, and of which class they are.
 //!
 //! `specs/Format` has the fields of both files, `specs/DagFile` what a DAG file says and the first
 //! cause for which it is refused, `specs/ConfigFile` the same of a component file,
@@ -18,6 +18,7 @@ mod error;
 mod format;
 mod plan;
 mod read;
+mod timer;
 mod triggers;
 mod wiring;
 

@@ -48,7 +48,7 @@ fn plan(
         overflow: config.overflow,
         out: number_in(names, config.out.as_str()),
         out_type: Text::new(alloc, config.out_type.as_str())?,
-        interval: None,
+        interval: component.interval,
     })
 }
 

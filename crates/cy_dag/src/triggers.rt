@@ -4,14 +4,28 @@ ghost use Rattle.std.specs.Prelude.{OnOk, IfSome, option_and_then};
 ghost use Rattle.cy_dag.specs.Refusals.{IsDue};
 ghost use Rattle.cy_dag.specs.Triggers.{after, cycle_refusal, earlier_writer, is_at, met};
 ghost use Rattle.cy_dag.specs.Triggers.{trigger_in, trigger_of, triggers_of, way_back};
+ghost use Rattle.cy_dag.specs.Triggers.{ticks_on, ticks_refusal, timer_named, timer_written};
 ghost use Rattle.cy_dag.specs.Triggers.{writer_named, writers_refusal};
+ghost use Rattle.cy_dag.specs.Wiring.{outs_refusal};
 
+use crate::component::reads;
 use crate::{Config, Cycle, DagComponent, DagError};
 use std::alloc::{AllocError, Global};
 
+// Whether each component writes a channel of its own, and none the channel of ticks.
+pub(crate) fn test_outs(components: &[DagComponent], configs: &[Config]) -> Result<(), DagError>
+    requires components { length components.now ≤ 64 }
+    requires configs { length configs.now ≤ 64 }
+    ensures accepted { OnOk result (outs_refusal components.now configs.now ≡ None) }
+    ensures refused { IfErr result (IsDue (outs_refusal components.now configs.now)) }
+{
+    test_writers(configs)?;
+    test_ticks(components, configs)
+}
+
 // Whether each component writes a channel of its own.
 #[tactic(auto, unfolding(crate::specs::Triggers::writers_refusal))]
-pub(crate) fn test_writers(configs: &[Config]) -> Result<(), DagError>
+fn test_writers(configs: &[Config]) -> Result<(), DagError>
     requires { length configs.now ≤ 64 }
     ensures accepted { OnOk result (writers_refusal configs.now ≡ None) }
     ensures refused { IfErr result (IsDue (writers_refusal configs.now)) }
@@ -40,6 +54,47 @@ fn writer_named(configs: &[Config], channel: &str) -> Option<usize>
     ensures { result ≡ writer_named configs.now channel.now }
 {
     configs.iter().position(|c| c.out.as_str() == channel)
+}
+
+// Whether no component writes the channel of a timer component's ticks.
+#[tactic(auto, unfolding(crate::specs::Triggers::ticks_refusal))]
+fn test_ticks(components: &[DagComponent], configs: &[Config]) -> Result<(), DagError>
+    requires components { length components.now ≤ 64 }
+    requires configs { length configs.now ≤ 64 }
+    ensures accepted { OnOk result (ticks_refusal components.now configs.now ≡ None) }
+    ensures refused { IfErr result (IsDue (ticks_refusal components.now configs.now)) }
+{
+    for component in 0..configs.len() {
+        if let Some(timer) = timer_written(components, configs, component) {
+            return Err(DagError::TimerWritten {
+                component: component as u32,
+                timer: timer as u32,
+            });
+        }
+    }
+    Ok(())
+}
+
+// The timer component whose ticks stand on the channel that a component writes.
+fn timer_written(components: &[DagComponent], configs: &[Config], component: usize) -> Option<usize>
+    requires { component < length configs.now }
+    ensures { result ≡ timer_written components.now configs.now component }
+{
+    timer_named(components, configs[component].out.as_str())
+}
+
+// The first timer component whose ticks stand on a channel.
+fn timer_named(components: &[DagComponent], channel: &str) -> Option<usize>
+    ensures { result ≡ timer_named components.now channel.now }
+{
+    components.iter().position(|c| ticks_on(c, channel))
+}
+
+// Whether the ticks of a timer component stand on a channel.
+fn ticks_on(component: &DagComponent, channel: &str) -> bool
+    ensures { result ≡ ticks_on channel.now component.now }
+{
+    component.interval.is_some() && reads(component.readers.as_slice(), channel)
 }
 
 // Whether no components trigger one another in a circle.

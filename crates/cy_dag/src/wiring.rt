@@ -9,7 +9,7 @@ ghost use Rattle.cy_msg.specs.Once.{IsOnce};
 use crate::channels::{count_different, mentions, names};
 use crate::plan::plans;
 use crate::read::count_of;
-use crate::triggers::{test_cycles, test_writers};
+use crate::triggers::{test_cycles, test_outs};
 use crate::{Config, Dag, DagComponent, DagError};
 use cy_comp::Wiring;
 use cy_msg::{Items, MOST_NAMES, Names, Text};
@@ -18,8 +18,8 @@ use std::alloc::Global;
 /// The wiring of a DAG's components, with the file of each, over the channels of a record. The
 /// channels are numbered in the order in which they are first mentioned: those of the record, and
 /// then of each component those that it reads and the one that it writes. Its errors are tested in
-/// an order: `TwoWriters`, `TriggerCycle` and `TooManyChannels`, and the first one that is due is
-/// answered.
+/// an order: `TwoWriters`, `TimerWritten`, `TriggerCycle` and `TooManyChannels`, and the first one
+/// that is due is answered.
 pub fn wire(
     alloc: Global,
     dag: &Dag,
@@ -34,7 +34,7 @@ pub fn wire(
         (IsDue (wire_refusal record_channels.now dag.now.components configs.now)) }
 {
     let components = dag.components.as_slice();
-    test_writers(configs)?;
+    test_outs(components, configs)?;
     test_cycles(alloc, components, configs)?;
     let names = channel_names(alloc, record_channels, components, configs)?;
     match plans(alloc, &names, components, configs) {

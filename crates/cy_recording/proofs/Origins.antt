@@ -1,10 +1,9 @@
--- Where the messages of a play list come from, and what a call passes on of that.
-use Rattle.std.proofs.Common.{ℕ, zero, suc, ◌+◌, ◌≡◌, ◌≤◌, ◌<◌, List, [], ◌∷◌, ◌++◌, length, slice_get, Option, Some, None, sym, subst, arith, length-append}
+-- What a call passes on of where messages come from.
+use Rattle.std.proofs.Common.{ℕ, zero, suc, ◌≡◌, ◌<◌, List, [], ◌∷◌, ◌++◌, slice_get, Option, Some, None, subst}
 use Rattle.std.proofs.lemmas.Option.{none-some}
 use Rattle.cy_msg.specs.declared.token.Token.{Token}
 use Rattle.cy_msg.specs.declared.token.Tuple.{Tuple}
 use Rattle.cy_msg.specs.declared.token.Tuple.TheVariants.{One, Two, Three, Four}
-use Rattle.cy_msg.specs.declared.play_list.PlayList.{PlayList}
 use Rattle.cy_msg.specs.Tuple.{messages_of}
 use Rattle.cy_comp.specs.declared.call.Out.{Out}
 use Rattle.cy_comp.specs.declared.call.Outcome.{Outcome}
@@ -12,8 +11,6 @@ use Rattle.cy_comp.specs.declared.kind.Kind.{Kind}
 use Rattle.cy_comp.specs.Step.{out_of, outcome_after}
 use Rattle.cy_comp.specs.Laws.{IsOf, IsAnswer, no_output, passes_on, makes_value, holds_back, ends_with}
 use Rattle.cy_comp.proofs.Answering.{outcome_answers}
-use Rattle.cy_reader.specs.Record.{Contents}
-use Rattle.cy_reader.specs.Play.{Choice, IsPlayList, tokens_behind, number_at}
 
 -- P of each
 abbrev pub Each : {X : Type 0} → (X → Type 0) → List X → Type 0
@@ -61,17 +58,3 @@ module _ (Q : Option ℕ → Type 0) (none : Q None) where
 -- an origin is one of so many places
 abbrev pub IsAmong : ℕ → Option ℕ → Type 0
 IsAmong n origin = (o : ℕ) → origin ≡ Some o → o < n
-
-behind-good : (number : ℕ → ℕ) (whole : Contents) (n : ℕ) (before places : List ℕ) → length before + length places ≤ n → Each (λ (t : Token). IsAmong n t.origin) (tokens_behind number whole before places)
-behind-good number whole n before [] few = tt
-behind-good number whole n before (place ∷ rest) few =
-    let long = length-append before (place ∷ []) in (
-      λ o e. let same : length before ≡ o = cc in omega (arith, few, same),
-      behind-good number whole n (before ++ place ∷ []) rest (omega (arith, few, long)),
-    )
-
--- the messages of a play list come from its places
-pub list_origins : (whole : Contents) (choice : Choice) (list : PlayList) → IsPlayList whole choice list → (n : ℕ) (t : Token) → slice_get list.tokens n ≡ Some t → IsAmong (length list.places) t.origin
-list_origins whole choice list is n t at =
-    each-at (λ (u : Token). IsAmong (length list.places) u.origin) list.tokens n t
-    (subst (Each (λ (u : Token). IsAmong (length list.places) u.origin)) (sym is.tokens) (behind-good (number_at whole choice) whole (length list.places) [] list.places (omega arith))) at

@@ -1,5 +1,5 @@
 -- The channels and messages of a tape, one by one.
-use Rattle.std.proofs.Common.{◌≡◌, ◌<◌, ℕ, suc, List, [], ◌∷◌, length, map, true, refl, sym, ap, subst, ◌∙◌, arith, Some, None, Option, Result, slice_get}
+use Rattle.std.proofs.Common.{◌≡◌, ◌<◌, ℕ, suc, List, [], ◌∷◌, length, map, Bool, true, false, refl, sym, ap, subst, ◌∙◌, arith, Some, None, Option, Result, slice_get}
 use Rattle.std.specs.Option.{option_map, unwrap_or}
 use Rattle.std.specs.Prelude.{◌==◌}
 use Rattle.std.specs.List.{find, list_any}
@@ -21,21 +21,22 @@ use Rattle.cy_writer.specs.Stands.{HaveOwnNames}
 use Rattle.cy_writer.specs.Writes.{Makes}
 use Rattle.cy_writer.specs.declared.error.WriteError.{WriteError}
 use Rattle.cy_reader.specs.Named.{as_read, known_as}
-use Rattle.cy_recording.specs.Recording.{Source, IsWritable, channel_of, as_written, content_of, message_of, numbers_after, channels_of_tape, messages_of_tape, chunks_of_tape}
+use Rattle.cy_recording.specs.Recording.{Source, IsWritable, channel_of, as_written, content_of, has_ticks, message_of, numbers_after, channels_of_tape, messages_of_tape, chunks_of_tape}
 use Rattle.cy_recording.specs.private.RecordSteps.{ArePlaced, given_of, all_given}
 use Rattle.cy_recording.proofs.ChannelTable.{place_of}
 
 -- a channel has its name
 pub named : (s : Source) (c : ℕ) → (channel_of s c).name ≡ channel_name s.names c
-named s c = by (find (λ (plan : Plan). plan.out == c) s.plans)
+named s c = by (has_ticks s.plans c) (find (λ (plan : Plan). plan.out == c) s.plans)
   where
     by_known : (o : Option Known) → (as_read (channel_name s.names c) o).name ≡ channel_name s.names c
     by_known (Some known) = refl
     by_known None = refl
 
-    by : (o : Option Plan) → (as_written (channel_name s.names c) s.whole.channels o).name ≡ channel_name s.names c
-    by (Some plan) = refl
-    by None = by_known (known_as (channel_name s.names c) s.whole.channels)
+    by : (ticks : Bool) (o : Option Plan) → (as_written (channel_name s.names c) s.whole.channels ticks o).name ≡ channel_name s.names c
+    by ticks (Some plan) = refl
+    by true None = refl
+    by false None = by_known (known_as (channel_name s.names c) s.whole.channels)
 
 name_there : (names : List (List ℕ)) (c : ℕ) → c < length names → slice_get names c ≡ Some (channel_name names c)
 name_there names c low =

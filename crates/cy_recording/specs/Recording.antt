@@ -1,6 +1,7 @@
 -- The record that is written of a tape: its channels and its messages.
-use Rattle.std.specs.Prelude.{ℕ, ℤ, ◌≡◌, ◌<◌, ◌==◌, if◌then◌else◌, List, [], ◌∷◌, ◌++◌, length, map}
-use Rattle.std.specs.Prelude.{Option, Some, None, unwrap_or, slice_get}
+use Rattle.std.specs.Prelude.{ℕ, ℤ, ◌≡◌, ◌<◌, ◌==◌, ◌&&◌, if◌then◌else◌, Bool, true, false, List, []}
+use Rattle.std.specs.Prelude.{◌∷◌, ◌++◌, length, map, Option, Some, None, is_some, unwrap_or}
+use Rattle.std.specs.Prelude.{slice_get}
 use Rattle.std.specs.List.{find, list_any}
 use Rattle.cy_msg.specs.declared.token.Token.{Token}
 use Rattle.cy_msg.specs.Names.{channel_name}
@@ -31,15 +32,22 @@ source_of p = record {
   places = p.list.now.places;
 }
 
--- One that a component writes has the type of that component's messages and an empty description.
-abbrev pub as_written : List ℕ → List Known → Option Plan → Channel
-as_written name channels (Some plan) = channel_made name plan.out_type []
-as_written name channels None = as_read name (known_as name channels)
+-- Whether ticks stand on the channel of a number: a component with an interval reads it.
+abbrev pub has_ticks : List Plan → ℕ → Bool
+has_ticks plans number = list_any
+    (λ plan. is_some plan.interval && list_any (λ reader. reader == number) plan.readers) plans
+
+-- One that a component writes has the type of that component's messages and an empty description,
+-- one of ticks has neither, and any other has what it has in the record that was read.
+abbrev pub as_written : List ℕ → List Known → Bool → Option Plan → Channel
+as_written name channels ticks (Some plan) = channel_made name plan.out_type []
+as_written name channels true None = channel_made name [] []
+as_written name channels false None = as_read name (known_as name channels)
 
 -- The channel of a number, as it is written.
 abbrev pub channel_of : Source → ℕ → Channel
 channel_of s number = as_written (channel_name s.names number) s.whole.channels
-    (find (λ plan. plan.out == number) s.plans)
+    (has_ticks s.plans number) (find (λ plan. plan.out == number) s.plans)
 
 -- A number behind others, unless it stands among them.
 abbrev pub with_number : List ℕ → ℕ → List ℕ

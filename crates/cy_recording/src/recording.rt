@@ -1,8 +1,8 @@
 // The record of a replay.
 ghost use Rattle.std.specs.Prelude.{◌≡◌, ◌<◌, ◌==◌, ℕ, List, [], ◌∷◌, true, None, Some, map};
 ghost use Rattle.std.specs.Prelude.{slice_get, length, IfOk, OnOk, IfSome, IsErrOf, IsOkUnless};
-ghost use Rattle.std.specs.Prelude.{option_map};
-ghost use Rattle.std.specs.List.{find};
+ghost use Rattle.std.specs.Prelude.{option_map, is_some, ◌&&◌};
+ghost use Rattle.std.specs.List.{find, list_any};
 ghost use Rattle.cy_msg.specs.Names.{channel_name};
 ghost use Rattle.cy_store.specs.Store.{HasWriteCauses};
 ghost use Rattle.cy_section.specs.declared.types.Channel.{Channel};
@@ -10,7 +10,7 @@ ghost use Rattle.cy_writer.specs.Writes.{Makes};
 ghost use Rattle.cy_writer.specs.Record.{channel_shown, channels_shown};
 ghost use Rattle.cy_writer.specs.RecordWrites.{file_writes, record_puts};
 ghost use Rattle.cy_reader.specs.Named.{channel_made};
-ghost use Rattle.cy_recording.specs.Recording.{IsWritable, source_of, channel_of};
+ghost use Rattle.cy_recording.specs.Recording.{IsWritable, source_of, channel_of, has_ticks};
 ghost use Rattle.cy_recording.specs.Recording.{channels_of_tape, chunks_of_tape};
 
 mod laws;
@@ -36,14 +36,40 @@ fn writer_of(plans: &[Plan], channel: u32) -> Option<&Plan>
     plans.iter().find(|plan| plan.out == channel)
 }
 
+// Whether ticks stand on a channel.
+fn has_ticks(plans: &[Plan], channel: u32) -> bool
+    ensures { result ≡ has_ticks plans.now channel }
+{
+    plans.iter().any(|plan| is_ticked_on(plan, channel))
+}
+
+// Whether a channel is among those of readers.
+fn is_read_by(readers: &[u32], channel: u32) -> bool
+    ensures { result ≡ list_any (λ reader. reader == channel) readers.now }
+{
+    readers.iter().any(|reader| *reader == channel)
+}
+
+// Whether the ticks of a component stand on a channel.
+fn is_ticked_on(plan: &Plan, channel: u32) -> bool
+    ensures { result ≡ (is_some plan.now.interval
+        && list_any (λ reader. reader == channel) plan.now.readers) }
+{
+    plan.interval.is_some() && is_read_by(plan.readers.as_slice(), channel)
+}
+
 // The type and description of a channel.
 fn form_of<'a>(played: &Played<'a>, channel: u32) -> (&'a str, &'a [u8])
     requires { channel < length (source_of played.now).names }
     ensures { channel_of (source_of played.now) channel ≡ channel_made
         (channel_name (source_of played.now).names channel) result.0.now result.1.now }
 {
-    if let Some(plan) = writer_of(played.wiring.plans.as_slice(), channel) {
+    let plans = played.wiring.plans.as_slice();
+    if let Some(plan) = writer_of(plans, channel) {
         return (plan.out_type.as_str(), &[]);
+    }
+    if has_ticks(plans, channel) {
+        return ("", &[]);
     }
     match played
         .whole
@@ -90,7 +116,8 @@ fn written_channels<'a>(
 /// the order of their first messages, and then each message, with its time and content. A content
 /// is that of the played message which it comes from, where it lies in the record that was read, or
 /// the written form of the message's value. A channel that a component writes has that component's
-/// type, and any other the type and description that it has in the record that was read.
+/// type, one of ticks has none, and any other the type and description that it has in the record
+/// that was read.
 ///
 /// After an error the writes before the one that failed, or that wanted memory, are done. It takes
 /// the room for its tables of channels before it makes the file.

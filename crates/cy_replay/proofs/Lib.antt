@@ -6,11 +6,13 @@ pub mod Joined
 pub mod Judged
 pub mod Judging
 pub mod Limits
+pub mod Listed
 pub mod PassTested
 pub mod PassWired
 pub mod Playable
 pub mod Records
 pub mod Setting
 pub mod Texts
+pub mod TickCounts
 pub mod TraceTexts
 pub mod Wirings

@@ -2,7 +2,7 @@
 use Rattle.std.proofs.Common.{ℕ, zero, suc, ◌≡◌, ◌≤◌, ◌==◌, false, List, [], ◌∷◌, length, slice_get, Some, None, refl, sym, ap, ◌∙◌, arith}
 use Rattle.std.proofs.lemmas.Bool.Decides.{nat_tests}
 use Rattle.std.proofs.lemmas.Option.{same_Some, none-some}
-use Rattle.cy_dag.specs.DagFile.{components_refusal, HaveQueues}
+use Rattle.cy_dag.specs.DagFile.{components_refusal, HaveQueues, HaveTicks}
 use Rattle.cy_dag.specs.Wiring.{AreConfigs}
 use Rattle.cy_dag.specs.declared.dag.DagComponent.{DagComponent}
 use Rattle.cy_dag.specs.declared.dag.DagReader.{DagReader}
@@ -26,6 +26,11 @@ queues from i c at j r reads =
     let same : r ≡ reader = only_one reader r j (sym (ap (λ (d : DagComponent). slice_get d.readers j) is) ∙ reads) in
     let one : r.queue ≡ 1 = ap (λ (x : DagReader). x.queue) same in
     omega (arith, one)
+
+pub ticks : (from : List ℕ) → HaveTicks (pass_component from ∷ [])
+ticks from i interval c at given =
+    let is : c ≡ pass_component from = only_one (pass_component from) c i at in
+    absurd (none-some interval (sym (ap (λ (d : DagComponent). d.interval) is) ∙ given))
 
 pub fit : (from to message_type : List ℕ) → AreConfigs (pass_component from ∷ []) (pass_config to message_type ∷ [])
 fit from to message_type = record {

@@ -5,7 +5,7 @@ use Rattle.std.specs.Str.{bytes_eq}
 use Rattle.std.proofs.lemmas.Slice.Eq.{bytes_eq-Decides}
 use Rattle.cy_store.specs.Reads.{Reads, Accepts, Refuses}
 use Rattle.cy_dag.specs.DagFile.{count_of, refuse_if}
-use Rattle.cy_dag.specs.Triggers.{writers_refusal, cycle_refusal, way_back, writer_named}
+use Rattle.cy_dag.specs.Triggers.{writers_refusal, ticks_refusal, cycle_refusal, way_back, writer_named}
 use Rattle.cy_dag.specs.Wiring.{named, wire_refusal, channels_refusal}
 use Rattle.cy_dag.specs.declared.error.DagError.{DagError}
 use Rattle.cy_dag.specs.declared.error.DagError.TheVariants.{TooManyChannels}
@@ -28,6 +28,10 @@ writes_alone : (to message_type : List ℕ) → writers_refusal (pass_config to 
 unfolding writers_refusal
 writes_alone to message_type = refl
 
+no_ticks : (from to message_type : List ℕ) → ticks_refusal (pass_component from ∷ []) (pass_config to message_type ∷ []) ≡ None
+unfolding ticks_refusal
+no_ticks from to message_type = refl
+
 -- so only its channels may be too many
 last_stands : (found : Option DagError) → option_or found None ≡ found
 last_stands None = refl
@@ -38,7 +42,9 @@ refused_alone : (from to message_type : List ℕ) (channels : List (List ℕ)) �
 refused_alone from to message_type channels differ =
     let found = channels_refusal (length (named (channels ++ from ∷ to ∷ []))) in
     let cycle = no_cycle (writer_named (pass_config to message_type ∷ []) from) (no_writer (bytes_eq to from) from to message_type refl differ) in
-    ap (λ (w : Option DagError). option_or w (option_or (cycle_refusal (writer_named (pass_config to message_type ∷ []) from ∷ [])) (option_or found None))) (writes_alone to message_type)
+    let rest = option_or (cycle_refusal (writer_named (pass_config to message_type ∷ []) from ∷ [])) (option_or found None) in
+    ap (λ (w : Option DagError). option_or (option_or w (option_or (ticks_refusal (pass_component from ∷ []) (pass_config to message_type ∷ [])) None)) rest) (writes_alone to message_type)
+    ∙ ap (λ (t : Option DagError). option_or (option_or t None) rest) (no_ticks from to message_type)
     ∙ ap (λ (c : Option DagError). option_or c (option_or found None)) cycle ∙ last_stands found
 
 by_count : (many : Bool) (file : List ℕ) (count : ℕ) (w : Wired) → in_file file fault.Dag (unless (refuse_if many (TooManyChannels (count_of count))) w)

@@ -82,7 +82,7 @@ tokens_all number whole P Q step before (place ∷ rest) all =
     All-cons Q (token_behind number whole before place) (tokens_behind number whole (before ++ place ∷ []) rest) (step before place (All-head P place rest all))
     (tokens_all number whole P Q step (before ++ place ∷ []) rest (All-tail P place rest all))
 
-all_at : {X : Type 0} (P : X → Type 0) (xs : List X) (n : ℕ) (x : X) → All P xs → slice_get xs n ≡ Some x → P x
+pub all_at : {X : Type 0} (P : X → Type 0) (xs : List X) (n : ℕ) (x : X) → All P xs → slice_get xs n ≡ Some x → P x
 all_at P xs n x all at = subst P (get_or_from_slice_get xs n x x at) (all n x (slice_get_within xs n x at))
 
 module _ (whole : Contents) (choice : Choice) (list : PlayList) (is : IsPlayList whole choice list) where
@@ -121,11 +121,11 @@ no_writer (p ∷ plans) component channel none =
     writer_by (p.out == channel) (list_any (λ n. n == channel) (map (λ q. q.out) plans)) component (writes_from (component + 1) (routes_of plans) channel) none (no_writer plans (component + 1) channel)
 
 -- the places below a number stand in their order
-length-places : (n : ℕ) → length (places_below n) ≡ n
+pub length-places : (n : ℕ) → length (places_below n) ≡ n
 length-places zero = refl
 length-places (suc n) = let long = length-append (places_below n) (n ∷ []) in let so_far = length-places n in omega (arith, long, so_far)
 
-place-at : (n i : ℕ) → i < n → get_or (places_below n) i 0 ≡ i
+pub place-at : (n i : ℕ) → i < n → get_or (places_below n) i 0 ≡ i
 place-at zero i less = absurd (omega arith)
 place-at (suc n) i less = elim (cases_lt i n) [
   | inl before ↦ get_or_append_left (places_below n) (n ∷ []) 0 i (let long = length-places n in omega (arith, long, before)) ∙ place-at n i before
@@ -146,22 +146,10 @@ on-tokens number whole channel before (place ∷ rest) =
 counted_alike : (p : ℕ → Bool) (xs ys : List ℕ) → IsPermutation xs ys → length (filter p ys) ≡ length (filter p xs)
 counted_alike p xs ys moved = length-filter p ys ∙ sum_by-IsPermutation (λ x. cond (p x) 1 0) xs ys moved ∙ sym (length-filter p xs)
 
-on-list : (whole : Contents) (choice : Choice) (list : PlayList) → IsPlayList whole choice list → (channel : ℕ) → length (on_channel channel list.tokens) ≡ played_on whole choice channel
+pub on-list : (whole : Contents) (choice : Choice) (list : PlayList) → IsPlayList whole choice list → (channel : ℕ) → length (on_channel channel list.tokens) ≡ played_on whole choice channel
 on-list whole choice list is channel =
     ap (λ ts. length (on_channel channel ts)) is.tokens ∙ on-tokens (number_at whole choice) whole channel [] list.places
     ∙ counted_alike (λ place. number_at whole choice place == channel) (chosen whole choice) list.places is.order.same
-
--- the counts of the list are those that the files give
-pub counts_are : (whole : Contents) (choice : Choice) (list : PlayList) (counts : List ℕ) → IsPlayList whole choice list → AreCounts (length choice.names) list.tokens counts → counts ≡ counts_of whole choice
-counts_are whole choice list counts is are =
-    let names = length choice.names in
-    let many = are.many in
-    let places = length-places names in
-    let mapped = length-map (places_below names) (played_on whole choice) in
-    ext_get_or 0 counts (counts_of whole choice) (many ∙ sym places ∙ sym mapped) (λ i less.
-    let inside : i < names = omega (arith, many, less) in
-    sym (are.each i) ∙ on-list whole choice list is i
-    ∙ sym (get_or-map (played_on whole choice) (places_below names) i 0 0 (omega (arith, places, inside)) ∙ ap (played_on whole choice) (place-at names i inside)))
 
 -- a placement's scan has each component
 lists_in : (xs : List ℕ) (c : ℕ) → Contains xs c → lists c xs ≡ true
@@ -221,7 +209,7 @@ few_up_to time (t ∷ rest) = by (nat_le t.time time) (few_up_to time rest)
 no_plan : Plan
 no_plan = record { name = []; kind = Pass; readers = []; queue = 1; overflow = Newest; out = 0; out_type = []; interval = None }
 
-stop_within : (asked : Option StopAt) (w : Wired) (tokens : List Token) (s : Stop) → stop_of asked w tokens ≡ Some s → (s.component < length w.plans) × (s.after ≤ length tokens)
+pub stop_within : (asked : Option StopAt) (w : Wired) (tokens : List Token) (s : Stop) → stop_of asked w tokens ≡ Some s → (s.component < length w.plans) × (s.after ≤ length tokens)
 stop_within None w tokens s given = absurd cc
 stop_within (Some a) w tokens s given = by (number_of w.plans a.component) refl given
   where
@@ -232,23 +220,3 @@ stop_within (Some a) w tokens s given = by (number_of w.plans a.component) refl 
         let same : (let made : Stop = record { component = c; after = count_up_to a.time tokens } in made) ≡ s = cc in
         subst (λ (x : Stop). (x.component < length w.plans) × (x.after ≤ length tokens)) same
         ((position-Some (λ (p : Plan). bytes_eq p.name a.component) w.plans c no_plan is).0, few_up_to a.time tokens)
-
--- the list may be played
-pub may_play : PutLaws → (whole : Contents) (choice : Choice) (list : PlayList) (w : Wired) (counts scan : List ℕ) (asked : Option StopAt) (stop : Option Stop) → stop ≡ stop_of asked w list.tokens → IsPlayList whole choice list → choice.written ≡ map (λ p. p.out) w.plans
-    → AreCounts (length choice.names) list.tokens counts → IsPermutation (numbers_below (length w.plans)) scan → MayPlay (opening_world (routes_of w.plans) counts stop) list.tokens scan
-may_play put whole choice list w counts scan asked stop stopped is written are moved =
-    let made : IsToPlay (opening_world (routes_of w.plans) counts stop) list.tokens = record {
-      counted = are.each;
-      unwritten = λ n t at. no_writer w.plans 0 t.channel (subst (λ ws. list_any (λ x. x == t.channel) ws ≡ false) written (all_at (λ u. list_any (λ x. x == u.channel) choice.written ≡ false) list.tokens n t (all_unwritten whole choice list is) at));
-    } in
-    let whole_number = put.all (opening_world (routes_of w.plans) counts stop) list.tokens made in
-    let as_many = length-map w.plans route_of in
-    record {
-      opening = refl;
-      made = made;
-      within = record {
-        component = λ s given. let below = (stop_within asked w list.tokens s (sym stopped ∙ given)).0 in omega (arith, below, as_many);
-        after = λ s given. let few = (stop_within asked w list.tokens s (sym stopped ∙ given)).1 in omega (arith, few, whole_number);
-      };
-      scan = subst (λ size. IsScanOf size scan) (sym as_many) (is_scan (length w.plans) scan moved);
-    }

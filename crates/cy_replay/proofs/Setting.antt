@@ -25,13 +25,11 @@ use Rattle.cy_request.specs.declared.filter.Filter.{Filter}
 use Rattle.wake_core.specs.TapeLaws.{PutLaws}
 use Rattle.cy_reader.specs.declared.known.Known.{Known}
 use Rattle.cy_reader.specs.Record.{Contents, named_only}
-use Rattle.cy_reader.specs.Play.{Choice, PlayAnswer, IsPlayList, AreNamed, chosen, most_played, number_at}
-use Rattle.cy_reader.proofs.Playing.{length-tokens}
+use Rattle.cy_reader.specs.Play.{Choice, PlayAnswer, AreNamed, chosen, most_played}
 use Rattle.wake_core.specs.Run.{routes_of}
 use Rattle.wake_core.specs.Planned.{planned}
 use Rattle.wake_core.specs.declared.entries.TheConstants.{MOST_PLANNED}
 use Rattle.cy_replay.specs.declared.configuration.Configuration.{Configuration}
-use Rattle.cy_reader.specs.declared.error.LoadError.TheVariants.{TooManyPlayed}
 use Rattle.cy_replay.specs.declared.error.Fault.TheVariants as fault
 use Rattle.cy_replay.specs.declared.error.Refusal.{Refusal}
 use Rattle.cy_replay.specs.declared.error.SetupError.{SetupError}
@@ -42,7 +40,7 @@ use Rattle.cy_replay.specs.Configuration as files
 use Rattle.cy_replay.specs.Configuration.{Configured, configuration_in}
 use Rattle.cy_replay.specs.Faults.{in_file, unless}
 use Rattle.cy_replay.specs.private.Judged.{judged_over}
-use Rattle.cy_replay.specs.Listing.{AreCounts, record_in, channels_of, choice_of, counts_of, played_in, planned_in}
+use Rattle.cy_replay.specs.Listing.{AreCounts, IsListed, record_in, channels_of, counts_of, messages_in, played_in, planned_in}
 use Rattle.cy_replay.specs.Passing.{passing, type_read}
 use Rattle.cy_request.specs.Request.{Components, Request, OfFiles, OfPass}
 use Rattle.cy_replay.specs.Setup.{Replayed, IsAsked, IsAskedBy, IsSetUp, judged_in, configured_in, passed_in, replay_through, replay_in, replayed}
@@ -52,7 +50,8 @@ use Rattle.cy_replay.specs.Wiring.{Wired, wired_by, wired_of, wiring_in}
 use Rattle.cy_replay.proofs.Coming.{then, comes_err, comes_then}
 use Rattle.cy_replay.proofs.Limits.{limited_fits}
 use Rattle.cy_replay.proofs.Judging.{judges_err, judges_then, judges_ok, judges_memory, judged_comes}
-use Rattle.cy_replay.proofs.Playable.{all_named, some_name, some_plan, all_below, counts_are, may_play}
+use Rattle.cy_replay.proofs.Listed.{counts_are, listed_below, may_play}
+use Rattle.cy_replay.proofs.Playable.{all_named, some_name, some_plan}
 
 -- the names of a record's channels, one more
 pub name_more : (whole : Contents) (n : ℕ) (c : Channel) (name : List ℕ) (names : List (List ℕ)) → n < length whole.channels → IfSome (slice_get whole.channels n) (λ known. c ≡ known.channel) → name ≡ c.name
@@ -63,17 +62,17 @@ name_more whole n c name names less is called so_far =
     ap (λ (ns : List (List ℕ)). ns ++ name ∷ []) so_far ∙ ap (λ (x : List ℕ). map (λ (k : Known). k.channel.name) (take n whole.channels) ++ x ∷ []) (called ∙ ap (λ (d : Channel). d.name) same)
     ∙ sym (ap (map (λ (k : Known). k.channel.name)) (take_more whole.channels n (named_only []) less) ∙ map-append (λ (k : Known). k.channel.name) (take n whole.channels) (known ∷ []))
 
-judged_at : (file : List ℕ) (whole : Contents) (choice : Choice) (list : PlayList) → (let answer = Ok list in PlayAnswer whole choice answer) → (let r : Result PlayList SetupError = Ok list in IsJudged (λ l. length l.places) (played_in file whole choice) r)
+judged_at : (file : List ℕ) (whole : Contents) (choice : Choice) (list : PlayList) → (let answer = Ok list in PlayAnswer whole choice answer) → (let r : Result PlayList SetupError = Ok list in IsJudged (λ l. length l.places) (messages_in file whole choice) r)
 judged_at file whole choice list a =
-    judges_ok (λ (l : PlayList). length l.places) (played_in file whole choice) list
+    judges_ok (λ (l : PlayList). length l.places) (messages_in file whole choice) list
     (rw (le-ltb most_played (length (chosen whole choice)) a.few) (ap Accepts (sym (length_permutation (chosen whole choice) list.places a.list.order.same))))
 
 -- not too many are played
 pub listed_judged : (file : List ℕ) (whole : Contents) (names : List (List ℕ)) (filter : Filter) (written outs : List ℕ) (list : PlayList) → written ≡ outs
     → (let choice : Choice = record { names = names; filter = filter; written = written } in let answer = Ok list in PlayAnswer whole choice answer)
-    → (let choice : Choice = record { names = names; filter = filter; written = outs } in let r : Result PlayList SetupError = Ok list in IsJudged (λ l. length l.places) (played_in file whole choice) r)
+    → (let choice : Choice = record { names = names; filter = filter; written = outs } in let r : Result PlayList SetupError = Ok list in IsJudged (λ l. length l.places) (messages_in file whole choice) r)
 listed_judged file whole names filter written outs list is a =
-    let P : List ℕ → Type 0 = λ ws. let choice : Choice = record { names = names; filter = filter; written = ws } in let r : Result PlayList SetupError = Ok list in IsJudged (λ (l : PlayList). length l.places) (played_in file whole choice) r in
+    let P : List ℕ → Type 0 = λ ws. let choice : Choice = record { names = names; filter = filter; written = ws } in let r : Result PlayList SetupError = Ok list in IsJudged (λ (l : PlayList). length l.places) (messages_in file whole choice) r in
     subst P is (judged_at file whole record { names = names; filter = filter; written = written } list a)
 
 -- a wiring is that of its functions of files
@@ -116,16 +115,13 @@ module _ (file : List ℕ) (r : Request) (conf : Configuration) (recorded : Cont
       zipped (x ∷ xs) [] e = absurd (omega (arith, e))
       zipped (x ∷ xs) (y ∷ ys) e = let rest : length ys ≡ length xs = omega (arith, e) in let so = zipped xs ys rest in omega (arith, so)
 
-  abbrev choice : Choice
-  choice = choice_of r.filter (wired_by w)
-
   -- what follows the play list
   abbrev with_played : ℕ → Reads Refusal Replayed
-  with_played played = planned_in r.input (wired_by w) (counts_of recorded choice) >>= λ planned. Accepts record { configured = configured conf; contents = recorded; wired = wired_by w }
+  with_played played = planned_in r.input (wired_by w) (counts_of recorded r.filter (wired_by w)) >>= λ planned. Accepts record { configured = configured conf; contents = recorded; wired = wired_by w }
 
   -- what follows the stop
   abbrev with_stop : ⊤ → Reads Refusal Replayed
-  with_stop found = played_in r.input recorded choice >>= with_played
+  with_stop found = played_in r.input recorded r.filter (wired_by w) >>= with_played
 
   abbrev over : Reads Refusal Replayed
   over = judged_over file r (configured conf) recorded (wired_by w)
@@ -138,45 +134,37 @@ module _ (file : List ℕ) (r : Request) (conf : Configuration) (recorded : Cont
   stop_stops v e stops = judges_err (λ found. found) v (stop_in file r.stop (wired_by w)) with_stop e stops
 
   -- the messages that are played are in the way
-  pub list_stops : {X : Type 0} (v : X → Replayed) (e : SetupError) (found : ⊤) → Stops (Ok found) → (let q : Result PlayList SetupError = Err e in IsJudged (λ (l : PlayList). length l.places) (played_in r.input recorded choice) q)
+  pub list_stops : {X : Type 0} (v : X → Replayed) (e : SetupError) (found : ⊤) → Stops (Ok found) → (let q : Result PlayList SetupError = Err e in IsJudged (λ (l : PlayList). length l.tokens) (played_in r.input recorded r.filter (wired_by w)) q)
       → (let q : Result X SetupError = Err e in IsJudged v over q)
   list_stops v e found passes stops =
-      judges_then v (stop_in file r.stop (wired_by w)) with_stop found (Err e) passes.accepted (judges_err (λ (l : PlayList). length l.places) v (played_in r.input recorded choice) with_played e stops)
+      judges_then v (stop_in file r.stop (wired_by w)) with_stop found (Err e) passes.accepted (judges_err (λ (l : PlayList). length l.tokens) v (played_in r.input recorded r.filter (wired_by w)) with_played e stops)
 
-  module _ (list : PlayList) (counts : List ℕ) (found : ⊤) (passes : Stops (Ok found)) (listed : let q : Result PlayList SetupError = Ok list in IsJudged (λ (l : PlayList). length l.places) (played_in r.input recorded choice) q)
-      (is : IsPlayList recorded choice list) (are : AreCounts (length w.names) list.tokens counts) where
-    after : {X : Type 0} (v : X → Replayed) (q : Result X SetupError) → IsJudged v (with_played (length list.places)) q → IsJudged v over q
-    after v q j = judges_then v (stop_in file r.stop (wired_by w)) with_stop found q passes.accepted (judges_then v (played_in r.input recorded choice) with_played (length list.places) q listed.accepted j)
+  module _ (list : PlayList) (counts : List ℕ) (found : ⊤) (passes : Stops (Ok found)) (listed : let q : Result PlayList SetupError = Ok list in IsJudged (λ (l : PlayList). length l.tokens) (played_in r.input recorded r.filter (wired_by w)) q)
+      (is : IsListed recorded r.filter (wired_by w) list) (are : AreCounts (length w.names) list.tokens counts) where
+    after : {X : Type 0} (v : X → Replayed) (q : Result X SetupError) → IsJudged v (with_played (length list.tokens)) q → IsJudged v over q
+    after v q j = judges_then v (stop_in file r.stop (wired_by w)) with_stop found q passes.accepted (judges_then v (played_in r.input recorded r.filter (wired_by w)) with_played (length list.tokens) q listed.accepted j)
 
-    pub counted : counts ≡ counts_of recorded choice
-    counted = counts_are recorded choice list counts is are
+    pub counted : counts ≡ counts_of recorded r.filter (wired_by w)
+    counted = counts_are recorded r.filter (wired_by w) w.lawful list is counts are
 
     pub planned_stops : {X : Type 0} (v : X → Replayed) (e : SetupError) → (let q : Result ℕ SetupError = Err e in IsJudged (λ n. n) (planned_in r.input (wired_by w) counts) q) → (let q : Result X SetupError = Err e in IsJudged v over q)
     planned_stops v e stops =
-        after v (Err e) (judges_err (λ n. n) v (planned_in r.input (wired_by w) (counts_of recorded choice)) (λ planned. Accepts record { configured = configured conf; contents = recorded; wired = wired_by w }) e
+        after v (Err e) (judges_err (λ n. n) v (planned_in r.input (wired_by w) (counts_of recorded r.filter (wired_by w))) (λ planned. Accepts record { configured = configured conf; contents = recorded; wired = wired_by w }) e
         (subst (λ cs. let q : Result ℕ SetupError = Err e in IsJudged (λ n. n) (planned_in r.input (wired_by w) cs) q) counted stops))
 
     pub all_judged : {X : Type 0} (v : X → Replayed) (n : ℕ) (x : X) → (let q : Result ℕ SetupError = Ok n in IsJudged (λ n. n) (planned_in r.input (wired_by w) counts) q) → (let y : Replayed = record { configured = configured conf; contents = recorded; wired = wired_by w } in y ≡ v x)
         → (let q : Result X SetupError = Ok x in IsJudged v over q)
     all_judged v n x fits same =
-        after v (Ok x) (judges_then v (planned_in r.input (wired_by w) (counts_of recorded choice)) (λ planned. Accepts record { configured = configured conf; contents = recorded; wired = wired_by w }) n (Ok x)
+        after v (Ok x) (judges_then v (planned_in r.input (wired_by w) (counts_of recorded r.filter (wired_by w))) (λ planned. Accepts record { configured = configured conf; contents = recorded; wired = wired_by w }) n (Ok x)
         (subst (λ cs. planned_in r.input (wired_by w) cs ≡ Accepts n) counted fits.accepted) (judges_ok v (Accepts record { configured = configured conf; contents = recorded; wired = wired_by w }) x (ap Accepts same)))
 
--- no more are played, and no more are planned, than can be
-pub played_few : (file : List ℕ) (whole : Contents) (choice : Choice) (list : PlayList) → IsPlayList whole choice list → (let q : Result PlayList SetupError = Ok list in IsJudged (λ (l : PlayList). length l.places) (played_in file whole choice) q) → length list.tokens < 2 ^ 32
-played_few file whole choice list is listed =
-    let fits = limited_fits file most_played (λ n. fault.Record (TooManyPlayed n)) (length (chosen whole choice)) (length list.places) listed.accepted in
-    let few = fits.0 in
-    let same = fits.1 in
-    let placed : length list.tokens ≡ length list.places = ap length is.tokens ∙ length-tokens (number_at whole choice) whole [] list.places in
-    omega arith
-
+-- no more are planned than can be
 pub planned_few : (file : List ℕ) (w : Wired) (counts : List ℕ) (n : ℕ) → (let q : Result ℕ SetupError = Ok n in IsJudged (λ n. n) (planned_in file w counts) q) → planned (routes_of w.plans) counts ≤ MOST_PLANNED
 planned_few file w counts n fits = (limited_fits file MOST_PLANNED fault.TooMany (planned (routes_of w.plans) counts) n fits.accepted).0
 
 -- what is set up
-pub is_set_up : PutLaws → (r : Request) (x : Replay) → IsPlayList x.recorded (choice_of r.filter (wired_by x.wiring)) x.list → x.stop ≡ stop_of r.stop (wired_by x.wiring) x.list.tokens → IsPlaced x.configuration.sched (map (λ c. c.name) x.configuration.dag.components) x.placement.contexts
-    → AreCounts (length x.wiring.names) x.list.tokens x.counts → x.counts ≡ counts_of x.recorded (choice_of r.filter (wired_by x.wiring)) → planned (routes_of x.wiring.plans) x.counts ≤ MOST_PLANNED → 0 < length x.wiring.names
+pub is_set_up : PutLaws → (r : Request) (x : Replay) → IsListed x.recorded r.filter (wired_by x.wiring) x.list → x.stop ≡ stop_of r.stop (wired_by x.wiring) x.list.tokens → IsPlaced x.configuration.sched (map (λ c. c.name) x.configuration.dag.components) x.placement.contexts
+    → AreCounts (length x.wiring.names) x.list.tokens x.counts → x.counts ≡ counts_of x.recorded r.filter (wired_by x.wiring) → planned (routes_of x.wiring.plans) x.counts ≤ MOST_PLANNED → 0 < length x.wiring.names
     → IsPermutation (numbers_below (length x.configuration.dag.components)) (scan_of x.placement.contexts) → length x.wiring.plans ≡ length x.configuration.dag.components → IsOnce x.wiring.names → IsSetUp r x
 is_set_up put r x listed stopped placed are counted few some moved many once = record {
   listed = listed;
@@ -186,8 +174,8 @@ is_set_up put r x listed stopped placed are counted few some moved many once = r
   many = are.many;
   once = once;
   limited = few;
-  named = all_below x.recorded (choice_of r.filter (wired_by x.wiring)) x.list listed some;
-  playable = may_play put x.recorded (choice_of r.filter (wired_by x.wiring)) x.list (wired_by x.wiring) x.counts (scan_of x.placement.contexts) r.stop x.stop stopped listed refl are (subst (λ n. IsPermutation (numbers_below n) (scan_of x.placement.contexts)) (sym many) moved);
+  named = listed_below x.recorded r.filter (wired_by x.wiring) x.wiring.lawful x.list listed some;
+  playable = may_play x.recorded r.filter (wired_by x.wiring) x.wiring.lawful x.list listed put x.counts (scan_of x.placement.contexts) r.stop x.stop stopped are (subst (λ n. IsPermutation (numbers_below n) (scan_of x.placement.contexts)) (sym many) moved);
 }
 
 -- what is judged behind the record

@@ -25,6 +25,7 @@ pass_component from = record {
   name = codes "pass";
   config_file_path = codes "pass";
   readers = record { channel = from; queue = 1 } ∷ [];
+  interval = None;
 }
 
 -- It writes the other channel, in messages of some type.

@@ -7,7 +7,6 @@ use Rattle.cy_msg.specs.Placement.{scan_of}
 use Rattle.cy_sched.specs.Placing.{IsPlaced}
 use Rattle.cy_request.specs.Request.{Components, OfFiles, OfPass, Request}
 use Rattle.cy_reader.specs.Record.{Contents}
-use Rattle.cy_reader.specs.Play.{IsPlayList}
 use Rattle.wake_core.specs.Plain.{opening_world}
 use Rattle.wake_core.specs.Planned.{planned}
 use Rattle.wake_core.specs.Rest.{MayPlay}
@@ -17,7 +16,7 @@ use Rattle.cy_replay.specs.declared.error.Refusal.{Refusal}
 use Rattle.cy_replay.specs.declared.setup.Replay.{Replay}
 use Rattle.cy_replay.specs.Configuration as files
 use Rattle.cy_replay.specs.Configuration.{Configured, configuration_in}
-use Rattle.cy_replay.specs.Listing.{record_in, channels_of, choice_of, counts_of, played_in}
+use Rattle.cy_replay.specs.Listing.{IsListed, record_in, channels_of, counts_of, played_in}
 use Rattle.cy_replay.specs.Listing.{planned_in}
 use Rattle.cy_replay.specs.Passing.{passing, type_read}
 use Rattle.cy_replay.specs.Steps.{configured}
@@ -32,15 +31,15 @@ pub record Replayed : Type 0 where
   pub wired : Wired
 
 -- What is judged once all files were read, in the order of refusals: the wiring over the record's
--- channels, the component that a stop names, the number of messages that are played, and the number
--- of entries that are planned. A fault of the wiring or of a stop is one of the file that is named
+-- channels, the component that a stop names, the number of messages and ticks that are played, and
+-- the number of entries that are planned. A fault of the wiring or of a stop is one of the file that is named
 -- for it.
 abbrev pub judged_in : List ℕ → Request → Configured → Contents → Reads Refusal Replayed
 judged_in file r configured contents = do
   wired ← wiring_in file (channels_of contents) configured
   found ← stop_in file r.stop wired
-  played ← played_in r.input contents (choice_of r.filter wired)
-  planned ← planned_in r.input wired (counts_of contents (choice_of r.filter wired))
+  played ← played_in r.input contents r.filter wired
+  planned ← planned_in r.input wired (counts_of contents r.filter wired)
   Accepts record { configured = configured; contents = contents; wired = wired }
 
 -- The configuration files and then the record are read, and what they say is judged.
@@ -86,11 +85,11 @@ replayed x = record {
 -- those of its record and its configuration, and it may be played in the opening world of its
 -- wiring and its stop.
 pub record IsSetUp (r : Request) (x : Replay) : Type 0 where
-  pub listed : IsPlayList x.recorded (choice_of r.filter (wired_by x.wiring)) x.list
+  pub listed : IsListed x.recorded r.filter (wired_by x.wiring) x.list
   pub stopped : x.stop ≡ stop_of r.stop (wired_by x.wiring) x.list.tokens
   pub placed : IsPlaced x.configuration.sched (map (λ c. c.name) x.configuration.dag.components)
       x.placement.contexts
-  pub counted : x.counts ≡ counts_of x.recorded (choice_of r.filter (wired_by x.wiring))
+  pub counted : x.counts ≡ counts_of x.recorded r.filter (wired_by x.wiring)
   pub many : length x.counts ≡ length x.wiring.names
   pub once : IsOnce x.wiring.names
   pub limited : planned (routes_of x.wiring.plans) x.counts ≤ MOST_PLANNED

@@ -37,11 +37,12 @@ fn pass_component(alloc: Global, from: &str) -> Result<DagComponent, NamesError>
         name: Text::new(alloc, "pass")?,
         config_file_path: Text::new(alloc, "pass")?,
         readers: Items::new(vec![in alloc; reader]?),
+        interval: None,
     })
 }
 
 // It alone.
-#[tactic(auto, using(crate::proofs::PassTested::tested, crate::proofs::PassTested::queues))]
+#[tactic(auto, using(crate::proofs::PassTested::tested, crate::proofs::PassTested::queues, crate::proofs::PassTested::ticks,))]
 fn pass_dag(alloc: Global, from: &str) -> Result<Dag, NamesError>
     requires { 1 ≤ length from.now }
     ensures components { IfOk result (λ dag. dag.components ≡ component_of from.now ∷ []) }

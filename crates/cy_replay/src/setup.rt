@@ -11,7 +11,7 @@ ghost use Rattle.cy_replay.specs.Steps.{configured};
 ghost use Rattle.cy_replay.specs.Wiring.{IsWiredBy, wired_by, wired_of, wiring_in};
 
 use crate::counts::{counts_of, test_planned};
-use crate::listing::{channel_names, list_messages, read_record};
+use crate::listing::{channel_names, list_all, read_record};
 use crate::passing::pass_configuration;
 use crate::stops::{stop_of, test_stop};
 use crate::{Configuration, SetupError, place_components, read_configuration, wire_components};
@@ -35,11 +35,11 @@ pub struct Replay {
     pub wiring: Wiring,
     /// The contexts in which the components run.
     pub placement: Placement,
-    /// The messages that are played.
+    /// The messages and ticks that are played.
     pub list: PlayList,
     /// The stop, where one was asked for.
     pub stop: Option<Stop>,
-    /// How many messages are played on each channel, by its number.
+    /// How many messages and ticks are played on each channel, by its number.
     pub counts: Items<u32>,
 }
 
@@ -86,7 +86,7 @@ fn judge_parts(
         (replay_of configuration.now recorded.now wiring.now j)) }
 {
     test_stop(alloc, file, request.stop, wiring)?;
-    let list = list_messages(alloc, request.input, request.filter, recorded, wiring)?;
+    let list = list_all(alloc, request.input, request.filter, recorded, wiring)?;
     let counts = counts_of(alloc, wiring.names.count(), list.tokens.as_slice())?;
     test_planned(alloc, request.input, wiring, &counts)?;
     let stop = stop_of(request.stop, wiring, list.tokens.as_slice());
@@ -214,10 +214,10 @@ fn set_up_pass<S: Store, R: Threads + Sync>(
 /// Sets up a replay. It reads the DAG file, the component files that it names, in the order of the
 /// DAG, the scheduler file, if one is given, and the record; or the record alone, where the one
 /// component passes messages on. Then it wires the components over the record's channels, looks for
-/// the component of a stop, lists the messages that are played, and places the components. The
-/// first thing in the way is answered: a file that is refused, where a fault of the wiring or of a
-/// stop is one of the DAG file, or else of the record, and too many messages or entries are one of
-/// the record. No file is changed.
+/// the component of a stop, lists the messages that are played and the ticks among them, and places
+/// the components. The first thing in the way is answered: a file that is refused, where a fault of
+/// the wiring or of a stop is one of the DAG file, or else of the record, and too many messages,
+/// ticks or entries are one of the record. No file is changed.
 pub fn set_up<S: Store, R: Threads + Sync>(
     rt: &R,
     alloc: Global,

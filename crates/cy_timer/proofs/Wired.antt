@@ -42,13 +42,13 @@ all-some (p ∷ rest) some =
     some-more (slice_index p.readers 0) p.interval (timers_of rest) (λ n. some 0 n p refl) (all-some rest (λ i. some (suc i)))
 
 -- the component of a timer
-record TimedAt (plans : List Plan) (channel : ℕ) : Type 0 where
-  place : ℕ
-  interval : ℕ
-  plan : Plan
-  here : slice_get plans place ≡ Some plan
-  ticks : plan.interval ≡ Some interval
-  reads : slice_index plan.readers 0 ≡ channel
+pub record TimedAt (plans : List Plan) (channel : ℕ) : Type 0 where
+  pub place : ℕ
+  pub interval : ℕ
+  pub plan : Plan
+  pub here : slice_get plans place ≡ Some plan
+  pub ticks : plan.interval ≡ Some interval
+  pub reads : slice_index plan.readers 0 ≡ channel
 
 later : (p : Plan) (rest : List Plan) (channel : ℕ) → TimedAt rest channel → TimedAt (p ∷ rest) channel
 later p rest channel at = record { place = suc at.place; interval = at.interval; plan = at.plan; here = at.here; ticks = at.ticks; reads = at.reads }
@@ -59,7 +59,7 @@ found-more p rest None is found k c e = later p rest c (found k c e)
 found-more p rest (Some n) is found zero c e = record { place = 0; interval = n; plan = p; here = refl; ticks = is; reads = same_Some (slice_index p.readers 0) c e }
 found-more p rest (Some n) is found (suc k) c e = later p rest c (found k c e)
 
-found : (plans : List Plan) (k c : ℕ) → slice_get (channels (timers_of plans)) k ≡ Some c → TimedAt plans c
+pub found : (plans : List Plan) (k c : ℕ) → slice_get (channels (timers_of plans)) k ≡ Some c → TimedAt plans c
 found [] k c e = absurd (none-some c e)
 found (p ∷ rest) k c e = found-more p rest p.interval refl (found rest) k c e
 

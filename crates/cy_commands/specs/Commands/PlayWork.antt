@@ -11,7 +11,6 @@ use Rattle.cy_msg.specs.declared.play_list.PlayList.{PlayList}
 use Rattle.cy_msg.specs.declared.stop.Stop.{Stop}
 use Rattle.cy_msg.specs.declared.token.Token.{Token}
 use Rattle.cy_section.specs.RecordText.{IsRecordText, record_bytes}
-use Rattle.cy_reader.specs.Play.{IsPlayList}
 use Rattle.cy_sched.specs.Placing.{IsPlaced}
 use Rattle.cy_trace.specs.TraceForm.{IsTraceText}
 use Rattle.cy_trace.specs.TraceText.{trace_text}
@@ -22,7 +21,7 @@ use Rattle.wake_core.specs.Run.{Run, routes_of}
 use Rattle.wake_core.specs.declared.route.Route.{Route}
 use Rattle.wake_core.specs.Serial.{SerialRun}
 use Rattle.cy_replay.specs.declared.error.Refusal.{Refusal}
-use Rattle.cy_replay.specs.Listing.{choice_of}
+use Rattle.cy_replay.specs.Listing.{IsListed}
 use Rattle.cy_writer.specs.RecordWrites.{file_writes, record_puts}
 use Rattle.cy_recording.specs.Recording.{Source, channels_of_tape, messages_of_tape, chunks_of_tape}
 use Rattle.cy_replay.specs.Setup.{Replayed, replay_in}
@@ -79,7 +78,7 @@ pub record IsPlayed (serial : Bool) (read : Replayed) (list : PlayList) (stop : 
 -- files hold them and every other name is as before; and the line with the run's numbers.
 pub record IsPlayWork (w : PlayWords) (read : Replayed) (work : Work) : Type 0 where
   pub list : PlayList
-  pub listed : IsPlayList read.contents (choice_of w.request.filter read.wired) list
+  pub listed : IsListed read.contents w.request.filter read.wired list
   pub contexts : List ContextPlan
   pub placed : IsPlaced read.configured.sched (map (λ c. c.name) read.configured.dag.components)
       contexts

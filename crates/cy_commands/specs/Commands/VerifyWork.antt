@@ -5,7 +5,6 @@ use Rattle.cy_store.specs.Reads.{Reads, Accepts, Refuses, Absent}
 use Rattle.cy_msg.specs.Once.{IsOnce}
 use Rattle.cy_msg.specs.declared.play_list.PlayList.{PlayList}
 use Rattle.cy_comp.specs.Wiring.{IsWiring}
-use Rattle.cy_reader.specs.Play.{IsPlayList}
 use Rattle.wake_core.specs.LawfulRun.{LawfulRun}
 use Rattle.wake_core.specs.Plain.{Plain}
 use Rattle.wake_core.specs.Planned.{planned}
@@ -18,7 +17,7 @@ use Rattle.cy_trace.specs.TraceOfRun.{trace_of_run}
 use Rattle.cy_compare.specs.Compare.{first_difference}
 use Rattle.cy_replay.specs.declared.error.Fault.TheVariants as fault
 use Rattle.cy_replay.specs.declared.error.Refusal.{Refusal}
-use Rattle.cy_replay.specs.Listing.{choice_of, counts_of}
+use Rattle.cy_replay.specs.Listing.{IsListed, counts_of}
 use Rattle.cy_replay.specs.Setup as setup
 use Rattle.cy_replay.specs.Setup.{Replayed}
 use Rattle.cy_replay.specs.Stops.{stop_of}
@@ -33,9 +32,9 @@ abbrev pub IsReadToVerify : PlayWords → Option Files → List ℕ → Type 0
 IsReadToVerify w files name =
     setup.IsAsked w.request files name ⊎ ((name ≡ w.trace) ⊎ (name ≡ w.output))
 
--- How many messages are played on each channel.
+-- How many messages and ticks are played on each channel.
 abbrev pub counts_in : PlayWords → Replayed → List ℕ
-counts_in w read = counts_of read.contents (choice_of w.request.filter read.wired)
+counts_in w read = counts_of read.contents w.request.filter read.wired
 
 -- A world is what a lawful run of the play list over the components has come to, with the stop that
 -- is asked for.
@@ -61,7 +60,7 @@ line_of read list world = lawful_line (length list.tokens) list.shadowed
 -- own, components that are wired over them, no more planned entries than a world keeps, and numbers
 -- and names in every lawful run that a trace can tell.
 pub record IsSetOut (w : PlayWords) (read : Replayed) (list : PlayList) : Type 0 where
-  pub listed : IsPlayList read.contents (choice_of w.request.filter read.wired) list
+  pub listed : IsListed read.contents w.request.filter read.wired list
   pub once : IsOnce read.wired.names
   pub wiring : IsWiring read.wired.names read.wired.plans
   pub many : length (counts_in w read) ≡ length read.wired.names

@@ -9,18 +9,18 @@ use Rattle.cy_replay.specs.declared.error.Refusal.{Refusal}
 use Rattle.cy_replay.specs.declared.setup.Judged.{Judged}
 use Rattle.cy_replay.specs.declared.setup.Replay.{Replay}
 use Rattle.cy_replay.specs.Configuration.{Configured}
-use Rattle.cy_replay.specs.Listing.{choice_of, counts_of, planned_in, played_in}
+use Rattle.cy_replay.specs.Listing.{counts_of, planned_in, played_in}
 use Rattle.cy_replay.specs.Setup.{Replayed, replayed}
 use Rattle.cy_replay.specs.Stops.{stop_in}
 use Rattle.cy_replay.specs.Wiring.{Wired}
 
--- What is judged behind a wiring: the component that a stop names, how many messages are played,
--- and how many entries are planned.
+-- What is judged behind a wiring: the component that a stop names, how many messages and ticks are
+-- played, and how many entries are planned.
 abbrev pub judged_over : List ℕ → Request → Configured → Contents → Wired → Reads Refusal Replayed
 judged_over file r configured contents wired = do
   found ← stop_in file r.stop wired
-  played ← played_in r.input contents (choice_of r.filter wired)
-  planned ← planned_in r.input wired (counts_of contents (choice_of r.filter wired))
+  played ← played_in r.input contents r.filter wired
+  planned ← planned_in r.input wired (counts_of contents r.filter wired)
   Accepts record { configured = configured; contents = contents; wired = wired }
 
 -- A replay, with what was judged of its configuration and its record over its wiring.

@@ -62,6 +62,17 @@ fn tells_components_contexts_and_unknown_fields(rt: HostRuntime) -> Result<(), F
             context \"default_grp\" processors 2 order \"s\\n\" \"t\"\nunknown d.dag depth\n\
             unknown s.conf scheduler_conf.depth\nok\n",
         ),
+        (
+            "module_config { timer_components { class_name: \"CountComponent\" \
+            config { name: \"t\" config_file_path: \"t\" interval: 20 } } components { \
+            class_name: \"PassComponent\" config { name: \"p\" config_file_path: \"p.conf\" \
+            readers { channel: \"@timer/t\" } } } }",
+            &["out: \"/o\"", "out: \"/\\n\" on_overflow: OLDEST"],
+            "component \"p\" class PassComponent reads \"@timer/t\" queue 1 writes \"/o\"\n\
+            timer \"t\" class CountComponent every 20 ms writes \"/\\n\"\n\
+            context \"default_grp\" processors 2 order \"p\" \"t\"\n\
+            unknown s.conf scheduler_conf.depth\nok\n",
+        ),
     ] {
         let text = told(&rt, dag, files)?;
         assert_eq!(rt; text.as_str(), want);

@@ -9,7 +9,6 @@ fn name_of(error: &DagError) -> &'static str {
     match error {
         DagError::Shape { .. } => "Shape",
         DagError::NoComponents => "NoComponents",
-        DagError::Timers { .. } => "Timers",
         DagError::TooMany { .. } => "TooMany",
         DagError::Missing { .. } => "Missing",
         DagError::NameTwice { .. } => "NameTwice",
@@ -20,7 +19,9 @@ fn name_of(error: &DagError) -> &'static str {
         DagError::TooFewReaders { .. } => "TooFewReaders",
         DagError::NotOverflow { .. } => "NotOverflow",
         DagError::NotWhole { .. } => "NotWhole",
+        DagError::ZeroInterval { .. } => "ZeroInterval",
         DagError::TwoWriters { .. } => "TwoWriters",
+        DagError::TimerWritten { .. } => "TimerWritten",
         DagError::TriggerCycle { .. } => "TriggerCycle",
         DagError::TooManyChannels { .. } => "TooManyChannels",
         DagError::Memory => "Memory",
@@ -30,20 +31,20 @@ fn name_of(error: &DagError) -> &'static str {
 // Its first number and its second.
 fn numbers_of(error: &DagError) -> (Option<u32>, Option<u32>) {
     match error {
-        DagError::Timers { count }
-        | DagError::TooMany { count }
-        | DagError::TooManyChannels { count } => (Some(*count), None),
+        DagError::TooMany { count } | DagError::TooManyChannels { count } => (Some(*count), None),
         DagError::Missing { component, .. }
         | DagError::UnknownClass { component }
         | DagError::NoReader { component }
         | DagError::ReaderTwice { component, .. }
         | DagError::NotOverflow { component }
+        | DagError::ZeroInterval { component }
         | DagError::NotWhole { component, .. } => (Some(*component), None),
         DagError::TooManyReaders { component, count }
         | DagError::TooFewReaders { component, count } => (Some(*component), Some(*count)),
         DagError::NameTwice { first, second } | DagError::TwoWriters { first, second } => {
             (Some(*first), Some(*second))
         }
+        DagError::TimerWritten { component, timer } => (Some(*component), Some(*timer)),
         _ => (None, None),
     }
 }
@@ -108,6 +109,9 @@ fn told(rt: &HostRuntime, text: &str) -> Result<String, Fail> {
                 reader.queue
             )?.as_str())?;
         }
+        if let Some(interval) = component.interval {
+            line.push_str(format!(in rt.alloc(); " every {interval}")?.as_str())?;
+        }
         line.push_str("; ")?;
     }
     for path in dag.unknown.as_slice() {
@@ -150,7 +154,7 @@ fn reads_and_refuses_dags(rt: HostRuntime) -> Result<(), Fail> {
             "components { class_name: 3 } timer_components { }",
             "Shape module_config[0].components[0].class_name",
         ),
-        ("components { } timer_components { }", "Timers 1"),
+        ("components { } timer_components { }", "Missing 0 name"),
         ("components { }", "Missing 0 name"),
         ("components { config { name: \"\" } }", "Missing 0 name"),
         (
@@ -210,7 +214,9 @@ fn refuses_the_sixty_fifth_component(rt: HostRuntime) -> Result<(), Fail> {
     for (count, more, want) in [
         (64, "", "Missing 0 name"),
         (65, "", "TooMany 65"),
-        (65, "timer_components { } ", "Timers 1"),
+        (63, "timer_components { } ", "Missing 0 name"),
+        (64, "timer_components { } ", "TooMany 65"),
+        (0, "timer_components [ {}, {} ] ", "Missing 0 name"),
     ] {
         let mut text = String::from_str(rt.alloc(), "module_config { ")?;
         for _ in 0..count {
@@ -220,6 +226,73 @@ fn refuses_the_sixty_fifth_component(rt: HostRuntime) -> Result<(), Fail> {
         text.push_str("}")?;
         let line = told(&rt, text.as_str())?;
         assert_eq!(rt; line.as_str(), want);
+    }
+    Ok(())
+}
+
+// Timer components stand behind all components, and each is tested behind all of them.
+#[test]
+fn reads_and_refuses_timer_components(rt: HostRuntime) -> Result<(), Fail> {
+    for (components, want) in [
+        (
+            "timer_components { class_name: \"CountComponent\" config { name: \"t\" \
+            config_file_path: \"t.conf\" interval: 5 readers { channel: \"/x\" } } } \
+            components { class_name: \"PassComponent\" config { name: \"p\" \
+            config_file_path: \"p.conf\" interval: 0 readers { channel: \"@timer/t\" } } }",
+            "p PassComponent p.conf: @timer/t 1; t CountComponent t.conf: @timer/t 1 every 5; \
+            module_config[0].timer_components[0].config.readers \
+            module_config[0].components[0].config.interval ",
+        ),
+        (
+            "timer_components { class_name: \"HoldComponent\" config { name: \"t\" \
+            config_file_path: \"f\" interval: 0 interval: 4294967295 } }",
+            "t HoldComponent f: @timer/t 1 every 4294967295; ",
+        ),
+        (
+            "timer_components { config { interval: 4294967296 } }",
+            "Shape module_config[0].timer_components[0].config.interval",
+        ),
+        (
+            "timer_components { class_name: \"Foo\" config { interval: 0 } }",
+            "Missing 0 name",
+        ),
+        (
+            "components { class_name: \"PassComponent\" config { name: \"a\" \
+            config_file_path: \"f\" readers { channel: \"/x\" } } } \
+            timer_components { class_name: \"Foo\" config { name: \"a\" } }",
+            "NameTwice 0 1",
+        ),
+        (
+            "timer_components { class_name: \"Foo\" config { name: \"a\" } }",
+            "UnknownClass 0",
+        ),
+        (
+            "timer_components { class_name: \"SelectComponent\" config { name: \"a\" } }",
+            "TooFewReaders 0 1",
+        ),
+        (
+            "timer_components { class_name: \"PassComponent\" config { name: \"a\" } }",
+            "Missing 0 config_file_path",
+        ),
+        (
+            "timer_components { class_name: \"PassComponent\" config { name: \"a\" \
+            config_file_path: \"f\" } }",
+            "Missing 0 interval",
+        ),
+        (
+            "timer_components { class_name: \"PassComponent\" config { name: \"a\" \
+            config_file_path: \"f\" interval: 0 } }",
+            "ZeroInterval 0",
+        ),
+        (
+            "timer_components { class_name: \"PassComponent\" config { name: \"a\" \
+            config_file_path: \"f\" interval: 1 } } components { }",
+            "Missing 0 name",
+        ),
+    ] {
+        let text = dag(&rt, components)?;
+        let line = told(&rt, text.as_str())?;
+        assert_eq!(rt; line.as_str(), want, "{components}");
     }
     Ok(())
 }

@@ -54,6 +54,9 @@ fn line_of(rt: &HostRuntime, wiring: &Wiring) -> Result<String, Fail> {
         if plan.overflow == Overflow::Oldest {
             line.push_str(" OLDEST")?;
         }
+        if let Some(interval) = plan.interval {
+            line.push_str(format!(in rt.alloc(); " every {interval}")?.as_str())?;
+        }
     }
     Ok(line)
 }
@@ -108,6 +111,54 @@ fn numbers_channels_as_they_are_mentioned(rt: HostRuntime) -> Result<(), Fail> {
         line.as_str(),
         "/a /b /x /y /c /z | a 1: 1 2 to 3 T| b 1: 2 4 to 5  OLDEST"
     );
+    Ok(())
+}
+
+// A timer component of a name that counts its ticks.
+fn counts(rt: &HostRuntime, name: &str) -> Result<String, Fail> {
+    Ok(format!(in rt.alloc();
+        "timer_components {{ class_name: \"CountComponent\" config {{ name: \"{name}\" \
+        config_file_path: \"f\" interval: 7 }} }} "
+    )?)
+}
+
+// A component of the name `a` reads these, and behind it the timer components `t` and `u` stand.
+#[test]
+fn wires_timers_to_ticks_of_their_own(rt: HostRuntime) -> Result<(), Fail> {
+    for (first, files, want) in [
+        (
+            &["@timer/u", "/o"] as &[&str],
+            ["out: \"/x\"", "out: \"/o\"", "out: \"@timer/\""],
+            "@timer/u /o /x @timer/t @timer/ | a 1: 0 1 to 2 | t 1: 3 to 1  every 7\
+            | u 1: 0 to 4  every 7",
+        ),
+        (
+            &["/x"],
+            ["out: \"/x\"", "out: \"@timer/u\"", "out: \"@timer/t\""],
+            "TimerWritten 1 2",
+        ),
+        (
+            &["/x"],
+            ["out: \"@timer/t\"", "out: \"/o\"", "out: \"@timer/t\""],
+            "TwoWriters 0 2",
+        ),
+        (
+            &["/x"],
+            ["out: \"/x\"", "out: \"/y\"", "out: \"@timer/u\""],
+            "TimerWritten 2 2",
+        ),
+        (
+            &["/x"],
+            ["out: \"/x\"", "out: \"/y\"", "out: \"@timer/a\""],
+            "TriggerCycle 0",
+        ),
+    ] {
+        let mut components = counts(&rt, "t")?;
+        components.push_str(sums(&rt, "a", first)?.as_str())?;
+        components.push_str(counts(&rt, "u")?.as_str())?;
+        let line = wired(&rt, components.as_str(), &files, &[])?;
+        assert_eq!(rt; line.as_str(), want);
+    }
     Ok(())
 }
 

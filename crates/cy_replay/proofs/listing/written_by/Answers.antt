@@ -1,7 +1,8 @@
-use Rattle.std.proofs.Common.{map, ap, refl, ◌∙◌}
+use Rattle.std.proofs.Common.{List, ℕ, ◌++◌, map, ap, refl, ◌∙◌}
 use Rattle.std.proofs.lemmas.List.{take_all}
 use Rattle.cy_comp.specs.declared.plan.Plan.{Plan}
 use Rattle.cy_config.proofs.Loops.{pushed_more}
+use Rattle.cy_timer.specs.declared.timer.Timer.{Timer}
 use Rattle.cy_replay.proofs.listing.written_by.Goals as goal
 
 pub loop-plan-preserved : goal.loop-plan-preserved
@@ -11,5 +12,7 @@ loop-plan-preserved c =
 
 pub returns : goal.returns
 returns c =
-    c.new.ensures ∙ c.loop-plan.invariant ∙ ap (map (λ (p : Plan). p.out)) (take_all c.loop-plan.plan-index c.as_slice-plans.result.now c.loop-plan-test.false)
-    ∙ ap (map (λ (p : Plan). p.out)) c.as_slice-plans.ensures
+    let outs = c.loop-plan.invariant ∙ ap (map (λ (p : Plan). p.out)) (take_all c.loop-plan.plan-index c.as_slice-plans.result.now c.loop-plan-test.false)
+    ∙ ap (map (λ (p : Plan). p.out)) c.as_slice-plans.ensures in
+    c.new.ensures ∙ c.in_ok-push_channels.ensures ∙ ap (λ (ns : List ℕ). ns ++ map (λ (t : Timer). t.channel) c.args.timers.now) outs
+    ∙ ap (λ (ts : List Timer). map (λ (p : Plan). p.out) c.args.wiring.now.plans ++ map (λ (t : Timer). t.channel) ts) c.requires

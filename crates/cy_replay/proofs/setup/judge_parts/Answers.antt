@@ -1,17 +1,16 @@
-use Rattle.std.proofs.Common.{◌∙◌, ap, length, refl, sym}
+use Rattle.std.proofs.Common.{◌∙◌, ap, arith, length, refl, sym}
 use Rattle.std.proofs.lemmas.Result.{err_from_is_err_and}
 use Rattle.cy_replay.specs.private.Judged.{judged_as}
-use Rattle.cy_replay.specs.Listing.{choice_of}
 use Rattle.cy_request.specs.Request.{request_of}
 use Rattle.cy_replay.specs.Stops.{stop_of}
 use Rattle.cy_replay.specs.Wiring.{wired_by}
 use Rattle.cy_replay.proofs.Judging.{judges_memory, passed_on}
-use Rattle.cy_replay.proofs.Playable.{all_below}
-use Rattle.cy_replay.proofs.Setting.{channels_named, some_names, as_many, counted, stop_stops, list_stops, planned_stops, all_judged, played_few, planned_few, is_set_up}
+use Rattle.cy_replay.proofs.Listed.{listed_below}
+use Rattle.cy_replay.proofs.Setting.{channels_named, some_names, as_many, counted, stop_stops, list_stops, planned_stops, all_judged, planned_few, is_set_up}
 use Rattle.cy_replay.proofs.setup.judge_parts.Goals as goal
 
-pub list_messages-requires : goal.list_messages-requires
-list_messages-requires c = channels_named c.args.file.now (request_of c.args.request.now) c.args.configuration.now c.args.recorded.now c.args.wiring.now c.requires.wired
+pub list_all-requires : goal.list_all-requires
+list_all-requires c = channels_named c.args.file.now (request_of c.args.request.now) c.args.configuration.now c.args.recorded.now c.args.wiring.now c.requires.wired
 
 pub returns-in_err-test_stop-clause-judged : goal.returns-in_err-test_stop-clause-judged
 returns-in_err-test_stop-clause-judged c =
@@ -30,11 +29,11 @@ returns-in_err-list-clause-judged c =
 pub counts_of-requires-clause-named : goal.counts_of-requires-clause-named
 counts_of-requires-clause-named c =
     let some = some_names c.args.file.now (request_of c.args.request.now) c.args.configuration.now c.args.recorded.now c.args.wiring.now c.requires.wired in
-    rw (c.as_slice.ensures, c.count.ensures.count) (all_below c.args.recorded.now _ c.in_ok-list.list c.in_ok-list.ensures.listed some)
+    let w = c.args.wiring.now in
+    rw (c.as_slice.ensures, c.count.ensures.count) (listed_below c.args.recorded.now c.args.request.now.filter.now (wired_by w) w.lawful c.in_ok-list.list c.in_ok-list.ensures.listed some)
 
 pub counts_of-requires-clause-few : goal.counts_of-requires-clause-few
-counts_of-requires-clause-few c =
-    rw c.as_slice.ensures (played_few c.args.request.now.input.now c.args.recorded.now (choice_of c.args.request.now.filter.now (wired_by c.args.wiring.now)) c.in_ok-list.list c.in_ok-list.ensures.listed c.in_ok-list.ensures.judged)
+counts_of-requires-clause-few c = rw c.as_slice.ensures (let few = c.in_ok-list.ensures.few in omega (arith, few))
 
 pub returns-in_err-counts-clause-judged : goal.returns-in_err-counts-clause-judged
 returns-in_err-counts-clause-judged c =
@@ -62,7 +61,7 @@ returns-in_err-placement-clause-judged c =
 
 pub stop_of-stop-requires : goal.stop_of-stop-requires
 stop_of-stop-requires c =
-    rw c.as_slice-2.ensures (played_few c.args.request.now.input.now c.args.recorded.now (choice_of c.args.request.now.filter.now (wired_by c.args.wiring.now)) c.in_ok-list.list c.in_ok-list.ensures.listed c.in_ok-list.ensures.judged)
+    rw c.as_slice-2.ensures (let few = c.in_ok-list.ensures.few in omega (arith, few))
 
 pub returns-clause-judged : goal.returns-clause-judged
 returns-clause-judged c =

@@ -3,9 +3,6 @@ use Rattle.cy_dag.proofs.error.DagError.push_to.Goals as goal
 pub returns-in-Shape : goal.returns-in-Shape
 returns-in-Shape c = rw c.in-Shape.is c.push_named.ensures
 
-pub returns-in-Timers : goal.returns-in-Timers
-returns-in-Timers c = rw c.in-Timers.is c.push_one.ensures
-
 pub returns-in-TooMany : goal.returns-in-TooMany
 returns-in-TooMany c = rw c.in-TooMany.is (rw c.from.ensures at c.push_limit.ensures)
 
@@ -16,7 +13,7 @@ pub returns-in-NameTwice : goal.returns-in-NameTwice
 returns-in-NameTwice c = rw c.in-NameTwice.is c.push_two.ensures
 
 pub returns-in-UnknownClass : goal.returns-in-UnknownClass
-returns-in-UnknownClass c = rw c.in-UnknownClass.is c.push_one-in-UnknownClass.ensures
+returns-in-UnknownClass c = rw c.in-UnknownClass.is c.push_one.ensures
 
 pub returns-in-NoReader : goal.returns-in-NoReader
 returns-in-NoReader c = rw c.in-NoReader.is c.push_one-in-NoReader.ensures
@@ -36,8 +33,14 @@ returns-in-NotOverflow c = rw c.in-NotOverflow.is c.push_one-in-NotOverflow.ensu
 pub returns-in-NotWhole : goal.returns-in-NotWhole
 returns-in-NotWhole c = rw c.in-NotWhole.is c.push_of-in-NotWhole.ensures
 
+pub returns-in-ZeroInterval : goal.returns-in-ZeroInterval
+returns-in-ZeroInterval c = rw c.in-ZeroInterval.is c.push_one-in-ZeroInterval.ensures
+
 pub returns-in-TwoWriters : goal.returns-in-TwoWriters
 returns-in-TwoWriters c = rw c.in-TwoWriters.is c.push_two-in-TwoWriters.ensures
+
+pub returns-in-TimerWritten : goal.returns-in-TimerWritten
+returns-in-TimerWritten c = rw c.in-TimerWritten.is c.push_two-in-TimerWritten.ensures
 
 pub returns-in-TriggerCycle : goal.returns-in-TriggerCycle
 returns-in-TriggerCycle c = rw c.in-TriggerCycle.is (rw c.as_slice.ensures at c.push_numbers.ensures)
