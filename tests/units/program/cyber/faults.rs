@@ -118,18 +118,19 @@ fn kept_of(piece: usize) -> [usize; 4] {
     [0, 1, size / 2, size]
 }
 
-// What is read of the record of which this piece kept so many bytes: how many messages it has, or
-// its fault. The index is not read, but its head is.
-fn read_of(piece: usize, keep: usize) -> Result<u32, LoadError> {
+// How many channels and messages a record has of which so many pieces are whole.
+const READ: [(u32, u32); 7] = [(0, 0), (0, 0), (1, 0), (2, 0), (2, 0), (2, 2), (2, 2)];
+
+// What is read of the record of which this piece kept so many bytes: how many channels and messages
+// it has, or its fault. The index is not read, but its head is.
+fn read_of(piece: usize, keep: usize) -> Result<(u32, u32), LoadError> {
     let at = ENDS[piece] as u64;
     match (piece, keep) {
         (0, 0..=15) => Err(LoadError::NotRecord),
         (0, 16..=2063) => Err(LoadError::Section(SectionError::Cut { at: 0 })),
-        (0..=3, 0) | (0, _) => Ok(0),
-        (1..=4, _) if keep == ENDS[piece + 1] - ENDS[piece] => Ok(if piece == 4 { 2 } else { 0 }),
-        (4, 0) => Ok(0),
-        (5, 0) | (6, _) => Ok(2),
-        (5, 16..) => Ok(2),
+        (0, _) => Ok(READ[1]),
+        (6, _) | (1..=5, 0) | (5, 16..) => Ok(READ[piece]),
+        (1..=4, _) if keep == ENDS[piece + 1] - ENDS[piece] => Ok(READ[piece + 1]),
         _ => Err(LoadError::Section(SectionError::Cut { at })),
     }
 }
@@ -140,7 +141,8 @@ fn reads_what_a_piece_left_that_failed(rt: HostRuntime) -> Result<(), Fail> {
     for piece in 0..ENDS.len() {
         for keep in kept_of(piece) {
             let mut store = failing_at(&rt, alloc, FIRST_PUT + piece, keep)?.store;
-            let read = load(&rt, alloc, &mut store, "out.rec").map(|record| record.messages());
+            let read = load(&rt, alloc, &mut store, "out.rec")
+                .map(|record| (record.channels(), record.messages()));
             assert_eq!(rt; read, read_of(piece, keep), "{piece} {keep}");
         }
     }

@@ -10,7 +10,7 @@ use Rattle.cy_reader.proofs.Salvaging.{salvage_wrong, salvage_met}
 use Rattle.cy_reader.proofs.salvage.salvaged_of.Goals as goal
 
 pub returns-in_err-bodies-clause-salvaged : goal.returns-in_err-bodies-clause-salvaged
-returns-in_err-bodies-clause-salvaged c =
+returns-in_err-bodies-clause-salvaged g c =
     let p = err_from_is_err_and c.from_residual-in_err-bodies.result c.from_residual-in_err-bodies.ensures.1 in
     let sound : AreSound c.args.cut.parts.items c.in_ok-count.count (fault_in c.args.cut.end) =
     subst (λ (ps : List Part). AreSound ps c.in_ok-count.count (fault_in c.args.cut.end)) c.deref.ensures.value (c.in_ok-count.ensures.sound (fault_in c.args.cut.end)) in
@@ -20,7 +20,7 @@ returns-in_err-bodies-clause-salvaged c =
     ])
 
 pub returns-clause-salvaged : goal.returns-clause-salvaged
-returns-clause-salvaged c =
+returns-clause-salvaged g c =
     let sound : AreSound c.args.cut.parts.items c.in_ok-count.count (fault_in c.args.cut.end) =
     subst (λ (ps : List Part). AreSound ps c.in_ok-count.count (fault_in c.args.cut.end)) c.deref.ensures.value (c.in_ok-count.ensures.sound (fault_in c.args.cut.end)) in
     salvage_met c.args.size c.args.cut c.in_ok-count.count c.dropped_behind-dropped.result c.is_whole-are_all.result c.truncate.new.self.items sound _
