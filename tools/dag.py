@@ -167,5 +167,7 @@ def read_components(path):
 
 
 def forms_of_outs(components):
-    """By the channel of each component the type and description that a record has for it."""
-    return {it.out: (it.out_type, b"") for it in components}
+    """By the channel of each component, and by that of the ticks of each timer component, the type and description that a record has
+    for it: ticks have neither."""
+    ticks = {it.readers[0]: (b"", b"") for it in components if it.interval}
+    return ticks | {it.out: (it.out_type, b"") for it in components}
