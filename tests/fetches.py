@@ -3,8 +3,8 @@
 
     fetches.py TRACE CHECK
 
-CHECK is what `cyber check` prints for the DAG file: it has the queue of each component, and its overflow where that is OLDEST. What is
-wrong is printed, and the status is 1 then.
+CHECK is what `cyber check` prints for the DAG file: it has the queue of each component, and its overflow where that is OLDEST. A timer
+component has a queue of 1. What is wrong is printed, and the status is 1 then.
 """
 import os
 import re
@@ -14,13 +14,16 @@ sys.path.insert(0, os.path.join(os.path.dirname(os.path.abspath(__file__)), ".."
 from trace import read_trace, unquoted
 
 COMPONENT = re.compile(rb'component "((?:[^"\\]|\\.)*)" .* queue (\d+) writes "(?:[^"\\]|\\.)*"( overflow OLDEST)?\n')
+TIMER = re.compile(rb'timer "((?:[^"\\]|\\.)*)" .* every \d+ ms writes "(?:[^"\\]|\\.)*"\n')
 
 
 def queues_of(path):
     """By the name of each component, its queue and its overflow."""
     with open(path, "rb") as file:
-        found = [match for match in map(COMPONENT.fullmatch, file) if match]
-    return {unquoted(it[1]): (int(it[2]), "OLDEST" if it[3] else "NEWEST") for it in found}
+        lines = list(file)
+    found = [match for match in map(COMPONENT.fullmatch, lines) if match]
+    queues = {unquoted(it[1]): (int(it[2]), "OLDEST" if it[3] else "NEWEST") for it in found}
+    return queues | {unquoted(it[1]): (1, "NEWEST") for it in map(TIMER.fullmatch, lines) if it}
 
 
 def fetched(index, tail, queue, overflow):

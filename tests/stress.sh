@@ -4,9 +4,9 @@
 # differs, its trace has the form of a trace, both have the counts of its line, tests/fetches.py finds that its calls go by the fetch
 # rule, and `verify` finds that they are those of a lawful run. Each of these twelve kinds is played with a stop too, in the midst of its record; then tests/obeys.py looks at how the components
 # end, and at the calls of the one that was stopped. And each is played with components that go on at the oldest tuple, with a stop and
-# without. Last the files of `make 100000` are played on four processors, of which the machine lends one, two and four, and verified.
+# without. So is the drive with a timer beside it, at the newest tuple. Last the files of `make 100000` are played on four processors, of which the machine lends one, two and four, and verified.
 # The gate doesn't run it.
-# Usage: tests/stress.sh [COUNT [PROGRAM]]: so many plays of each of the 48 kinds, 1000 where nothing is said.
+# Usage: tests/stress.sh [COUNT [PROGRAM]]: so many plays of each of the 60 kinds, 1000 where nothing is said.
 set -euo pipefail
 top=$(cd "$(dirname "$0")/.." && pwd)
 count=${1:-1000}
@@ -144,6 +144,7 @@ made_dags=("$work/made/made.dag" "$work/made.oldest/dag")
 drive_dags=("$top/examples/drive/drive.dag" "$work/drive.oldest/dag")
 made=(3000 "$work/made/made.record")
 drive=(3205 "$top/examples/drive/drive.rec")
+beats=("$top/examples/drive/heartbeat.dag" heartbeat@1700000010000000000 3224 "$top/examples/drive/drive.rec")
 made_stops=([1]=adder [2]=band [4]=late)
 drive_stops=([1]=margin [2]=late [4]=smooth)
 for processors in 1 2 4; do
@@ -152,10 +153,13 @@ for processors in 1 2 4; do
   classic "$processors" >sched
   plays_all "made, $processors sharing" "${made_dags[@]}" "$made_stop" "${made[@]}"
   plays_all "drive, $processors sharing" "${drive_dags[@]}" "$drive_stop" "${drive[@]}"
+  plays_both "heartbeat, $processors sharing" "${beats[@]}"
   pinned "$processors" adder band last8 late >sched
   plays_all "made, $processors pinned" "${made_dags[@]}" "$made_stop" "${made[@]}"
   pinned "$processors" smooth margin limit late frames >sched
   plays_all "drive, $processors pinned" "${drive_dags[@]}" "$drive_stop" "${drive[@]}"
+  pinned "$processors" heartbeat sampled >sched
+  plays_both "heartbeat, $processors pinned" "${beats[@]}"
 done
 # The DAG file has the names of its component files as `make` was given them.
 "$program" make 100000 "$work/many" >/dev/null
