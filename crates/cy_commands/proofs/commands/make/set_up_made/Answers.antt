@@ -1,4 +1,4 @@
-use Rattle.std.proofs.Common.{ap}
+use Rattle.std.proofs.Common.{ap, rules}
 use Rattle.cy_store.specs.Memory.{Memory, shows_of}
 use Rattle.cy_words.specs.PlayViews.{play_words_of}
 use Rattle.cy_words.specs.Views.{make_words_of}
@@ -6,7 +6,7 @@ use Rattle.cy_commands.proofs.MakeExits.{made, has_reader}
 use Rattle.cy_commands.proofs.commands.make.set_up_made.Goals as goal
 
 pub read_files-replay-requires : goal.read_files-replay-requires
-read_files-replay-requires g c = has_reader (make_words_of c.args.make.now) (play_words_of c.args.play.now) c.requires.play
+read_files-replay-requires g c = (search rules, has_reader (make_words_of c.args.make.now) (play_words_of c.args.play.now) c.requires.play)
 
 pub returns-in-Ok-replay-clause-made : goal.returns-in-Ok-replay-clause-made
 returns-in-Ok-replay-clause-made g c =
