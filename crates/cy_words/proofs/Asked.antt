@@ -5,7 +5,7 @@ use Rattle.cy_words.specs.declared.words.Command as code
 use Rattle.cy_words.specs.Asking.{IsSomeAsked}
 use Rattle.cy_words.specs.Command.{Command, Play, AskForOne, Asks, AsksStill, Form, IsAsked, IsOnlyAsked, IsStill, form_of}
 use Rattle.cy_words.specs.Options.{Options}
-use Rattle.cy_words.specs.PlayWords.{◌>>=◌}
+use Rattle.cy_words.specs.FilterWords.{◌>>=◌}
 use Rattle.cy_words.specs.private.Scan.{command_of, options_met, still_command_of, still_one}
 use Rattle.cy_words.specs.Views.{command_asked}
 use Rattle.cy_words.proofs.ClapProgram.{names_of_form}

@@ -5,7 +5,7 @@ use Rattle.std.proofs.lemmas.List.Elements.{All-nil, All-more}
 use Rattle.std.proofs.lemmas.List.Splits.{slice_split_none, slice_split_at}
 use Rattle.std.proofs.lemmas.Str.{IsCharBoundary-after_ascii, IsCharBoundary-before_ascii}
 use Rattle.std.specs.Str.{IsUtf8, IsCharBoundary}
-use Rattle.cy_words.specs.PlayWords.{names_in}
+use Rattle.cy_words.specs.FilterWords.{names_in}
 
 -- what stands from a place on, before another one
 abbrev pub part_at : List ℕ → ℕ → ℕ → List ℕ

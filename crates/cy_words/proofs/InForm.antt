@@ -11,11 +11,14 @@ use Rattle.cy_request.specs.Request.{HasReader, OfPass}
 use Rattle.cy_words.specs.declared.words.Command as code
 use Rattle.cy_words.specs.declared.words.Command.TheVariants as asked
 use Rattle.cy_words.specs.CheckWords.{check_asked}
-use Rattle.cy_words.specs.Command.{Asks, Check, Command, Form, Info, Make, Play, Verify, form_of, forms, info_asked}
+use Rattle.cy_words.specs.Command.{Asks, Check, Command, Form, Info, Make, Play, Recover, Split, Verify, form_of, forms, info_asked}
+use Rattle.cy_words.specs.FilterWords.{◌>>=◌, filter_asked, spelled_number}
 use Rattle.cy_words.specs.MakeWords.{MakeWords, count_of, longest_prefix, made_by, make_asked, most_made, where_made}
 use Rattle.cy_words.specs.Options.{Alone, Apart, AreOptions, Filled, Given, Joined, Known, Options, Place, is_known, is_place, kind_of, name_in, value_in, values_under}
 use Rattle.cy_words.specs.PassWords.{pass_asked, pass_known, passed_by}
-use Rattle.cy_words.specs.PlayWords.{PlayWords, are_lists, is_play, play_asked, play_given, play_of_all, play_words, spelled_number, where_play, ◌>>=◌}
+use Rattle.cy_words.specs.PlayWords.{PlayWords, is_play, play_asked, play_given, play_of_all, where_play}
+use Rattle.cy_words.specs.RecoverWords.{RecoverWords, apart_from, recover_asked}
+use Rattle.cy_words.specs.SplitWords.{SplitWords, split_asked}
 use Rattle.cy_words.specs.VerifyWords.{is_apart, verify_asked, where_apart}
 use Rattle.cy_words.specs.private.Scan.{command_of}
 use Rattle.cy_words.specs.Views.{IsInForm, command_asked}
@@ -53,6 +56,8 @@ placed_word known words o name v p is e = first_word known p.given name v [] p.a
 abbrev pub IsFit : Command → Type 0
 IsFit (Play w) = HasReader w.request.components × (w.output ≡ w.trace → ⊥)
 IsFit (Verify w) = HasReader w.request.components
+IsFit (Recover w) = w.input ≡ w.output → ⊥
+IsFit (Split w) = w.input ≡ w.output → ⊥
 IsFit (Make w) = (0 < w.count) × (w.count ≤ most_made) × (length w.prefix ≤ longest_prefix)
 IsFit c = ⊤
 
@@ -83,12 +88,12 @@ bound_holds : {A : Type 0} (x : Option A) (f : A → Option PlayWords) → ((a :
 bound_holds None f h = tt
 bound_holds (Some a) f h = h a
 
-play_reader : (o : Options) → IfSome (play_words o) ReaderOf
+play_reader : (o : Options) → IfSome (play_given o) ReaderOf
+unfolding play_given
 play_reader o = search bound_holds depth 12
 
 given_fit : (o : Options) (w : PlayWords) → play_given o ≡ Some w → ReaderOf w
-unfolding play_given
-given_fit o w e = subst (λ (x : Option PlayWords). IfSome x ReaderOf) (guarded (are_lists o) (play_words o) w e).1 (play_reader o)
+given_fit o w e = subst (λ (x : Option PlayWords). IfSome x ReaderOf) e (play_reader o)
 
 play_fit : (o : Options) (w : PlayWords) → play_asked o ≡ Some w → IsFit (Play w)
 unfolding play_asked
@@ -135,6 +140,26 @@ make_fit o w e =
     let short : length prefix.0 ≤ longest_prefix = grind (arith, s.0) in
     subst (λ (x : MakeWords). IsFit (Make x)) m.2 (range.0, range.1, short)
 
+differ : (input output : Text) (w : RecoverWords) → apart_from input output ≡ Some w → w.input ≡ w.output → ⊥
+differ input output w e =
+    let u = unguarded (bytes_eq input output) (Some record { input = input; output = output }) w e in
+    subst (λ (x : RecoverWords). x.input ≡ x.output → ⊥) (some_same (record { input = input; output = output }) w u.1)
+    (λ same. true≢false (sym ((bytes_eq-Decides input output).1 same) ∙ u.0))
+
+recover_fit : (o : Options) (w : RecoverWords) → recover_asked o ≡ Some w → IsFit (Recover w)
+unfolding recover_asked
+recover_fit o w e =
+    let input = bound (o (codes "in")) _ w e in
+    let output = bound (o (codes "out")) (apart_from input.0) w input.2 in
+    differ input.0 output.0 w output.2
+
+split_fit : (o : Options) (w : SplitWords) → split_asked o ≡ Some w → IsFit (Split w)
+unfolding split_asked
+split_fit o w e =
+    let files = bound (recover_asked o) _ w e in
+    let filter = bound (filter_asked o) _ w files.2 in
+    subst (λ (x : SplitWords). IsFit (Split x)) (some_same _ w filter.2) (recover_fit o files.0 files.1)
+
 abbrev EachFits : List Form → Type 0
 EachFits [] = ⊤
 EachFits (f ∷ fs) = Fits f × EachFits fs
@@ -150,7 +175,13 @@ each_fits = (
         λ words o c p. fit_by (info_asked o) Info c (λ w e. tt),
         (
           λ words o c p. fit_by (make_asked o) Make c (make_fit o),
-          (λ words o c p. fit_by (verify_asked o) Verify c (verify_fit o), tt),
+          (
+            λ words o c p. fit_by (verify_asked o) Verify c (verify_fit o),
+            (
+              λ words o c p. fit_by (recover_asked o) Recover c (recover_fit o),
+              (λ words o c p. fit_by (split_asked o) Split c (split_fit o), tt),
+            ),
+          ),
         ),
       ),
     ),
@@ -172,6 +203,12 @@ asked_fits (name ∷ words) c h = found_fits forms name h.0 h.1 each_fits words 
 
 pub play_files_apart : (words : List Text) (w : PlayWords) → Asks words (Play w) → w.output ≡ w.trace → ⊥
 play_files_apart words w h = (asked_fits words (Play w) h).1
+
+pub recover_files_apart : (words : List Text) (w : RecoverWords) → Asks words (Recover w) → w.input ≡ w.output → ⊥
+recover_files_apart words w h = asked_fits words (Recover w) h
+
+pub split_files_apart : (words : List Text) (w : SplitWords) → Asks words (Split w) → w.input ≡ w.output → ⊥
+split_files_apart words w h = asked_fits words (Split w) h
 
 -- the same of the code's command
 in_form_by : (c : code.Command) → IsFit (command_asked c) → IsInForm c

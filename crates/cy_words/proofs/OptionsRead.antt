@@ -1,6 +1,7 @@
 -- The scan of words finds what they give.
 use Rattle.std.proofs.Common.{◌≡◌, ◌<◌, ◌⊎◌, ◌+◌, ◌==◌, ◌&&◌, ℕ, List, [], ◌∷◌, ◌++◌, Bool, true, false, not, Option, Some, None, is_some, if◌then◌else◌, cond, refl, sym, ap, ◌∙◌, subst, inl, inr, true≢false}
 use Rattle.std.proofs.Common.{length, take, drop, get_or, position, flat_map, option_map, option_to_list, bytes_eq, arith, append_assoc, append-nil}
+use Rattle.std.specs.Bool.{⊤}
 use Rattle.std.specs.List.{find, list_all, position_or_len}
 use Rattle.std.specs.Borrow.{Bor}
 use Rattle.std.specs.Option.{MatchOption}
@@ -11,8 +12,8 @@ use Rattle.std.proofs.lemmas.List.Quantifiers.{position-Some}
 use Rattle.std.proofs.lemmas.Slice.Eq.{bytes_eq-Decides}
 use Rattle.clap.specs.Lexer.{strip_byte}
 use Rattle.clap.proofs.WalkLemmas.{both}
-use Rattle.cy_words.specs.Options.{Alone, Apart, AreOptions, Flag, Given, Joined, Kind, Known, Options, Place, Filled, Value, filled_in, hyphened, is_flag, is_known, is_place, is_valued, kind_of, name_in, places, spelled, value_in, values_under}
-use Rattle.cy_words.specs.PlayWords.{◌>>=◌}
+use Rattle.cy_words.specs.Options.{Alone, Apart, AreOptions, Flag, Given, Joined, Kind, Known, Options, Place, Filled, Value, filled_in, hyphened, is_filled, is_flag, is_known, is_place, is_valued, kind_of, name_in, places, spelled, value_in, values_under}
+use Rattle.cy_words.specs.FilterWords.{◌>>=◌}
 use Rattle.cy_words.specs.private.Scan.{Reading, behind_hyphens, given_met, is_full, name_met, no_options, option_met, options_met, options_read, parts_met, place_met, put, put_once, rest_met, settled, words_met}
 use Rattle.cy_words.specs.Words.{is_word, longest_word}
 
@@ -128,19 +129,21 @@ behind_equals [] v = grind (arith, common_steps)
 behind_equals (x ∷ xs) v = grind (arith, common_steps, behind_equals xs v)
 
 -- a name alone, and a name with its value in one word
-alone_met : (known : List Known) (name : List ℕ) (left : List Known) (o : Options) (b : Bool) → no_equals name ≡ true → is_valued (kind_of known name) ≡ b
+alone_met : (known : List Known) (name : List ℕ) (left : List Known) (o : Options) (b : Bool) → is_full left ≡ true → no_equals name ≡ true → is_valued (kind_of known name) ≡ b
     → option_met known (hyphened name) left o ≡ (if b then Some (waits name left o) else settled left (given_met known (Alone name) o))
 unfolding option_met name_met
-alone_met known name left o b plain has =
-    ap (λ (x : Option ℕ). parts_met known name x left o) (at_no_equals name plain)
-    ∙ ap (λ (x : Bool). if x then Some (waits name left o) else settled left (given_met known (Alone name) o)) has
+alone_met known name left o b full plain has =
+    ap (λ (t : Bool). if t then parts_met known name (position (λ b. b == 61) name) left o else None) full
+    ∙ (ap (λ (x : Option ℕ). parts_met known name x left o) (at_no_equals name plain)
+    ∙ ap (λ (x : Bool). if x then Some (waits name left o) else settled left (given_met known (Alone name) o)) has)
 
-joined_met : (known : List Known) (name v : List ℕ) (left : List Known) (o : Options) → no_equals name ≡ true
+joined_met : (known : List Known) (name v : List ℕ) (left : List Known) (o : Options) → is_full left ≡ true → no_equals name ≡ true
     → option_met known (hyphened name ++ 61 ∷ v) left o ≡ settled left (given_met known (Joined name v) o)
 unfolding option_met
-joined_met known name v left o plain =
-    ap (λ (x : Option ℕ). parts_met known (name ++ 61 ∷ v) x left o) (at_equals name v plain)
-    ∙ (λ i. settled left (given_met known (Joined (before_equals name v i) (behind_equals name v i)) o))
+joined_met known name v left o full plain =
+    ap (λ (t : Bool). if t then parts_met known (name ++ 61 ∷ v) (position (λ b. b == 61) (name ++ 61 ∷ v)) left o else None) full
+    ∙ (ap (λ (x : Option ℕ). parts_met known (name ++ 61 ∷ v) x left o) (at_equals name v plain)
+    ∙ (λ i. settled left (given_met known (Joined (before_equals name v i) (behind_equals name v i)) o)))
 
 -- a word that may stand as a name is no option
 no_hyphens : (word : List ℕ) → is_word word ≡ true → behind_hyphens word ≡ None
@@ -183,6 +186,18 @@ full (k ∷ left) e = by (is_place (Some k.kind)) refl e
     by true is e = absurd (let h : [] ≡ k.name ∷ places left = e in cc)
     by false is e = ap not is
 
+-- as many as there are places stand first at these
+abbrev pub FillFirst : List (List ℕ) → List Given → Type 0
+FillFirst names gs = list_all is_filled (take (length names) gs) ≡ true
+
+-- where an option stands first there is no place
+no_places : (names : List (List ℕ)) (g : Given) (gs : List Given) → is_filled g ≡ false → FillFirst names (g ∷ gs) → [] ≡ names
+no_places [] g gs option first = refl
+no_places (name ∷ names) g gs option first = absurd (true≢false (sym first ∙ ap (λ (t : Bool). t && list_all is_filled (take (length names) gs)) option))
+
+behind_all : (left : List Known) (gs : List Given) → [] ≡ places left → FillFirst (places left) gs
+behind_all left gs none = ap (λ (names : List (List ℕ)). list_all is_filled (take (length names) gs)) (sym none)
+
 settle_then : (known : List Known) (x : Option Options) (gs : List Given) (left : List Known) (rest : List (List ℕ))
     → ((o : Options) → (words_met known rest (start left o) >>= options_read) ≡ after known gs o)
     → ((settled left x >>= words_met known rest) >>= options_read) ≡ (x >>= after known gs)
@@ -192,43 +207,69 @@ settle_then known (Some o) gs left rest h = h o
 abbrev read_on : List Known → List (List ℕ) → Option Reading → Option Options
 read_on known rest x = (x >>= words_met known rest) >>= options_read
 
-read_given : (known : List Known) → AreNames known → (gs : List Given) → list_all (is_known known) gs ≡ true → (left : List Known) → flat_map filled_in gs ≡ places left → (o : Options)
+read_given : (known : List Known) → AreNames known → (gs : List Given) → list_all (is_known known) gs ≡ true → (left : List Known) → flat_map filled_in gs ≡ places left → FillFirst (places left) gs → (o : Options)
     → (words_met known (flat_map spelled gs) (start left o) >>= options_read) ≡ after known gs o
-read_given known names [] all left filled o = ap (λ (t : Bool). if t then Some o else None) (full left filled)
-read_given known names (Filled name v ∷ gs) all left filled o =
+read_given known names [] all left filled first o = ap (λ (t : Bool). if t then Some o else None) (full left filled)
+read_given known names (Filled name v ∷ gs) all left filled first o =
     let n = next_place left name (flat_map filled_in gs) filled in
+    let behind : FillFirst (places n.rest) gs =
+    ap (λ (names : List (List ℕ)). list_all is_filled (take (length names) gs)) (sym n.others)
+    ∙ (ap (λ (names : List (List ℕ)). list_all is_filled (take (length names) (Filled name v ∷ gs))) filled ∙ first) in
     let word = (both _ _ (both _ _ all).0).1 in
     ap (λ (l : List Known). read_on known (flat_map spelled gs) (option_met known v l o)) n.is
     ∙ (ap (read_on known (flat_map spelled gs)) (placed_met known n.row v n.rest o n.is_place_row word)
-    ∙ (settle_then known (given_met known (Filled n.row.name v) o) gs n.rest (flat_map spelled gs) (read_given known names gs (both _ _ all).1 n.rest n.others)
+    ∙ (settle_then known (given_met known (Filled n.row.name v) o) gs n.rest (flat_map spelled gs) (read_given known names gs (both _ _ all).1 n.rest n.others behind)
     ∙ ap (λ (x : List ℕ). given_met known (Filled x v) o >>= after known gs) n.named))
-read_given known names (Alone name ∷ gs) all left filled o =
+read_given known names (Alone name ∷ gs) all left filled first o =
     let has = flag_known (kind_of known name) (both _ _ all).0 in
-    ap (read_on known (flat_map spelled gs)) (alone_met known name left o false (no_equals_in name (name_known known name Flag names has)) (ap is_valued has))
-    ∙ settle_then known (given_met known (Alone name) o) gs left (flat_map spelled gs) (read_given known names gs (both _ _ all).1 left filled)
-read_given known names (Apart name v ∷ gs) all left filled o =
+    let none = no_places (places left) (Alone name) gs refl first in
+    ap (read_on known (flat_map spelled gs)) (alone_met known name left o false (full left none) (no_equals_in name (name_known known name Flag names has)) (ap is_valued has))
+    ∙ settle_then known (given_met known (Alone name) o) gs left (flat_map spelled gs) (read_given known names gs (both _ _ all).1 left filled (behind_all left gs none))
+read_given known names (Apart name v ∷ gs) all left filled first o =
     let has = valued_known (kind_of known name) (both _ _ (both _ _ all).0).0 in
-    ap (read_on known (v ∷ flat_map spelled gs)) (alone_met known name left o true (no_equals_in name (name_known known name Value names has)) (ap is_valued has))
-    ∙ settle_then known (given_met known (Apart name v) o) gs left (flat_map spelled gs) (read_given known names gs (both _ _ all).1 left filled)
-read_given known names (Joined name v ∷ gs) all left filled o =
+    let none = no_places (places left) (Apart name v) gs refl first in
+    ap (read_on known (v ∷ flat_map spelled gs)) (alone_met known name left o true (full left none) (no_equals_in name (name_known known name Value names has)) (ap is_valued has))
+    ∙ settle_then known (given_met known (Apart name v) o) gs left (flat_map spelled gs) (read_given known names gs (both _ _ all).1 left filled (behind_all left gs none))
+read_given known names (Joined name v ∷ gs) all left filled first o =
     let has = valued_known (kind_of known name) (both _ _ (both _ _ all).0).0 in
-    ap (read_on known (flat_map spelled gs)) (joined_met known name v left o (no_equals_in name (name_known known name Value names has)))
-    ∙ settle_then known (given_met known (Joined name v) o) gs left (flat_map spelled gs) (read_given known names gs (both _ _ all).1 left filled)
+    let none = no_places (places left) (Joined name v) gs refl first in
+    ap (read_on known (flat_map spelled gs)) (joined_met known name v left o (full left none) (no_equals_in name (name_known known name Value names has)))
+    ∙ settle_then known (given_met known (Joined name v) o) gs left (flat_map spelled gs) (read_given known names gs (both _ _ all).1 left filled (behind_all left gs none))
 
 -- ---- and back
+
+none_left : (left : List Known) → is_full left ≡ true → [] ≡ places left
+none_left [] e = refl
+none_left (k ∷ left) e = by (is_place (Some k.kind)) e
+  where
+    by : (t : Bool) → not t ≡ true → [] ≡ (if t then k.name ∷ places left else [])
+    by true e = absurd (true≢false (sym e))
+    by false e = refl
 
 pub record Spelled (known : List Known) (words : List (List ℕ)) (left : List Known) (o found : Options) : Type 0 where
   pub given : List Given
   pub spells : words ≡ flat_map spelled given
   pub filled : flat_map filled_in given ≡ places left
+  pub first : FillFirst (places left) given
   pub gives : after known given o ≡ Some found
 
+-- one more stands in front of what fills these places
+abbrev Leads : List Known → Given → List Known → Type 0
+Leads left g next = (gs : List Given) → FillFirst (places next) gs → FillFirst (places left) (g ∷ gs)
+
+option_leads : (left : List Known) (g : Given) → is_full left ≡ true → Leads left g left
+option_leads left g full gs first = behind_all left (g ∷ gs) (none_left left full)
+
+place_leads : (k : Known) (left : List Known) (v : List ℕ) → is_place (Some k.kind) ≡ true → Leads (k ∷ left) (Filled k.name v) left
+place_leads k left v is gs first = ap (λ (t : Bool). list_all is_filled (take (length (if t then k.name ∷ places left else [])) (Filled k.name v ∷ gs))) is ∙ first
+
 more : (known : List Known) (g : Given) (words rest : List (List ℕ)) (left next : List Known) (o made found : Options) → words ≡ spelled g ++ rest → places left ≡ filled_in g ++ places next
-    → given_met known g o ≡ Some made → Spelled known rest next made found → Spelled known words left o found
-more known g words rest left next o made found is fills step s = record {
+    → Leads left g next → given_met known g o ≡ Some made → Spelled known rest next made found → Spelled known words left o found
+more known g words rest left next o made found is fills leads step s = record {
   given = g ∷ s.given;
   spells = is ∙ ap (λ (l : List (List ℕ)). spelled g ++ l) s.spells;
   filled = ap (λ (l : List (List ℕ)). filled_in g ++ l) s.filled ∙ sym fills;
+  first = leads s.given s.first;
   gives = ap (λ (x : Option Options). x >>= after known s.given) step ∙ s.gives;
 }
 
@@ -239,12 +280,14 @@ pub record IsOne (known : List Known) (word : List ℕ) (left : List Known) (o :
   pub next : List Known
   pub spells : word ∷ [] ≡ spelled given
   pub fills : places left ≡ filled_in given ++ places next
+  pub leads : Leads left given next
   pub gives : given_met known given o ≡ Some made
   pub goes : start next made ≡ r
 
 pub record IsName (word : List ℕ) (left : List Known) (o : Options) (r : Reading) : Type 0 where
   pub name : List ℕ
   pub spells : word ≡ hyphened name
+  pub behind : is_full left ≡ true
   pub goes : waits name left o ≡ r
 
 abbrev Met : List Known → List ℕ → List Known → Options → Reading → Type 0
@@ -259,31 +302,32 @@ split_equals word i e =
 
 -- one thing that is given, and leaves these rows
 one_met : (known : List Known) (g : Given) (word : List ℕ) (left next : List Known) (o : Options) (r : Reading) → word ∷ [] ≡ spelled g → places left ≡ filled_in g ++ places next
-    → settled next (given_met known g o) ≡ Some r → Met known word left o r
-one_met known g word left next o r is fills e =
+    → Leads left g next → settled next (given_met known g o) ≡ Some r → Met known word left o r
+one_met known g word left next o r is fills leads e =
     let m = mapped (given_met known g o) (start next) r e in
-    inl record { given = g; made = m.0; next = next; spells = is; fills = fills; gives = m.1; goes = m.2 }
+    inl record { given = g; made = m.0; next = next; spells = is; fills = fills; leads = leads; gives = m.1; goes = m.2 }
 
-named : (known : List Known) (name : List ℕ) (left : List Known) (o : Options) (r : Reading) → name_met known name left o ≡ Some r → Met known (hyphened name) left o r
+named : (known : List Known) (name : List ℕ) (left : List Known) (o : Options) (r : Reading) → is_full left ≡ true → name_met known name left o ≡ Some r → Met known (hyphened name) left o r
 unfolding name_met
-named known name left o r e = by (is_valued (kind_of known name)) e
+named known name left o r behind e = by (is_valued (kind_of known name)) e
   where
     by : (t : Bool) → (if t then Some (waits name left o) else settled left (given_met known (Alone name) o)) ≡ Some r → Met known (hyphened name) left o r
-    by true e = inr record { name = name; spells = refl; goes = some_same (waits name left o) r e }
-    by false e = one_met known (Alone name) (hyphened name) left left o r refl refl e
+    by true e = inr record { name = name; spells = refl; behind = behind; goes = some_same (waits name left o) r e }
+    by false e = one_met known (Alone name) (hyphened name) left left o r refl refl (option_leads left (Alone name) behind) e
 
-parted : (known : List Known) (rest : List ℕ) (left : List Known) (o : Options) (r : Reading) (at : Option ℕ) → position (λ b. b == 61) rest ≡ at → parts_met known rest at left o ≡ Some r
+parted : (known : List Known) (rest : List ℕ) (left : List Known) (o : Options) (r : Reading) (at : Option ℕ) → is_full left ≡ true → position (λ b. b == 61) rest ≡ at → parts_met known rest at left o ≡ Some r
     → Met known (hyphened rest) left o r
-parted known rest left o r None is e = named known rest left o r e
-parted known rest left o r (Some i) is e =
-    one_met known (Joined (take i rest) (drop (i + 1) rest)) (hyphened rest) left left o r (ap (λ (w : List ℕ). hyphened w ∷ []) (split_equals rest i is)) refl e
+parted known rest left o r None behind is e = named known rest left o r behind e
+parted known rest left o r (Some i) behind is e =
+    let g = Joined (take i rest) (drop (i + 1) rest) in
+    one_met known g (hyphened rest) left left o r (ap (λ (w : List ℕ). hyphened w ∷ []) (split_equals rest i is)) refl (option_leads left g behind) e
 
 filled : (known : List Known) (word : List ℕ) (left : List Known) (o : Options) (r : Reading) → place_met known word left o ≡ Some r → Met known word left o r
 unfolding place_met
 filled known word [] o r e = absurd (nothing r e)
 filled known word (k ∷ left) o r e =
     let g = guarded (is_place (Some k.kind)) (settled left (given_met known (Filled k.name word) o)) r e in
-    one_met known (Filled k.name word) word (k ∷ left) left o r refl (ap (λ (t : Bool). if t then k.name ∷ places left else []) g.0) g.1
+    one_met known (Filled k.name word) word (k ∷ left) left o r refl (ap (λ (t : Bool). if t then k.name ∷ places left else []) g.0) (place_leads k left word g.0) g.1
 
 stripped : (word rest : List ℕ) → strip_byte 45 word ≡ Some rest → word ≡ 45 ∷ rest
 stripped [] rest e = absurd (nothing rest e)
@@ -317,44 +361,42 @@ met_is known word left o r e = by (behind_hyphens word) refl e
     by : (x : Option (List ℕ)) → behind_hyphens word ≡ x → rest_met known word x left o ≡ Some r → Met known word left o r
     by None is e = filled known word left o r e
     by (Some rest) is e =
-        subst (λ (w : List ℕ). Met known w left o r) (sym (hyphens_stripped word (strip_byte 45 word) rest refl is)) (parted known rest left o r (position (λ b. b == 61) rest) refl e)
+        let g = guarded (is_full left) (parts_met known rest (position (λ b. b == 61) rest) left o) r e in
+        subst (λ (w : List ℕ). Met known w left o r) (sym (hyphens_stripped word (strip_byte 45 word) rest refl is)) (parted known rest left o r (position (λ b. b == 61) rest) g.0 refl g.1)
 
 abbrev before : Option (List ℕ) → List (List ℕ) → List (List ℕ)
 before None words = words
 before (Some name) words = hyphened name ∷ words
+
+-- a name waits for its value behind all places
+abbrev Waits : Option (List ℕ) → List Known → Type 0
+Waits None left = ⊤
+Waits (Some name) left = is_full left ≡ true
 
 -- two steps, of which the first one succeeds
 bound_first : {A B C : Type 0} (x : Option A) (f : A → Option B) (g : B → Option C) (c : C) → ((x >>= f) >>= g) ≡ Some c → (a : A) × (x ≡ Some a) × ((f a >>= g) ≡ Some c)
 bound_first None f g c e = absurd (nothing c e)
 bound_first (Some a) f g c e = (a, refl, e)
 
-none_left : (left : List Known) → is_full left ≡ true → [] ≡ places left
-none_left [] e = refl
-none_left (k ∷ left) e = by (is_place (Some k.kind)) e
-  where
-    by : (t : Bool) → not t ≡ true → [] ≡ (if t then k.name ∷ places left else [])
-    by true e = absurd (true≢false (sym e))
-    by false e = refl
-
-given_read : (known : List Known) (words : List (List ℕ)) (left : List Known) (o found : Options) (pending : Option (List ℕ))
+given_read : (known : List Known) (words : List (List ℕ)) (left : List Known) (o found : Options) (pending : Option (List ℕ)) → Waits pending left
     → (words_met known words (record { options = o; pending = pending; left = left }) >>= options_read) ≡ Some found → Spelled known (before pending words) left o found
-given_read known [] left o found None e =
+given_read known [] left o found None waits e =
     let g = guarded (is_full left) (Some o) found e in
-    record { given = []; spells = refl; filled = none_left left g.0; gives = g.1 }
-given_read known [] left o found (Some name) e = absurd (nothing found e)
-given_read known (word ∷ rest) left o found None e =
+    record { given = []; spells = refl; filled = none_left left g.0; first = behind_all left [] (none_left left g.0); gives = g.1 }
+given_read known [] left o found (Some name) waits e = absurd (nothing found e)
+given_read known (word ∷ rest) left o found None waits e =
     let b = bound_first (option_met known word left o) (words_met known rest) options_read found e in
     elim (met_is known word left o b.0 b.1) [
-      | inl m ↦ more known m.given (word ∷ rest) rest left m.next o m.made found (ap (λ (w : List (List ℕ)). w ++ rest) m.spells) m.fills m.gives
-          (given_read known rest m.next m.made found None (ap (λ (r : Reading). words_met known rest r >>= options_read) m.goes ∙ b.2))
+      | inl m ↦ more known m.given (word ∷ rest) rest left m.next o m.made found (ap (λ (w : List (List ℕ)). w ++ rest) m.spells) m.fills m.leads m.gives
+          (given_read known rest m.next m.made found None tt (ap (λ (r : Reading). words_met known rest r >>= options_read) m.goes ∙ b.2))
       | inr w ↦ subst (λ (x : List ℕ). Spelled known (x ∷ rest) left o found) (sym w.spells)
-          (given_read known rest left o found (Some w.name) (ap (λ (r : Reading). words_met known rest r >>= options_read) w.goes ∙ b.2))
+          (given_read known rest left o found (Some w.name) w.behind (ap (λ (r : Reading). words_met known rest r >>= options_read) w.goes ∙ b.2))
     ]
-given_read known (value ∷ rest) left o found (Some name) e =
+given_read known (value ∷ rest) left o found (Some name) waits e =
     let b = bound_first (settled left (given_met known (Apart name value) o)) (words_met known rest) options_read found e in
     let m = mapped (given_met known (Apart name value) o) (start left) b.0 b.1 in
-    more known (Apart name value) (hyphened name ∷ value ∷ rest) rest left left o m.0 found refl refl m.1
-    (given_read known rest left m.0 found None (ap (λ (r : Reading). words_met known rest r >>= options_read) m.2 ∙ b.2))
+    more known (Apart name value) (hyphened name ∷ value ∷ rest) rest left left o m.0 found refl refl (option_leads left (Apart name value) waits) m.1
+    (given_read known rest left m.0 found None tt (ap (λ (r : Reading). words_met known rest r >>= options_read) m.2 ∙ b.2))
 
 -- ---- options one after another, and all that are given
 
@@ -421,10 +463,10 @@ reached known (g ∷ gs) o found all c =
 pub options_found : (known : List Known) → AreNames known → (words : List (List ℕ)) (o : Options) → AreOptions known words o → options_met known words ≡ Some o
 options_found known names words o p =
     ap (λ (l : List (List ℕ)). words_met known l (start known no_options) >>= options_read) p.are_spelled
-    ∙ (read_given known names p.given p.are_known known p.are_placed no_options ∙ reached known p.given no_options o p.are_known p.values)
+    ∙ (read_given known names p.given p.are_known known p.are_placed p.stand_first no_options ∙ reached known p.given no_options o p.are_known p.values)
 
 pub options_are : (known : List Known) (words : List (List ℕ)) (o : Options) → options_met known words ≡ Some o → AreOptions known words o
 options_are known words o e =
-    let s = given_read known words known no_options o None e in
+    let s = given_read known words known no_options o None tt e in
     let r = run known s.given no_options o s.gives in
-    record { given = s.given; are_known = r.0; are_spelled = s.spells; are_placed = s.filled; values = r.1 }
+    record { given = s.given; are_known = r.0; are_spelled = s.spells; are_placed = s.filled; stand_first = s.first; values = r.1 }

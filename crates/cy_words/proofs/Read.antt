@@ -6,7 +6,7 @@ use Rattle.clap.specs.Walk.{Row, Text, texts}
 use Rattle.clap.specs.Words.{subcommand_of, takes}
 use Rattle.cy_words.specs.Command.{Asks, Command, Form}
 use Rattle.cy_words.specs.private.Kept.{asked_in, options_in}
-use Rattle.cy_words.specs.PlayWords.{◌>>=◌}
+use Rattle.cy_words.specs.FilterWords.{◌>>=◌}
 use Rattle.cy_words.specs.private.Program.{program}
 use Rattle.cy_words.specs.private.Scan.{command_of}
 use Rattle.cy_words.proofs.Asked.{asks}

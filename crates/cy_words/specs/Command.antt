@@ -7,6 +7,8 @@ use Rattle.cy_words.specs.MakeWords.{MakeWords, make_asked, make_known}
 use Rattle.cy_words.specs.Options.{AreOptions, Known, Options, placed}
 use Rattle.cy_words.specs.PassWords.{pass_asked, pass_known}
 use Rattle.cy_words.specs.PlayWords.{PlayWords, play_asked, play_known}
+use Rattle.cy_words.specs.RecoverWords.{RecoverWords, recover_asked, recover_known}
+use Rattle.cy_words.specs.SplitWords.{SplitWords, split_asked, split_known}
 use Rattle.cy_words.specs.VerifyWords.{verify_asked, verify_known}
 
 -- The words of `info`: the record that is told of.
@@ -19,14 +21,16 @@ info_known = placed (codes "file") ∷ []
 abbrev pub info_asked : Options → Option InfoWords
 info_asked o = option_map (λ file. record { file = file }) (o (codes "file"))
 
--- `check`, `info`, `play`, `make` and `verify`, each with its words; `pass` is a play, and the
--- words of `verify` are those of the play that is judged.
+-- `check`, `info`, `play`, `make`, `verify`, `recover` and `split`, each with its words; `pass` is a
+-- play, and the words of `verify` are those of the play that is judged.
 pub data Command : Type 0 where
   Check : (words : CheckWords) → Command
   Info : (words : InfoWords) → Command
   Play : (words : PlayWords) → Command
   Make : (words : MakeWords) → Command
   Verify : (words : PlayWords) → Command
+  Recover : (words : RecoverWords) → Command
+  Split : (words : SplitWords) → Command
 
 -- A form of words that ask for a command: the name that stands first, what is known of the words
 -- behind it, and what their values ask for.
@@ -46,6 +50,8 @@ forms = form (codes "play") play_known (λ o. option_map Play (play_asked o))
     ∷ form (codes "info") info_known (λ o. option_map Info (info_asked o))
     ∷ form (codes "make") make_known (λ o. option_map Make (make_asked o))
     ∷ form (codes "verify") verify_known (λ o. option_map Verify (verify_asked o))
+    ∷ form (codes "recover") recover_known (λ o. option_map Recover (recover_asked o))
+    ∷ form (codes "split") split_known (λ o. option_map Split (split_asked o))
     ∷ []
 
 unfoldable pub form_of : List ℕ → Option Form
@@ -90,3 +96,13 @@ AskForOne = (words : List (List ℕ))
 abbrev pub PlayFilesDiffer : Type 0
 PlayFilesDiffer = (words : List (List ℕ)) (w : PlayWords) → Asks words (Play w)
     → w.output ≢ w.trace
+
+-- And whatever words ask for `recover` or `split`, what is written has another name than what is
+-- read.
+abbrev pub RecoverFilesDiffer : Type 0
+RecoverFilesDiffer = (words : List (List ℕ)) (w : RecoverWords) → Asks words (Recover w)
+    → w.input ≢ w.output
+
+abbrev pub SplitFilesDiffer : Type 0
+SplitFilesDiffer = (words : List (List ℕ)) (w : SplitWords) → Asks words (Split w)
+    → w.input ≢ w.output

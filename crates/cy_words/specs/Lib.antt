@@ -2,11 +2,15 @@ pub mod private
 pub mod Asking
 pub mod CheckWords
 pub mod Command
+pub mod FilterViews
+pub mod FilterWords
 pub mod MakeWords
 pub mod Options
 pub mod PassWords
 pub mod PlayViews
 pub mod PlayWords
+pub mod RecoverWords
+pub mod SplitWords
 pub mod VerifyWords
 pub mod Views
 pub mod Words

@@ -2,8 +2,8 @@
 use Rattle.std.specs.Prelude.{ℕ, ◌||◌, nat_lt, if◌then◌else◌, List, [], ◌∷◌, length, Option}
 use Rattle.std.specs.Prelude.{Some, None, codes}
 use Rattle.std.specs.Option.{option_map}
+use Rattle.cy_words.specs.FilterWords.{◌>>=◌, spelled_number}
 use Rattle.cy_words.specs.Options.{Known, Options, placed}
-use Rattle.cy_words.specs.PlayWords.{spelled_number, ◌>>=◌}
 
 -- The words of `make`: how many messages the record has, and with what the names of all files
 -- begin.

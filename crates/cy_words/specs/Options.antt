@@ -1,7 +1,8 @@
 -- Words behind the name of a command, by a table of what it knows: words at their places, and
 -- options.
 use Rattle.std.specs.Prelude.{ℕ, ◌≡◌, ◌&&◌, Bool, true, false, if◌then◌else◌, List, [], ◌∷◌}
-use Rattle.std.specs.Prelude.{◌++◌, find, flat_map, Option, Some, option_map, option_to_list}
+use Rattle.std.specs.Prelude.{◌++◌, find, flat_map, length, take, Option, Some, option_map}
+use Rattle.std.specs.Prelude.{option_to_list}
 use Rattle.std.specs.List.{list_all}
 use Rattle.std.specs.Str.{bytes_eq}
 use Rattle.cy_words.specs.Words.{is_word}
@@ -94,16 +95,23 @@ filled_in (Alone name) = []
 filled_in (Apart name value) = []
 filled_in (Joined name value) = []
 
+abbrev pub is_filled : Given → Bool
+is_filled (Filled name value) = true
+is_filled (Alone name) = false
+is_filled (Apart name value) = false
+is_filled (Joined name value) = false
+
 -- The values that are given under a name, in their order.
 abbrev pub values_under : List ℕ → Given → List (List ℕ)
 values_under name given = if bytes_eq (name_in given) name then value_in given ∷ [] else []
 
--- The words are what a command knows: all places in their order, and options in any order before,
--- between and behind them. Each name that has a value here is given once, with this value, and no
+-- The words are what a command knows: all places in their order, which stand first, and options in
+-- any order behind them. Each name that has a value here is given once, with this value, and no
 -- other is given.
 pub record AreOptions (known : List Known) (words : List (List ℕ)) (o : Options) : Type 0 where
   pub given : List Given
   pub are_known : list_all (is_known known) given ≡ true
   pub are_spelled : words ≡ flat_map spelled given
   pub are_placed : flat_map filled_in given ≡ places known
+  pub stand_first : list_all is_filled (take (length (places known)) given) ≡ true
   pub values : (name : List ℕ) → flat_map (values_under name) given ≡ option_to_list (o name)

@@ -2,8 +2,9 @@
 use Rattle.std.specs.Prelude.{ℕ, if◌then◌else◌, List, [], ◌∷◌, Option, None, codes}
 use Rattle.std.specs.Str.{bytes_eq}
 use Rattle.cy_request.specs.Request.{OfPass}
+use Rattle.cy_words.specs.FilterWords.{◌>>=◌}
 use Rattle.cy_words.specs.Options.{Known, Options, placed}
-use Rattle.cy_words.specs.PlayWords.{PlayWords, play_of_all, where_play, ◌>>=◌}
+use Rattle.cy_words.specs.PlayWords.{PlayWords, play_of_all, where_play}
 
 -- What `pass` knows: the record that is played, the record and the trace that are written, and two
 -- channels.

@@ -1,8 +1,9 @@
 -- The words of `verify`.
 use Rattle.std.specs.Prelude.{◌&&◌, Bool, if◌then◌else◌, List, [], ◌∷◌, Option, Some, None}
 use Rattle.std.specs.Prelude.{codes}
+use Rattle.cy_words.specs.FilterWords.{◌>>=◌}
 use Rattle.cy_words.specs.Options.{Known, Options, valued}
-use Rattle.cy_words.specs.PlayWords.{PlayWords, is_no_config, is_play, play_given, ◌>>=◌}
+use Rattle.cy_words.specs.PlayWords.{PlayWords, is_no_config, is_play, play_given}
 
 -- What `verify` knows: what `play` knows but a scheduler file and whether one thread plays, on
 -- which no lawful run depends.

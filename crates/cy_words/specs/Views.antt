@@ -3,12 +3,17 @@ use Rattle.std.specs.Prelude.{◌≤◌, ◌<◌, ⊤, option_map}
 use Rattle.cy_request.specs.Request.{HasReader}
 use Rattle.cy_words.specs.declared.make_words.Make.{Make}
 use Rattle.cy_words.specs.declared.check_words.Check.{Check}
+use Rattle.cy_words.specs.declared.recover_words.Recover.{Recover}
+use Rattle.cy_words.specs.declared.split_words.Split.{Split}
 use Rattle.cy_words.specs.declared.words.Info.{Info}
 use Rattle.cy_words.specs.declared.words.Command as code
 use Rattle.cy_words.specs.declared.words.Command.TheVariants as asked
 use Rattle.cy_words.specs.CheckWords.{CheckWords}
+use Rattle.cy_words.specs.FilterViews.{filter_of}
 use Rattle.cy_words.specs.MakeWords.{MakeWords, most_made}
 use Rattle.cy_words.specs.PlayViews.{play_words_of}
+use Rattle.cy_words.specs.RecoverWords.{RecoverWords}
+use Rattle.cy_words.specs.SplitWords.{SplitWords}
 use Rattle.cy_words.specs.Command as command
 use Rattle.cy_words.specs.Command.{InfoWords}
 
@@ -22,6 +27,16 @@ info_words_of w = record { file = w.file.now }
 abbrev pub make_words_of : Make → MakeWords
 make_words_of w = record { count = w.count; prefix = w.prefix.now }
 
+abbrev pub recover_words_of : Recover → RecoverWords
+recover_words_of w = record { input = w.input.now; output = w.output.now }
+
+abbrev pub split_words_of : Split → SplitWords
+split_words_of w = record {
+  input = w.input.now;
+  output = w.output.now;
+  filter = filter_of w.wanted;
+}
+
 -- The command that is asked for, and that a channel which it reads has a name, or that so many
 -- messages are made.
 abbrev pub command_asked : code.Command → command.Command
@@ -30,6 +45,8 @@ command_asked (asked.Info w) = command.Info (info_words_of w)
 command_asked (asked.Play w) = command.Play (play_words_of w)
 command_asked (asked.Make w) = command.Make (make_words_of w)
 command_asked (asked.Verify w) = command.Verify (play_words_of w)
+command_asked (asked.Recover w) = command.Recover (recover_words_of w)
+command_asked (asked.Split w) = command.Split (split_words_of w)
 
 abbrev pub IsInForm : code.Command → Type 0
 IsInForm (asked.Play w) = HasReader (play_words_of w).request.components

@@ -4,8 +4,8 @@ ghost use Rattle.cy_words.specs.MakeWords.{count_of, made_by, make_asked, make_k
 ghost use Rattle.cy_words.specs.private.OptionViews.{values_of};
 ghost use Rattle.cy_words.specs.Views.{make_words_of};
 
+use crate::filter_words::spelled_number;
 use crate::options::{Kind, Known, Values};
-use crate::play_words::spelled_number;
 
 /// What `make` knows.
 pub(crate) const MAKE: [Known; 2] = [("count", Kind::Place), ("prefix", Kind::Place)];

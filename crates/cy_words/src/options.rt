@@ -230,7 +230,8 @@ impl<'a> Options<'a> {
             (options_of (table_of known.now) self.entry) }
     {
         match behind_hyphens(word) {
-            Some(rest) => self.parted(known, rest, left),
+            Some(rest) if is_full(left) => self.parted(known, rest, left),
+            Some(_) => None,
             None => self.placed(known, word, left),
         }
     }

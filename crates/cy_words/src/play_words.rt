@@ -1,18 +1,17 @@
 // The words of `play`.
-ghost use Rattle.std.specs.Prelude.{◌≡◌, ◌≤◌, length, is_some, option_map};
+ghost use Rattle.std.specs.Prelude.{◌≡◌, ◌≤◌, IfOk, length, is_some, option_map};
 ghost use Rattle.cy_request.specs.Request.{components_of, stop_at_of};
-ghost use Rattle.cy_words.specs.PlayWords.{with_digit, spelled_number, number_or, is_list};
-ghost use Rattle.cy_words.specs.PlayWords.{is_list_or_none, is_no_config, is_other, is_play};
-ghost use Rattle.cy_words.specs.PlayWords.{is_some_of};
-ghost use Rattle.cy_words.specs.PlayWords.{are_lists, play_asked, play_given, play_known};
-ghost use Rattle.cy_words.specs.PlayWords.{play_of_all};
-ghost use Rattle.cy_words.specs.PlayWords.{play_words, stop_at, stop_or_none, where_play};
+ghost use Rattle.cy_words.specs.PlayWords.{is_no_config, is_other, is_play, is_some_of};
+ghost use Rattle.cy_words.specs.PlayWords.{play_asked, play_given, play_known, play_of_all};
+ghost use Rattle.cy_words.specs.PlayWords.{stop_at, stop_or_none, where_play};
 ghost use Rattle.cy_words.specs.PlayViews.{play_words_of};
 ghost use Rattle.cy_words.specs.VerifyWords.{is_apart, where_apart};
 ghost use Rattle.cy_words.specs.private.OptionViews.{table_of, values_of};
 
+use crate::filter_words::{FilterWords, filter_asked, spelled_number};
 use crate::options::{Kind, Known, Values};
-use cy_request::{Components, StopAt};
+use cy_request::{Components, Filter, StopAt};
+use std::alloc::{AllocError, Global};
 
 /// What `play` knows.
 pub(crate) const PLAY: [Known; 11] = [
@@ -41,58 +40,12 @@ pub struct Play<'a> {
     pub output: &'a str,
     /// The trace that is written.
     pub trace: &'a str,
-    /// The only channels, with commas between; none where all are wanted.
-    pub only: Option<&'a str>,
-    /// The channels that are dropped, with commas between.
-    pub drop: Option<&'a str>,
-    /// The least time, in nanoseconds.
-    pub begin: u64,
-    /// The greatest time, in nanoseconds.
-    pub end: u64,
+    /// Which messages are let through.
+    pub wanted: FilterWords<'a>,
     /// The stop, where one is asked for.
     pub stop: Option<StopAt<'a>>,
     /// Whether one thread plays all.
     pub serial: bool,
-}
-
-// A value with one more digit, where it has 64 bits.
-fn with_digit(value: u64, byte: u8) -> Option<u64>
-    ensures { result ≡ with_digit value byte }
-{
-    if !byte.is_ascii_digit() {
-        return None;
-    }
-    let next = u128::from(value) * 10 + u128::from(byte - b'0');
-    if next <= u128::from(u64::MAX) {
-        Some(next as u64)
-    } else {
-        None
-    }
-}
-
-// A number of 1 to 20 digits, where it has 64 bits.
-#[tactic(auto, unfolding(crate::specs::PlayWords::spelled_number))]
-pub(crate) fn spelled_number(text: &str) -> Option<u64>
-    ensures { result ≡ spelled_number text.now }
-{
-    if text.is_empty() || text.len() > 20 {
-        return None;
-    }
-    let mut value = 0u64;
-    for byte in text.as_bytes() {
-        value = with_digit(value, *byte)?;
-    }
-    Some(value)
-}
-
-// The same, or what stands for it where no number is given.
-fn number_or(absent: u64, text: Option<&str>) -> Option<u64>
-    ensures { result ≡ number_or absent (option_map (λ v. v.now) text.entry) }
-{
-    match text {
-        Some(text) => spelled_number(text),
-        None => Some(absent),
-    }
 }
 
 // A stop, of the name of a component, `@` and a time.
@@ -115,24 +68,6 @@ fn stop_or_none(text: Option<&str>) -> Option<Option<StopAt<'_>>>
     match text {
         Some(text) => Some(Some(stop_at(text)?)),
         None => Some(None),
-    }
-}
-
-// Whether a list has no empty name.
-#[tactic(auto, unfolding(crate::specs::PlayWords::is_list))]
-fn is_list(text: &str) -> bool
-    ensures { result ≡ is_list text.now }
-{
-    text.split(',').all(|name| !name.is_empty())
-}
-
-// The same where there is one.
-fn is_list_or_none(text: Option<&str>) -> bool
-    ensures { result ≡ is_list_or_none (option_map (λ v. v.now) text.entry) }
-{
-    match text {
-        Some(text) => is_list(text),
-        None => true,
     }
 }
 
@@ -172,13 +107,18 @@ impl<'a> Play<'a> {
             input,
             output,
             trace,
-            only: None,
-            drop: None,
-            begin: 0,
-            end: u64::MAX,
+            wanted: FilterWords::of_all(),
             stop: None,
             serial: true,
         }
+    }
+
+    /// Which messages of the record are played, with names in memory of their own. Its only error
+    /// is want of memory.
+    pub fn filter(&self, alloc: Global) -> Result<Filter, AllocError>
+        ensures { IfOk result (λ f. f ≡ (play_words_of self.now).request.filter) }
+    {
+        self.wanted.filter(alloc)
     }
 }
 
@@ -239,15 +179,6 @@ fn is_given(known: &[Known], values: Values, name: &str) -> bool
     value(known, values, name).is_some()
 }
 
-// The number that an option gives, or what stands for it where it isn't given.
-fn number(known: &[Known], values: Values, absent: u64, name: &str) -> Option<u64>
-    requires { length known.now ≤ 16 }
-    ensures { result
-        ≡ number_or absent (values_of (table_of known.now) values.entry name.now) }
-{
-    number_or(absent, value(known, values, name))
-}
-
 // The stop that the option of this name gives, if it is given.
 fn stop_asked<'a>(known: &[Known], values: Values<'_, 'a>, name: &str) -> Option<Option<StopAt<'a>>>
     requires { length known.now ≤ 16 }
@@ -257,64 +188,30 @@ fn stop_asked<'a>(known: &[Known], values: Values<'_, 'a>, name: &str) -> Option
     stop_or_none(value(known, values, name))
 }
 
-// Whether an option has no list with an empty name.
-fn has_list(known: &[Known], values: Values, name: &str) -> bool
-    requires { length known.now ≤ 16 }
-    ensures { result ≡ is_list_or_none (values_of (table_of known.now) values.entry name.now) }
-{
-    is_list_or_none(value(known, values, name))
-}
-
-// Whether the lists of channels have no empty names.
-fn are_lists(known: &[Known], values: Values) -> bool
-    requires { length known.now ≤ 16 }
-    ensures { result ≡ are_lists (values_of (table_of known.now) values.entry) }
-{
-    has_list(known, values, "channels") && has_list(known, values, "drop")
-}
-
-// What the options say, where those are given that every play has.
-fn play_with<'a>(known: &[Known], values: Values<'_, 'a>) -> Option<Play<'a>>
-    requires { length known.now ≤ 16 }
-    ensures { option_map play_words_of result
-        ≡ play_words (values_of (table_of known.now) values.entry) }
-{
-    let dag = value(known, values, "dag")?;
-    let input = value(known, values, "record")?;
-    let output = value(known, values, "out")?;
-    let trace = value(known, values, "trace")?;
-    let begin = number(known, values, 0, "begin")?;
-    let end = number(known, values, u64::MAX, "end")?;
-    let stop = stop_asked(known, values, "stop")?;
-    let sched = value(known, values, "sched");
-    let only = value(known, values, "channels");
-    let drop = value(known, values, "drop");
-    let serial = is_given(known, values, "serial");
-    Some(Play {
-        components: Components::Files { dag, sched },
-        input,
-        output,
-        trace,
-        only,
-        drop,
-        begin,
-        end,
-        stop,
-        serial,
-    })
-}
-
-/// What the options say of a play, where its lists are lists.
+/// What the options say of a play, where those are given that every play has.
 #[tactic(auto, unfolding(crate::specs::PlayWords::play_given))]
 pub(crate) fn play_of<'a>(known: &[Known], values: Values<'_, 'a>) -> Option<Play<'a>>
     requires { length known.now ≤ 16 }
     ensures { option_map play_words_of result
         ≡ play_given (values_of (table_of known.now) values.entry) }
 {
-    if !are_lists(known, values) {
-        return None;
-    }
-    play_with(known, values)
+    let dag = value(known, values, "dag")?;
+    let input = value(known, values, "record")?;
+    let output = value(known, values, "out")?;
+    let trace = value(known, values, "trace")?;
+    let wanted = filter_asked(known, values)?;
+    let stop = stop_asked(known, values, "stop")?;
+    let sched = value(known, values, "sched");
+    let serial = is_given(known, values, "serial");
+    Some(Play {
+        components: Components::Files { dag, sched },
+        input,
+        output,
+        trace,
+        wanted,
+        stop,
+        serial,
+    })
 }
 
 /// What the options ask for.

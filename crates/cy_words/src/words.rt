@@ -12,6 +12,8 @@ use crate::make_words::{MAKE, Make, make_asked};
 use crate::options::{Kind, Known, Values, options_met};
 use crate::pass_words::{PASS, pass_asked};
 use crate::play_words::{PLAY, Play, play_asked};
+use crate::recover_words::{RECOVER, Recover, recover_asked};
+use crate::split_words::{SPLIT, Split, split_asked};
 use crate::verify_words::{VERIFY, verify_asked};
 use cy_msg::Text;
 
@@ -49,19 +51,25 @@ pub enum Command<'a> {
     Make(Make<'a>),
     /// To judge a trace and a record that are said to be of a play.
     Verify(Play<'a>),
+    /// To make a whole record of what stands before the first fault of a file.
+    Recover(Recover<'a>),
+    /// To write a record of some messages of another one.
+    Split(Split<'a>),
 }
 
 /// A form of words: the name that stands first, and what is known of the words behind it.
 pub(crate) type Form = (&'static str, &'static [Known]);
 
 /// The forms that there are.
-pub(crate) const FORMS: [Form; 6] = [
+pub(crate) const FORMS: [Form; 8] = [
     ("play", &PLAY),
     ("pass", &PASS),
     ("check", &CHECK),
     ("info", &INFO),
     ("make", &MAKE),
     ("verify", &VERIFY),
+    ("recover", &RECOVER),
+    ("split", &SPLIT),
 ];
 
 /// What values ask for behind the name of a form.
@@ -77,6 +85,8 @@ pub(crate) fn asked_of<'a>(name: &str, values: Values<'_, 'a>) -> Option<Command
         "info" => Some(Command::Info(info_asked(values)?)),
         "make" => Some(Command::Make(make_asked(values)?)),
         "verify" => Some(Command::Verify(verify_asked(values)?)),
+        "recover" => Some(Command::Recover(recover_asked(values)?)),
+        "split" => Some(Command::Split(split_asked(values)?)),
         _ => None,
     }
 }

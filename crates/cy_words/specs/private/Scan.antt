@@ -9,7 +9,7 @@ use Rattle.clap.specs.Lexer.{strip_byte}
 use Rattle.cy_words.specs.Command.{Command, Play, form_of}
 use Rattle.cy_words.specs.Options.{Alone, Apart, Given, Joined, Known, Options, Filled, is_known}
 use Rattle.cy_words.specs.Options.{is_place, is_valued, kind_of, name_in, value_in}
-use Rattle.cy_words.specs.PlayWords.{◌>>=◌}
+use Rattle.cy_words.specs.FilterWords.{◌>>=◌}
 
 abbrev pub no_options : Options
 no_options = λ name. None
@@ -63,10 +63,16 @@ place_met known word [] o = None
 place_met known word (k ∷ left) o =
     if is_place (Some k.kind) then settled left (given_met known (Filled k.name word) o) else None
 
+-- No place is left.
+abbrev pub is_full : List Known → Bool
+is_full [] = true
+is_full (k ∷ left) = not (is_place (Some k.kind))
+
+-- An option stands behind all places.
 abbrev pub rest_met : List Known → List ℕ → Option (List ℕ) → List Known → Options → Option Reading
 rest_met known word None left o = place_met known word left o
 rest_met known word (Some rest) left o =
-    parts_met known rest (position (λ b. b == 61) rest) left o
+    if is_full left then parts_met known rest (position (λ b. b == 61) rest) left o else None
 
 unfoldable pub option_met : List Known → List ℕ → List Known → Options → Option Reading
 option_met known word left o = rest_met known word (behind_hyphens word) left o
@@ -81,10 +87,6 @@ words_met known (word ∷ words) r =
     word_met known word r.options r.pending r.left >>= words_met known words
 
 -- What the words give, if they are what the command knows: no value and no place is wanting.
-abbrev pub is_full : List Known → Bool
-is_full [] = true
-is_full (k ∷ left) = not (is_place (Some k.kind))
-
 abbrev pub options_at_end : Options → Option (List ℕ) → List Known → Option Options
 options_at_end o None left = if is_full left then Some o else None
 options_at_end o (Some name) left = None

@@ -1,7 +1,7 @@
 use Rattle.std.proofs.Common.{List, ℕ, Bor, ◌∷◌, [], map, ap, ◌∙◌, ne_eqb}
 use Rattle.std.proofs.lemmas.List.{map-append}
 use Rattle.cy_words.proofs.Commas.{none_yet, goes_on, part_ends, ends_at, all_parts}
-use Rattle.cy_words.proofs.filter.parts_of.Goals as goal
+use Rattle.cy_words.proofs.filter_words.parts_of.Goals as goal
 
 pub loop-place-init : goal.loop-place-init
 loop-place-init c = rw c.new-parts.ensures.items (none_yet c.args.list.now)

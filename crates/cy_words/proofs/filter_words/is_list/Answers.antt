@@ -1,8 +1,8 @@
 use Rattle.std.proofs.Common.{rules, tests, lit<, ◌==◌, length, not}
 use Rattle.std.proofs.lemmas.Iterator.Search.{all_from_yields_List}
 use Rattle.std.proofs.lemmas.Iterator.Splits.{YieldsList-from_str_split}
-use Rattle.cy_words.specs.PlayWords.{is_list}
-use Rattle.cy_words.proofs.play_words.is_list.Goals as goal
+use Rattle.cy_words.specs.FilterWords.{is_list}
+use Rattle.cy_words.proofs.filter_words.is_list.Goals as goal
 
 pub returns : goal.returns
 unfolding is_list
