@@ -1,4 +1,3 @@
-pub mod ChannelTable
 pub mod Origins
 pub mod TapeRecord
 pub mod TapeText

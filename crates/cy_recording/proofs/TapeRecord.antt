@@ -21,9 +21,10 @@ use Rattle.cy_writer.specs.Stands.{HaveOwnNames}
 use Rattle.cy_writer.specs.Writes.{Makes}
 use Rattle.cy_writer.specs.declared.error.WriteError.{WriteError}
 use Rattle.cy_reader.specs.Named.{as_read, known_as}
-use Rattle.cy_recording.specs.Recording.{Source, IsWritable, channel_of, as_written, content_of, has_ticks, message_of, numbers_after, channels_of_tape, messages_of_tape, chunks_of_tape}
+use Rattle.cy_recording.specs.Recording.{Source, IsWritable, channel_of, as_written, content_of, has_ticks, message_of, numbers_on, channels_of_tape, messages_of_tape, chunks_of_tape}
 use Rattle.cy_recording.specs.private.RecordSteps.{ArePlaced, given_of, all_given}
-use Rattle.cy_recording.proofs.ChannelTable.{place_of}
+use Rattle.cy_writer.proofs.FirstPlaces.{place_of}
+use Rattle.cy_writer.proofs.OrderNumbers.{numbers_after-all, numbers_after-has, numbers_once}
 
 -- a channel has its name
 pub named : (s : Source) (c : ℕ) → (channel_of s c).name ≡ channel_name s.names c
@@ -66,6 +67,37 @@ own_names s order own once low i j c d at_i at_j same =
     (sym (named s x.0) ∙ ap (λ (e : Channel). e.name) x.1.1 ∙ same ∙ sym (ap (λ (e : Channel). e.name) y.1.1) ∙ named s y.0) in
     once i j y.0 (x.1.0 ∙ ap (λ (k : ℕ). Some k) alike) y.1.0
 
+-- what holds of each message's channel holds of all these numbers
+pub channels_each : (P : ℕ → Type 0) (tape : List Token) → ((n : ℕ) (t : Token) → slice_get tape n ≡ Some t → P t.channel) → (n c : ℕ) → slice_get (map (λ (t : Token). t.channel) tape) n ≡ Some c → P c
+channels_each P tape each n c here = let t = mapped (λ (t : Token). t.channel) tape n c here in subst P t.1.1 (each n t.0 t.1.0)
+
+numbers_each : (P : ℕ → Type 0) (tape : List Token) → ((n : ℕ) (t : Token) → slice_get tape n ≡ Some t → P t.channel) → (n c : ℕ) → slice_get (numbers_on tape) n ≡ Some c → P c
+numbers_each P tape each = numbers_after-all P [] (map (λ (t : Token). t.channel) tape) (λ m d h. absurd (none-some d h)) (channels_each P tape each)
+
+-- and each of these channels stands there
+pub channel_at : (tape : List Token) (n : ℕ) (t : Token) → slice_get tape n ≡ Some t → slice_get (map (λ (t : Token). t.channel) tape) n ≡ Some t.channel
+channel_at tape n t here = slice_get-map (λ (t : Token). t.channel) tape n ∙ ap (option_map (λ (t : Token). t.channel)) here
+
+-- what a place has that is not there
+abbrev pub no_token : Token
+no_token = record { channel = 0; seq = 0; time = 0; whole = None; origin = None }
+
+all_placed : (tape : List Token) → ArePlaced (numbers_on tape) tape
+all_placed tape n t here = numbers_after-has [] (map (λ (t : Token). t.channel) tape) n t.channel (channel_at tape n t here)
+
+-- So an order of the channels of a tape has what writing on them needs.
+pub record IsOrder (s : Source) (order : List ℕ) (tape : List Token) : Type 0 where
+  pub placed : ArePlaced order tape
+  pub once : IsOnce order
+  pub low : (n c : ℕ) → slice_get order n ≡ Some c → c < length s.names
+
+pub order_is : (s : Source) (order : List ℕ) (tape : List Token) → order ≡ numbers_on tape → IsWritable s tape → IsOrder s order tape
+order_is s order tape is writable = subst (λ (l : List ℕ). IsOrder s l tape) (sym is) record {
+  placed = all_placed tape;
+  once = numbers_once (map (λ (t : Token). t.channel) tape);
+  low = numbers_each (λ d. d < length s.names) tape writable.channels;
+}
+
 -- The messages of a tape, as they are given.
 
 -- a message on its channel is the one of the tape
@@ -105,7 +137,7 @@ have_channels s order tape placed n m here =
 
 -- so the record that is written of them is the tape's
 pub recorded : {T : Type 0} (r : Result T WriteError) (name : List ℕ) (s : Source) (order : List ℕ) (tape : List Token) (channels : List Channel) (messages : List Message) (old new : StoreView)
-    → order ≡ numbers_after [] tape → channels ≡ map (channel_of s) order → messages ≡ all_given s order tape → ArePlaced order tape
+    → order ≡ numbers_on tape → channels ≡ map (channel_of s) order → messages ≡ all_given s order tape → ArePlaced order tape
     → WritesRecord name channels messages old new r
     → Makes (file_writes name (record_puts (channels_of_tape s tape) (chunks_of_tape name s tape))) old new r
 recorded r name s order tape channels messages old new is_order is_channels is_messages placed writes =

@@ -1,6 +1,6 @@
 -- The record that is written of a tape: its channels and its messages.
-use Rattle.std.specs.Prelude.{ℕ, ℤ, ◌≡◌, ◌<◌, ◌==◌, ◌&&◌, if◌then◌else◌, Bool, true, false, List, []}
-use Rattle.std.specs.Prelude.{◌∷◌, ◌++◌, length, map, Option, Some, None, is_some, unwrap_or}
+use Rattle.std.specs.Prelude.{ℕ, ℤ, ◌≡◌, ◌<◌, ◌==◌, ◌&&◌, Bool, true, false, List, []}
+use Rattle.std.specs.Prelude.{length, map, Option, Some, None, is_some, unwrap_or}
 use Rattle.std.specs.Prelude.{slice_get}
 use Rattle.std.specs.List.{find, list_any}
 use Rattle.cy_msg.specs.declared.token.Token.{Token}
@@ -14,6 +14,7 @@ use Rattle.cy_reader.specs.Named.{channel_made, as_read, known_as}
 use Rattle.cy_reader.specs.Play.{message_at}
 use Rattle.cy_comp.specs.declared.plan.Plan.{Plan}
 use Rattle.cy_recording.specs.declared.played.Played.{Played}
+use Rattle.cy_writer.specs.Order.{numbers_after}
 use Rattle.cy_writer.specs.RecordWrites.{chunks_given}
 
 -- What the record of a tape is written from: the record that was read, the names of the channels
@@ -49,20 +50,13 @@ abbrev pub channel_of : Source → ℕ → Channel
 channel_of s number = as_written (channel_name s.names number) s.whole.channels
     (has_ticks s.plans number) (find (λ plan. plan.out == number) s.plans)
 
--- A number behind others, unless it stands among them.
-abbrev pub with_number : List ℕ → ℕ → List ℕ
-with_number known number =
-    if list_any (λ other. number == other) known then known else known ++ number ∷ []
-
--- The numbers of the channels that have a message, each once, in the order of their first messages,
--- behind those that are known.
-abbrev pub numbers_after : List ℕ → List Token → List ℕ
-numbers_after known [] = known
-numbers_after known (t ∷ rest) = numbers_after (with_number known t.channel) rest
+-- The numbers of the channels that have a message on a tape, in the order of their first messages.
+abbrev pub numbers_on : List Token → List ℕ
+numbers_on tape = numbers_after [] (map (λ (t : Token). t.channel) tape)
 
 -- The channels of the record of a tape: those that have a message on it.
 abbrev pub channels_of_tape : Source → List Token → List Channel
-channels_of_tape s tape = map (channel_of s) (numbers_after [] tape)
+channels_of_tape s tape = map (channel_of s) (numbers_on tape)
 
 -- The contents of the played messages, in the order in which they are played.
 abbrev pub played_contents : Source → List (List ℕ)

@@ -4,6 +4,7 @@ ghost use Rattle.std.specs.Prelude.{slice_get, length, IfOk, OnOk, IfSome, IsErr
 ghost use Rattle.std.specs.Prelude.{option_map, is_some, ◌&&◌};
 ghost use Rattle.std.specs.List.{find, list_any};
 ghost use Rattle.cy_msg.specs.Names.{channel_name};
+ghost use Rattle.cy_msg.specs.declared.token.Token.{Token};
 ghost use Rattle.cy_store.specs.Store.{HasWriteCauses};
 ghost use Rattle.cy_section.specs.declared.types.Channel.{Channel};
 ghost use Rattle.cy_writer.specs.Writes.{Makes};
@@ -11,23 +12,38 @@ ghost use Rattle.cy_writer.specs.Record.{channel_shown, channels_shown};
 ghost use Rattle.cy_writer.specs.RecordWrites.{file_writes, record_puts};
 ghost use Rattle.cy_reader.specs.Named.{channel_made};
 ghost use Rattle.cy_recording.specs.Recording.{IsWritable, source_of, channel_of, has_ticks};
-ghost use Rattle.cy_recording.specs.Recording.{channels_of_tape, chunks_of_tape};
+ghost use Rattle.cy_recording.specs.Recording.{channels_of_tape, chunks_of_tape, numbers_on};
 
 mod laws;
-mod tape_channels;
 mod tape_messages;
 
 use crate::Played;
-use crate::recording::tape_channels::TapeChannels;
 use crate::recording::tape_messages::TapeMessages;
 use cy_comp::Plan;
 use cy_msg::Token;
 use cy_reader::Record;
 use cy_section::Channel;
 use cy_store::Store;
-use cy_writer::{ChannelRef, WriteError};
+use cy_writer::{ChannelOrder, ChannelRef, WriteError};
 pub use laws::{played_places_are_there, tape_record_is_its_text};
 use std::alloc::Global;
+
+// The channels that have a message on a tape, of so many.
+fn order_of(alloc: Global, channels: u32, tape: &[Token]) -> Result<ChannelOrder, WriteError>
+    requires { (n : ℕ) (t : Token) → slice_get tape.now n ≡ Some t → t.channel < channels }
+    ensures numbers { IfOk result (λ o. o.numbers ≡ numbers_on tape.now) }
+    ensures only_memory { IsOkUnless result WriteError.Memory }
+{
+    let mut order = ChannelOrder::none(alloc, channels)?;
+    for token in tape {
+        // Where each channel stands there, the rest of the tape adds none.
+        if order.is_full() {
+            return Ok(order);
+        }
+        order.note(token.channel)?;
+    }
+    Ok(order)
+}
 
 // The component that writes a channel.
 fn writer_of(plans: &[Plan], channel: u32) -> Option<&Plan>
@@ -137,8 +153,8 @@ pub fn write_record<S: Store>(
     ensures causes { HasWriteCauses (IsErrOf result WriteError.Failed) (S.shows store.old)
         (S.shows store.new) }
 {
-    let channels = TapeChannels::of(alloc, played.wiring.names.count(), tape)?;
-    let written = written_channels(alloc, played, &channels.order)?;
-    let messages = TapeMessages::new(alloc, played, &channels, tape);
+    let order = order_of(alloc, played.wiring.names.count(), tape)?;
+    let written = written_channels(alloc, played, order.numbers())?;
+    let messages = TapeMessages::new(alloc, played, &order, tape);
     cy_writer::write_record(alloc, store, name, &written, messages)
 }

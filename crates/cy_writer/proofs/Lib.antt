@@ -14,3 +14,7 @@ pub mod Stopping
 pub mod Unput
 pub mod Beginning
 pub mod Stopped
+pub mod FirstPlaces
+pub mod OrderTable
+pub mod OrderNumbers
+pub mod OrderNames

@@ -11,3 +11,4 @@ pub mod File
 pub mod Messages
 pub mod Record
 pub mod Unfinished
+pub mod Order

@@ -4,7 +4,8 @@
 //! `specs/Given` says what a writer was given and what it puts into its file for it, `specs/Stands`
 //! what it keeps of that, `specs/Writes` what stands in the store where a write fails.
 //! `specs/Record` says what one call comes to that writes a whole record, and `specs/Messages` how
-//! its messages are given, and `specs/File` what writing a file in one piece comes to.
+//! its messages are given, `specs/Order` in which order channels first come, and `specs/File` what
+//! writing a file in one piece comes to.
 #![tactic(auto)]
 
 mod chunk;
@@ -14,6 +15,7 @@ mod headers;
 mod kept;
 mod laws;
 mod messages;
+mod order;
 mod put;
 mod record;
 mod sum;
@@ -27,5 +29,6 @@ pub use laws::{
     record_writes_leave_the_record, stopped_writes_leave_a_front, stopped_writes_leave_other_files,
 };
 pub use messages::{Messages, Stamp};
+pub use order::ChannelOrder;
 pub use record::{ChannelRef, write_record};
 pub use writer::RecordWriter;

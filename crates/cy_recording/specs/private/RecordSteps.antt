@@ -1,19 +1,11 @@
 -- Single steps of writing the record of a tape.
-use Rattle.std.specs.Prelude.{ℕ, ◌≡◌, ◌<◌, ◌==◌, true, List, Option, Some, length, map}
-use Rattle.std.specs.Prelude.{slice_get, eqb, unwrap_or, option_copied}
-use Rattle.std.specs.List.{list_any, position, IsDistinct}
+use Rattle.std.specs.Prelude.{ℕ, ◌≡◌, ◌==◌, true, List, Some, map, slice_get, unwrap_or}
+use Rattle.std.specs.Prelude.{option_copied}
+use Rattle.std.specs.List.{list_any, position}
 use Rattle.cy_msg.specs.declared.token.Token.{Token}
 use Rattle.cy_writer.specs.Messages.{Message, Giving}
 use Rattle.cy_recording.specs.Recording.{Source, source_of, content_of, IsWritable}
 use Rattle.cy_recording.specs.declared.recording.tape_messages.TapeMessages.{TapeMessages}
-
--- A table has for each channel its place in an order, if it stands there. No channel stands twice
--- in the order, and each is one that the table has.
-pub record AreNumbered (order : List ℕ) (numbers : List (Option ℕ)) : Type 0 where
-  pub places : (c : ℕ) → c < length numbers
-      → slice_get numbers c ≡ Some (position (λ other. c == other) order)
-  pub once : IsDistinct eqb order
-  pub below : (c : ℕ) → list_any (λ other. c == other) order ≡ true → c < length numbers
 
 -- The channel of each message stands in an order.
 abbrev pub ArePlaced : List ℕ → List Token → Type 0
@@ -35,11 +27,10 @@ all_given s order tape = map (given_of s order) tape
 abbrev pub giving_of : TapeMessages → Giving
 giving_of m = record {
   content = unwrap_or (option_copied m.lent) m.made;
-  rest = all_given (source_of m.played.now) m.channels.now.order.items m.rest.now;
+  rest = all_given (source_of m.played.now) m.order.now.numbers m.rest.now;
 }
 
 -- Those that are still to come can be given.
 pub record CanGoOn (m : TapeMessages) : Type 0 where
-  pub numbered : AreNumbered m.channels.now.order.items m.channels.now.numbers.items
-  pub placed : ArePlaced m.channels.now.order.items m.rest.now
+  pub placed : ArePlaced m.order.now.numbers m.rest.now
   pub writable : IsWritable (source_of m.played.now) m.rest.now

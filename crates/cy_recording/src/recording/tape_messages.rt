@@ -3,15 +3,12 @@ ghost use Rattle.std.specs.Prelude.{◌≡◌, ◌<◌, ℕ, List, Some, None, l
 ghost use Rattle.std.specs.Prelude.{option_copied, IfOk, OnOk, IsOkUnless};
 ghost use Rattle.cy_recording.specs.Recording.{source_of, content_by, content_of, played_contents};
 ghost use Rattle.cy_recording.specs.Recording.{IsWritable};
-ghost use Rattle.cy_recording.specs.private.RecordSteps.{AreNumbered, ArePlaced, CanGoOn};
-ghost use Rattle.cy_recording.specs.private.RecordSteps.{all_given};
-ghost use Rattle.cy_recording.specs.private.RecordSteps.{giving_of};
+ghost use Rattle.cy_recording.specs.private.RecordSteps.{ArePlaced, CanGoOn, all_given, giving_of};
 
 use crate::Played;
-use crate::recording::tape_channels::TapeChannels;
 use cy_msg::Token;
 use cy_wire::{WireError, Writer, put_whole};
-use cy_writer::{Messages, Stamp, WriteError};
+use cy_writer::{ChannelOrder, Messages, Stamp, WriteError};
 use std::alloc::Global;
 
 // The messages of a tape: those that are still to come, and the content of the one that was taken
@@ -19,7 +16,7 @@ use std::alloc::Global;
 #[derive(Drop)]
 pub(crate) struct TapeMessages<'a> {
     played: &'a Played<'a>,
-    channels: &'a TapeChannels,
+    order: &'a ChannelOrder,
     rest: &'a [Token],
     lent: Option<&'a [u8]>,
     made: Writer,
@@ -82,23 +79,22 @@ fn take_content<'a>(
 }
 
 impl<'a> TapeMessages<'a> {
-    // All messages of a tape, on channels that are numbered so.
+    // All messages of a tape, on channels in this order.
     pub(crate) fn new(
         alloc: Global,
         played: &'a Played<'a>,
-        channels: &'a TapeChannels,
+        order: &'a ChannelOrder,
         tape: &'a [Token],
     ) -> Self
-        requires numbered { AreNumbered channels.now.order.items channels.now.numbers.items }
-        requires placed { ArePlaced channels.now.order.items tape.now }
+        requires placed { ArePlaced order.now.numbers tape.now }
         requires writable { IsWritable (source_of played.now) tape.now }
         ensures can_next { CanGoOn result }
         ensures rest { (giving_of result).rest
-            ≡ all_given (source_of played.now) channels.now.order.items tape.now }
+            ≡ all_given (source_of played.now) order.now.numbers tape.now }
     {
         TapeMessages {
             played,
-            channels,
+            order,
             rest: tape,
             lent: None,
             made: Writer::new(alloc),
@@ -118,7 +114,7 @@ impl Messages for TapeMessages<'_> {
         self.lent = take_content(self.played, &mut self.made, token)?;
         self.rest = rest;
         Ok(Some(Stamp {
-            channel: self.channels.number(token.channel),
+            channel: self.order.place(token.channel),
             time: token.time,
         }))
     }

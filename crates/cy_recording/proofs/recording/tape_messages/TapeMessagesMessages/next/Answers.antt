@@ -6,13 +6,12 @@ pub take_content-requires-clause-origin : goal.take_content-requires-clause-orig
 take_content-requires-clause-origin c =
     first_origin (source_of c.args.self.now.played.now) c.args.self.now.rest.now c.in-Some.rest.now c.in-Some.token.now c.in-Some.ensures.cases.0 c.requires.writable
 
-pub number-requires-clause-there : goal.number-requires-clause-there
-number-requires-clause-there c =
-    first_placed c.args.self.now.channels.now.order.items c.args.self.now.rest.now c.in-Some.rest.now c.in-Some.token.now c.in-Some.ensures.cases.0 c.requires.placed
+pub place-requires : goal.place-requires
+place-requires c =
+    first_placed c.args.self.now.order.now.numbers c.args.self.now.rest.now c.in-Some.rest.now c.in-Some.token.now c.in-Some.ensures.cases.0 c.requires.placed
 
 pub returns-clause-goes_on : goal.returns-clause-goes_on
 returns-clause-goes_on c = record {
-  numbered = c.requires.numbered;
-  placed = rest_placed c.args.self.now.channels.now.order.items c.args.self.now.rest.now c.in-Some.rest.now c.in-Some.token.now c.in-Some.ensures.cases.0 c.requires.placed;
+  placed = rest_placed c.args.self.now.order.now.numbers c.args.self.now.rest.now c.in-Some.rest.now c.in-Some.token.now c.in-Some.ensures.cases.0 c.requires.placed;
   writable = rest_writable (source_of c.args.self.now.played.now) c.args.self.now.rest.now c.in-Some.rest.now c.in-Some.token.now c.in-Some.ensures.cases.0 c.requires.writable;
 }
