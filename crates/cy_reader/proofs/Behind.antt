@@ -1,5 +1,5 @@
 -- What is met in a body by itself comes to the same behind what was met before.
-use Rattle.std.proofs.Common.{◌≡◌, ◌<◌, ◌≤◌, ◌+◌, ℕ, zero, suc, List, [], ◌∷◌, ◌++◌, length, get_or, refl, sym, ap, subst, ◌∙◌, append_assoc, append-nil, length-append, inl, inr, Option, Some, None, Result, Ok, Err, Bool, true, false, if◌then◌else◌, cond, eqb, ltb-true, All, arith}
+use Rattle.std.proofs.Common.{◌≡◌, ◌<◌, ◌≤◌, ◌+◌, ℕ, zero, suc, List, [], ◌∷◌, ◌++◌, length, refl, sym, ap, subst, ◌∙◌, append_assoc, append-nil, length-append, inl, inr, Option, Some, None, Result, Ok, Err, Bool, true, false, if◌then◌else◌, cond, eqb, ltb-true, All, arith}
 use Rattle.std.specs.Prelude.{map, sum_by, nat_lt, slice_index, slice_index_or, unwrap_or}
 use Rattle.std.specs.List.{position, position_or_len}
 use Rattle.std.specs.Str.{bytes_eq}

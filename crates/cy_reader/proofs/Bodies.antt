@@ -1,6 +1,7 @@
 -- Bodies that are kept one behind another.
 use Rattle.std.proofs.Common.{◌≡◌, ◌<◌, ◌≤◌, ℕ, zero, suc, List, [], ◌∷◌, ◌++◌, length, refl, ap, sym, subst, ◌∙◌, All, arith, Option, Some, None, Result, Ok, Err}
 use Rattle.std.specs.Prelude.{map, slice_index_or}
+use Rattle.std.proofs.lemmas.List.Elements.{All-nil, All-cons, All-head, All-tail}
 use Rattle.cy_wire.specs.Field.{fields_of}
 use Rattle.cy_section.specs.Reading.{messages_of}
 use Rattle.cy_section.specs.declared.types.SectionKind.TheVariants as kind
@@ -85,6 +86,37 @@ pub one_wrong : (p : Part) (left rest : List Part) (c : Met) (e : LoadError) (wh
     → whole ≡ Err e
 one_wrong p left rest c e whole is wrong so_far =
     sym so_far ∙ ap (λ (ps : List Part). sections_met (map seen_part ps) None c) is ∙ ap (λ (r : Result Met LoadError). r >>= sections_met (map seen_part rest) None) wrong
+
+-- the sections of a group, and then those behind it
+through : (r : Result Met LoadError) (f g h : Met → Result Met LoadError) → ((d : Met) → f d ≡ g d >>= h) → r >>= f ≡ (r >>= g) >>= h
+through (Ok d) f g h same = same d
+through (Err e) f g h same = refl
+
+joined : (xs ys : List Part) (c : Met) → sections_met (map seen_part (xs ++ ys)) None c ≡ sections_met (map seen_part xs) None c >>= sections_met (map seen_part ys) None
+joined [] ys c = refl
+joined (x ∷ xs) ys c = through (section_met (seen_part x) c) (sections_met (map seen_part (xs ++ ys)) None) (sections_met (map seen_part xs) None) (sections_met (map seen_part ys) None) (λ d. joined xs ys d)
+
+pub group_met : (group behind all : List Part) (c d : Met) (whole : Result Met LoadError) → all ≡ group ++ behind → sections_met (map seen_part group) None c ≡ Ok d → sections_met (map seen_part all) None c ≡ whole
+    → sections_met (map seen_part behind) None d ≡ whole
+group_met group behind all c d whole is met so_far =
+    sym (ap (λ (r : Result Met LoadError). r >>= sections_met (map seen_part behind) None) met) ∙ sym (joined group behind c) ∙ sym (ap (λ (ps : List Part). sections_met (map seen_part ps) None c) is) ∙ so_far
+
+pub group_wrong : (group behind all : List Part) (c : Met) (e : LoadError) (whole : Result Met LoadError) → all ≡ group ++ behind → sections_met (map seen_part group) None c ≡ Err e → sections_met (map seen_part all) None c ≡ whole
+    → whole ≡ Err e
+group_wrong group behind all c e whole is wrong so_far =
+    sym so_far ∙ ap (λ (ps : List Part). sections_met (map seen_part ps) None c) is ∙ joined group behind c ∙ ap (λ (r : Result Met LoadError). r >>= sections_met (map seen_part behind) None) wrong
+
+front_within : (P : Part → Type 0) (group behind : List Part) → All P (group ++ behind) → All P group × All P behind
+front_within P [] behind fine = (All-nil P, fine)
+front_within P (p ∷ group) behind fine =
+    let both = front_within P group behind (All-tail P p (group ++ behind) fine) in
+    (All-cons P p group (All-head P p (group ++ behind) fine) both.0, both.1)
+
+pub group_within : (P : Part → Type 0) (group behind all : List Part) → all ≡ group ++ behind → All P all → All P group
+group_within P group behind all is fine = (front_within P group behind (subst (All P) is fine)).0
+
+pub behind_within : (P : Part → Type 0) (group behind all : List Part) → all ≡ group ++ behind → All P all → All P behind
+behind_within P group behind all is fine = (front_within P group behind (subst (All P) is fine)).1
 
 pub first_within : (P : Part → Type 0) (p : Part) (left rest : List Part) → left ≡ p ∷ rest → All P left → P p
 first_within P p left rest is all = (subst (All P) is all) 0 p (omega arith)

@@ -17,6 +17,7 @@ use Rattle.cy_reader.specs.private.Cutting.{IsCut, CutAnswer}
 use Rattle.cy_reader.specs.private.Front.{IsFront, FrontAnswer, cut_record}
 use Rattle.cy_reader.proofs.Fronts.{front_header, front_head, cut_is}
 use Rattle.cy_reader.proofs.Refusals.{err_is, no_err}
+use Rattle.cy_reader.proofs.Told.{cut_named}
 
 header_refused : (name file : List ℕ) (e : LoadError) → file_header file ≡ Err e → record_of name file ≡ Err e
 unfolding record_of parts_of
@@ -81,6 +82,7 @@ loaded_so old mid new name f c result front cut is other = by_result result is o
     by_result : (r : Result Contents LoadError) → AnswersOr Memory (λ (r : Contents). r) r (cut_record name f c) → IfErr r (λ e. e ≢ Store) → LoadAnswer old new name r
     by_result (Ok r) made none = record {
       contents = held_by old.files name (λ file e. e ∙ made) there;
+      stand = cut_named name f c r made;
       refused = tt;
       same = cut.same ∙ front.same;
       causes = record {
@@ -92,6 +94,7 @@ loaded_so old mid new name f c result front cut is other = by_result result is o
     }
     by_result (Err e) made none = record {
       contents = tt;
+      stand = tt;
       refused = elim made [
         | inl memory ↦ inl memory
         | inr wrong ↦ inr (inr (held_by old.files name (λ file same. same ∙ wrong) there))

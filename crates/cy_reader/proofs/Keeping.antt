@@ -20,6 +20,7 @@ use Rattle.cy_reader.specs.Heads.{PlacedIndex, whole_in, whole_at, end_of, secti
 use Rattle.cy_reader.specs.Record.{Met, Contents, shown, parts_of, source_of, record_of, header_end}
 use Rattle.cy_reader.specs.Load.{FileAnswer, LoadAnswer}
 use Rattle.cy_reader.proofs.Refusals.{err_is, no_err}
+use Rattle.cy_reader.proofs.Told.{record_named}
 
 -- the sections from a place on are those of the first one found and those behind it
 abbrev found_then : Option WholeSection → (ℕ → List WholeSection) → List WholeSection
@@ -89,6 +90,7 @@ pub loaded : (old new : StoreView) (name file : List ℕ) (result : Result Conte
     → AnswersOr Memory (λ (r : Contents). r) result (record_of name file) → IfErr result (λ e. e ≢ Store) → LoadAnswer old new name result
 loaded old new name file (Ok r) read is other = record {
   contents = held_by old.files name (λ held e. ap (record_of name) e ∙ is) read.whole;
+  stand = record_named name file r is;
   refused = tt;
   same = read.same;
   causes = record {
@@ -100,6 +102,7 @@ loaded old new name file (Ok r) read is other = record {
 }
 loaded old new name file (Err e) read is other = record {
   contents = tt;
+  stand = tt;
   refused = elim is [
     | inl memory ↦ inl memory
     | inr wrong ↦ inr (inr (held_by old.files name (λ held same. ap (record_of name) same ∙ wrong) read.whole))

@@ -1,6 +1,6 @@
 -- What is kept of a body that was met by itself, once it stands behind others.
-use Rattle.std.proofs.Common.{◌≡◌, ◌<◌, ◌≤◌, ◌+◌, ◌^◌, ℕ, zero, suc, List, [], ◌∷◌, ◌++◌, length, length-append, refl, sym, ap, subst, ◌∙◌, All, arith, Result, Ok, Err, Some, ◌⊎◌, inl, inr}
-use Rattle.std.specs.Prelude.{map, slice_index, slice_index_or, OnOk, IsOkUnless, IfSome, MatchOption, Option, None}
+use Rattle.std.proofs.Common.{◌≡◌, ◌<◌, ◌+◌, ◌^◌, ℕ, zero, suc, List, [], ◌∷◌, ◌++◌, length, length-append, refl, sym, ap, subst, ◌∙◌, All, arith, Result, Ok, Err, Some, ◌⊎◌, inl, inr}
+use Rattle.std.specs.Prelude.{map, slice_index_or, OnOk, IsOkUnless, IfSome, MatchOption, Option, None}
 use Rattle.std.specs.Option.{option_flatten}
 use Rattle.std.proofs.lemmas.List.{length-map}
 use Rattle.std.proofs.lemmas.List.Elements.{All-append, All-cons, All-nil}
@@ -11,12 +11,13 @@ use Rattle.cy_reader.specs.declared.error.LoadError.TheVariants.{Memory}
 use Rattle.cy_reader.specs.declared.known.Known.{Known}
 use Rattle.cy_reader.specs.declared.cutting.Part.{Part}
 use Rattle.cy_reader.specs.declared.decoding.Alone.{Alone}
+use Rattle.cy_reader.specs.declared.channels.Channels.{Channels}
 use Rattle.cy_reader.specs.declared.loading.Loading.{Loading}
 use Rattle.cy_reader.specs.declared.loading.Message.{Message}
 use Rattle.cy_reader.specs.Record as meaning
 use Rattle.cy_reader.specs.Record.{◌>>=◌, Met, number_of, body_met, nothing}
-use Rattle.cy_reader.specs.private.Alone.{AreDecoded, all_mentioned, behind, name_in, renumbered, moved, met_alone, AreNumbers, IsClosed, IsAlone}
-use Rattle.cy_reader.specs.private.Loading.{IsNothing, IsSound, Grows, Leads, message_of, met_of}
+use Rattle.cy_reader.specs.private.Alone.{AreDecoded, all_mentioned, behind, renumbered, moved, met_alone, AreNumbers, IsClosed, IsAlone}
+use Rattle.cy_reader.specs.private.Loading.{AreSmall, IsTied, IsNothing, IsSound, Grows, Leads, message_of, met_of}
 use Rattle.cy_reader.proofs.Behind.{body_alone}
 use Rattle.cy_reader.proofs.Bodies.{all_behind}
 use Rattle.cy_reader.proofs.Sound.{last_body}
@@ -121,6 +122,19 @@ alone_leads r p alone before old new is leads =
     subst (λ (m : Result Met LoadError). Leads r (met_of (before ++ p.body ∷ []) new) m) (sym (body_alone (met_of before old) all.fault all.messages (met_alone p.body alone) is.met)) leads
 
 -- a body by itself, where nothing was met before it
+-- what is kept is told by the channels and by the messages alone
+pub sound_same : (bodies : ℕ) (l m : Loading) → l.channels ≡ m.channels → m.messages.items ≡ l.messages.items → IsSound bodies l → IsSound bodies m
+sound_same bodies l m channels messages sound = record {
+  small = subst (λ (c : Channels). AreSmall c.list.items) channels sound.small;
+  tied = subst IsTied channels sound.tied;
+  few = rw messages sound.few;
+  numbered = rw messages (subst (λ (c : Channels). All (λ (x : Message). x.channel < length c.list.items) l.messages.items) channels sound.numbered);
+  placed = rw messages sound.placed;
+}
+
+pub met_same : (bodies : List (List ℕ)) (l m : Loading) → l.channels ≡ m.channels → m.messages.items ≡ l.messages.items → met_of bodies l ≡ met_of bodies m
+met_same bodies l m channels messages = rw (messages, channels) refl
+
 pub nothing_sound : (bodies : ℕ) (l : Loading) → IsNothing l → IsSound bodies l
 nothing_sound bodies l is = record {
   small = rw is.channels (record { few = omega arith; small = omega arith });

@@ -1,7 +1,8 @@
 -- What is salvaged of a file whose front and sections were read.
-use Rattle.std.proofs.Common.{◌≡◌, ◌≢◌, ◌≤◌, ◌<◌, ◌+◌, ◌-◌, ℕ, List, [], ◌∷◌, ◌++◌, length, take, drop, get_or, min, refl, ap, sym, subst, ◌∙◌, arith, append_assoc, append-nil, Bool, true, false, cond, Option, Some, None, Result, Ok, Err, ◌⊎◌, inl, inr, eq-eqb}
-use Rattle.std.specs.Prelude.{ℤ, map, IfOk, IfErr, IsSome, is_none, is_some, ◌==◌, ◌&&◌, ◌||◌, not, nat_lt}
+use Rattle.std.proofs.Common.{◌≡◌, ◌≢◌, ◌≤◌, ◌<◌, ◌+◌, ◌-◌, ℕ, zero, suc, List, [], ◌∷◌, ◌++◌, length, take, drop, get_or, min, refl, ap, sym, subst, ◌∙◌, arith, append_assoc, append-nil, Bool, true, false, cond, Option, Some, None, Result, Ok, Err, ◌⊎◌, inl, inr, eq-eqb}
+use Rattle.std.specs.Prelude.{ℤ, map, IfOk, IfErr, IfSome, IsSome, is_none, is_some, ◌==◌, ◌&&◌, ◌||◌, not, nat_lt}
 use Rattle.std.specs.Int.{w64, cast_signed}
+use Rattle.std.specs.Option.{ok_or}
 use Rattle.std.proofs.lemmas.Bool.{lt-ltb, cases_lt}
 use Rattle.std.proofs.lemmas.Grind.{common_steps}
 use Rattle.std.proofs.lemmas.List.{take_more, take_all, drop_more, drop_all}
@@ -14,7 +15,6 @@ use Rattle.cy_store.proofs.ReadFront.{both_held, may_hold}
 use Rattle.cy_section.specs.declared.error.SectionError.{SectionError}
 use Rattle.cy_section.specs.declared.error.SectionError.TheVariants as fault
 use Rattle.cy_section.specs.declared.types.Channel.{Channel}
-use Rattle.cy_section.specs.declared.types.Header.{Header}
 use Rattle.cy_section.specs.declared.types.SectionKind.TheVariants as kind
 use Rattle.cy_section.specs.Reading.{channel_at}
 use Rattle.cy_reader.specs.declared.error.LoadError.{LoadError}
@@ -26,10 +26,11 @@ use Rattle.cy_reader.specs.Heads.{end_of}
 use Rattle.cy_reader.specs.Record.{◌>>=◌, Met, file_header, header_end, longest_file, sections_met, nothing}
 use Rattle.cy_reader.specs.Salvage.{Salvage, SalvageAnswer, own_fault, until_fault, sound_sections, if_usable, dropped_at, salvage_in, salvage_of}
 use Rattle.cy_reader.specs.private.Cutting.{IsCut, CutAnswer, seen_part, fault_in}
-use Rattle.cy_reader.specs.private.Salvaging.{AreSound, SizeAnswer, cut_salvage}
+use Rattle.cy_reader.specs.private.Salvaging.{IsJudged, AreJudged, AreSound, SizeAnswer, cut_salvage}
 use Rattle.cy_reader.proofs.Fronts.{front_header}
 use Rattle.cy_reader.proofs.FrontRead.{same_counts}
 use Rattle.cy_reader.proofs.Refusals.{err_is, no_err}
+use Rattle.cy_reader.proofs.Told.{salvage_named}
 
 -- ---- the front
 
@@ -168,6 +169,7 @@ salvaged_so old mid new name size c result front cut is other = by_result result
     by_result : (r : Result Salvage LoadError) → AnswersOr Memory (λ (s : Salvage). s) r (cut_salvage size c) → IfErr r (λ e. e ≢ Store) → SalvageAnswer old new name r
     by_result (Ok r) made none = record {
       salvage = held_by old.files name (λ file e. e ∙ made) there;
+      stand = salvage_named size c r made;
       refused = tt;
       same = cut.same ∙ front.same;
       causes = record {
@@ -179,6 +181,7 @@ salvaged_so old mid new name size c result front cut is other = by_result result
     }
     by_result (Err e) made none = record {
       salvage = tt;
+      stand = tt;
       refused = elim made [
         | inl memory ↦ inl memory
         | inr wrong ↦ inr (inr (held_by old.files name (λ file same. same ∙ wrong) there))
@@ -228,6 +231,31 @@ sound_until parts i p faulty fault low is told is_faulty so_far = by (own_fault 
       all = λ end. absurd (omega (arith, end));
       some = λ _. refl;
     }
+
+-- what is told of a section
+told_so : (o : Option Bool) (b : Bool) (e : LoadError) → (let r : Result Bool LoadError = Ok b in r ≡ ok_or o e) → o ≡ Some b
+told_so (Some x) b e is = cc
+told_so None b e is = absurd cc
+
+judged_so : (parts : List Part) (faults : List (Option Bool)) (i : ℕ) (b : Bool) → AreJudged parts faults → i < length faults → get_or faults i None ≡ Some b
+    → (p : Part) × ((i < length parts) × ((p ≡ get_or parts i p) × IsJudged p b))
+judged_so [] [] i b all low is = absurd (omega (arith, low))
+judged_so [] (o ∷ faults) i b all low is = absurd all
+judged_so (p ∷ parts) [] i b all low is = absurd all
+judged_so (p ∷ parts) (o ∷ faults) zero b all low is = (p, (omega arith, (refl, subst (λ (x : Option Bool). IfSome x (IsJudged p)) is all.0)))
+judged_so (p ∷ parts) (o ∷ faults) (suc i) b all low is =
+    let q = judged_so parts faults i b all.1 (omega (arith, low)) is in
+    (q.0, (omega (arith, q.1.0), (q.1.1.0, q.1.1.1)))
+
+pub judged_at : (parts : List Part) (faults : List (Option Bool)) (i : ℕ) (b : Bool) (e : LoadError) → AreJudged parts faults → i < length faults → (let r : Result Bool LoadError = Ok b in r ≡ ok_or (get_or faults i None) e)
+    → (p : Part) × ((i < length parts) × ((p ≡ get_or parts i p) × IsJudged p b))
+judged_at parts faults i b e all low is = judged_so parts faults i b all low (told_so (get_or faults i None) b e is)
+
+pub all_judged : (parts : List Part) (faults : List (Option Bool)) → AreJudged parts faults → length parts ≡ length faults
+all_judged [] [] all = refl
+all_judged [] (o ∷ faults) all = absurd all
+all_judged (p ∷ parts) [] all = absurd all
+all_judged (p ∷ parts) (o ∷ faults) all = ap suc (all_judged parts faults all.1)
 
 pub sound_all : (parts : List Part) (i n : ℕ) (fault : Option SectionError) → length parts ≤ i → n ≡ length parts
     → until_fault (map seen_part parts) fault ≡ behind (take i parts) (until_fault (map seen_part (drop i parts)) fault) → AreSound parts n fault

@@ -13,7 +13,6 @@ use Rattle.cy_msg.specs.Once.{IsOnce}
 use Rattle.cy_section.specs.declared.error.SectionError.{SectionError}
 use Rattle.cy_section.specs.declared.types.BodyMessage.{BodyMessage}
 use Rattle.cy_section.specs.declared.types.Channel.{Channel}
-use Rattle.cy_section.specs.declared.types.ChunkHeader.{ChunkHeader}
 use Rattle.cy_section.specs.declared.types.Header.{Header}
 use Rattle.cy_section.specs.declared.types.SectionKind.{SectionKind}
 use Rattle.cy_section.specs.declared.types.SectionKind.TheVariants as kind
@@ -24,7 +23,13 @@ use Rattle.cy_reader.specs.declared.known.Known.{Known}
 use Rattle.cy_reader.specs.Sections.{WholeSection, sections_from}
 use Rattle.cy_reader.specs.Record.{◌>>=◌, Met, Message, Contents, shown, source_of, file_header, header_end, parts_of, record_of, fault_of, of_section, size_of, number_of, within_limits, named_only, with_section, name_fits, mentioned, given_at, given, channel_given, name_mentioned, channel_met, content_fits, numbered, message_met, messages_met, body_met, section_of, section_met, sections_met, nothing, most_channels, largest_channels, longest_name, longest_content}
 use Rattle.cy_reader.specs.Named.{name_in, with_name, named_messages}
-use Rattle.cy_reader.specs.Said.{messages_under, section_messages, names_of, IsSaid}
+use Rattle.cy_reader.specs.declared.cutting.CutFile.{CutFile}
+use Rattle.cy_reader.specs.declared.front.Front.{Front}
+use Rattle.cy_reader.specs.private.Cutting.{seen_part, fault_in}
+use Rattle.cy_reader.specs.private.Front.{cut_record, cut_source}
+use Rattle.cy_reader.specs.private.Salvaging.{cut_salvage}
+use Rattle.cy_reader.specs.Salvage.{Salvage, until_fault, dropped_behind}
+use Rattle.cy_reader.specs.Said.{messages_under, section_messages, names_of, StandOnChannels, IsSaid}
 use Rattle.cy_reader.proofs.Bodies.{then_fault, before_fault}
 use Rattle.cy_reader.proofs.Sums.{position-added}
 
@@ -337,19 +342,48 @@ no_fault ss (Some fault) met h = by (sections_met ss None nothing) refl
     by (Ok m) e = absurd (not_ok (fault_of fault) met (sym (then_fault ss nothing m fault e) ∙ h))
     by (Err x) e = absurd (not_ok x met (sym (before_fault ss nothing (Some fault) x e) ∙ h))
 
-parts_once : (file : List ℕ) (p : Header × Met) → parts_of file ≡ Ok p → IsOnce (names_of p.1.channels)
+-- what was met is named
+below_at : (n : ℕ) (ms : List Message) → AreBelow n ms → (i : ℕ) (m : Message) → slice_get ms i ≡ Some m → m.channel < n
+below_at n [] all i m there = absurd (none-some m there)
+below_at n (x ∷ ms) all zero m there = subst (λ (y : Message). y.channel < n) (same_Some x m there) all.0
+below_at n (x ∷ ms) all (suc i) m there = below_at n ms all.1 i m there
+
+met_named : (ss : List WholeSection) (fault : Option SectionError) (met : Met) → sections_met ss fault nothing ≡ Ok met → StandOnChannels met.channels met.messages
+met_named ss fault met h =
+    let all = all_sections ss nothing met (no_fault ss fault met h) (record { once = λ m n x there other. absurd (none-some x there); below = tt }) in
+    record { once = all.fine.once; on_channels = below_at (length met.channels) met.messages all.fine.below }
+
+parts_named : (file : List ℕ) (p : Header × Met) → parts_of file ≡ Ok p → StandOnChannels p.1.channels p.1.messages
 unfolding parts_of
-parts_once file p h =
+parts_named file p h =
     let all = sections_from file header_end in
     let pair : Header → Met → Header × Met = λ header met. (header, met) in
     let a = bind_ok (file_header file) (λ header. sections_met all.sections all.fault nothing >>= λ met. Ok (pair header met)) p h in
     let b = bind_ok (sections_met all.sections all.fault nothing) (λ met. Ok (pair a.0 met)) p a.1.1 in
     let is : pair a.0 b.0 ≡ p = ok_is (pair a.0 b.0) p b.1.1 in
-    subst (λ (q : Header × Met). IsOnce (names_of q.1.channels)) is (told_as_said all.sections b.0 (no_fault all.sections all.fault b.0 b.1.0)).once
+    subst (λ (q : Header × Met). StandOnChannels q.1.channels q.1.messages) is (met_named all.sections all.fault b.0 b.1.0)
 
-pub record_once : (name file : List ℕ) (c : Contents) → record_of name file ≡ Ok c → IsOnce (names_of c.channels)
+pub record_named : (name file : List ℕ) (c : Contents) → record_of name file ≡ Ok c → StandOnChannels c.channels c.messages
 unfolding record_of
-record_once name file c h =
+record_named name file c h =
     let made : Header × Met → Contents = λ parts. shown (source_of name file parts.0) parts.1 in
     let a = bind_ok (parts_of file) (λ parts. Ok (made parts)) c h in
-    subst (λ (d : Contents). IsOnce (names_of d.channels)) (ok_is (made a.0) c a.1.1) (parts_once file a.0 a.1.0)
+    subst (λ (d : Contents). StandOnChannels d.channels d.messages) (ok_is (made a.0) c a.1.1) (parts_named file a.0 a.1.0)
+
+pub record_once : (name file : List ℕ) (c : Contents) → record_of name file ≡ Ok c → IsOnce (names_of c.channels)
+record_once name file c h = (record_named name file c h).once
+
+pub cut_named : (name : List ℕ) (f : Front) (c : CutFile) (r : Contents) → cut_record name f c ≡ Ok r → StandOnChannels r.channels r.messages
+unfolding cut_record
+cut_named name f c r h =
+    let made : Met → Contents = shown (cut_source name f c) in
+    let a = bind_ok (sections_met (map seen_part c.parts.items) (fault_in c.end) nothing) (λ met. Ok (made met)) r h in
+    subst (λ (d : Contents). StandOnChannels d.channels d.messages) (ok_is (made a.0) r a.1.1) (met_named (map seen_part c.parts.items) (fault_in c.end) a.0 a.1.0)
+
+pub salvage_named : (size : ℕ) (c : CutFile) (s : Salvage) → cut_salvage size c ≡ Ok s → StandOnChannels s.met.channels s.met.messages
+unfolding cut_salvage
+salvage_named size c s h =
+    let sound = until_fault (map seen_part c.parts.items) (fault_in c.end) in
+    let made : Met → Salvage = λ met. record { met = met; dropped = dropped_behind size sound } in
+    let a = bind_ok (sections_met sound.sections None nothing) (λ met. Ok (made met)) s h in
+    subst (λ (d : Salvage). StandOnChannels d.met.channels d.met.messages) (ok_is (made a.0) s a.1.1) (met_named sound.sections None a.0 a.1.0)

@@ -1,5 +1,5 @@
 -- What sections say, one by one, and what their record has of it.
-use Rattle.std.specs.Prelude.{◌≡◌, ℕ, List, [], map, None, Ok}
+use Rattle.std.specs.Prelude.{◌≡◌, ◌<◌, ℕ, List, [], map, length, slice_get, Some, None, Ok}
 use Rattle.std.specs.List.{flat_map}
 use Rattle.cy_wire.specs.Field.{fields_of}
 use Rattle.cy_msg.specs.Once.{IsOnce}
@@ -9,7 +9,7 @@ use Rattle.cy_section.specs.declared.types.BodyMessage.{BodyMessage}
 use Rattle.cy_section.specs.Reading.{messages_of}
 use Rattle.cy_reader.specs.declared.known.Known.{Known}
 use Rattle.cy_reader.specs.Sections.{WholeSection}
-use Rattle.cy_reader.specs.Record.{Met, Contents, nothing, sections_met, record_of}
+use Rattle.cy_reader.specs.Record.{Met, Message, Contents, nothing, sections_met, record_of}
 use Rattle.cy_reader.specs.Named.{named_messages}
 
 -- The messages of a section: those of a chunk's body.
@@ -27,6 +27,12 @@ section_messages s = messages_under s.kind s.body_at s.body
 -- The names of channels.
 abbrev pub names_of : List Known → List (List ℕ)
 names_of channels = map (λ (k : Known). k.channel.name) channels
+
+-- No two channels have one name, and each message stands on one of them.
+pub record StandOnChannels (channels : List Known) (messages : List Message) : Type 0 where
+  pub once : IsOnce (names_of channels)
+  pub on_channels : (n : ℕ) (m : Message) → slice_get messages n ≡ Some m
+      → m.channel < length channels
 
 -- The messages of sections that are met are theirs, in file order, each on the channel of its name;
 -- and no two channels have one name.

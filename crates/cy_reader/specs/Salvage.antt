@@ -1,6 +1,6 @@
 -- What is salvaged of a record's file: what its sections say that stand before the first fault.
 use Rattle.std.specs.Prelude.{◌≡◌, ◌⊎◌, ℕ, ◌-◌, Bool, true, false, if◌then◌else◌, List, [], ◌∷◌}
-use Rattle.std.specs.Prelude.{length, map, Option, Some, None, Result, Ok, Err}
+use Rattle.std.specs.Prelude.{length, Option, Some, None, Result, Ok, Err}
 use Rattle.std.specs.Prelude.{IfOk, IfErr, IsErrOf}
 use Rattle.cy_wire.specs.Field.{fields_of}
 use Rattle.cy_store.specs.Files.{Holds}
@@ -10,7 +10,6 @@ use Rattle.cy_section.specs.declared.error.SectionError.TheVariants as fault
 use Rattle.cy_section.specs.declared.types.SectionKind.{SectionKind}
 use Rattle.cy_section.specs.declared.types.SectionKind.TheVariants as kind
 use Rattle.cy_section.specs.declared.types.Header.{Header}
-use Rattle.cy_section.specs.declared.types.BodyMessage.{BodyMessage}
 use Rattle.cy_section.specs.Reading.{chunk_header_at, channel_at, messages_of}
 use Rattle.cy_reader.specs.declared.error.LoadError.{LoadError}
 use Rattle.cy_reader.specs.declared.error.LoadError.TheVariants.{Section, Store, Memory}
@@ -18,6 +17,7 @@ use Rattle.cy_reader.specs.Sections.{WholeSection, Sections, no_section, with_se
 use Rattle.cy_reader.specs.Sections.{sections_from}
 use Rattle.cy_reader.specs.Heads.{end_of}
 use Rattle.cy_reader.specs.Record.{◌>>=◌, Met, nothing, file_header, header_end, sections_met}
+use Rattle.cy_reader.specs.Said.{StandOnChannels}
 
 -- The fault of a section's own fields, if they have one.
 abbrev pub fault_by : {A : Type 0} → Result A SectionError → Option SectionError
@@ -82,11 +82,13 @@ unfoldable pub salvage_of : List ℕ → Result Salvage LoadError
 salvage_of file = if_usable (file_header file) >>= λ usable.
     salvage_in (length file) (sound_sections file)
 
--- What `salvage_record` answers: what is salvaged of the file, or why nothing is. It changes no file,
--- and answers `Store` only where the store's count rose.
+-- What `salvage_record` answers: what is salvaged of the file, or why nothing is. Whatever the file
+-- holds, the channels have different names, and each message stands on one. It changes no file, and
+-- answers `Store` only where the store's count rose.
 pub record SalvageAnswer (old new : StoreView) (name : List ℕ) (result : Result Salvage LoadError) :
     Type 0 where
   pub salvage : IfOk result (λ s. Holds old.files name (λ file. salvage_of file ≡ Ok s))
+  pub stand : IfOk result (λ s. StandOnChannels s.met.channels s.met.messages)
   pub refused : IfErr result (λ e. (e ≡ Memory) ⊎ ((e ≡ Store)
       ⊎ Holds old.files name (λ file. salvage_of file ≡ Err e)))
   pub same : new.files ≡ old.files

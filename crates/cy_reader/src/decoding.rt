@@ -14,12 +14,12 @@ use rayon::prelude::*;
 use std::alloc::{AllocError, Global};
 use std::thread::Threads;
 
-// The shortest body that is decoded by itself, in bytes: what is kept of it for a while takes some
-// hundred bytes beside its messages.
+// The shortest body that is decoded by itself, in bytes: below, the lists that are made for it and
+// joined take as long as is won.
 const SHORTEST_BODY: usize = 4_096;
 
-// How many bytes of bodies are worth threads.
-const WORTH_THREADS: usize = 262_144;
+// How many bytes of bodies are worth threads: below, their start takes as long as is won.
+const WORTH_THREADS: usize = 524_288;
 
 // What is met in a body by itself: its channels, in the order of their first mention, and its
 // messages.
@@ -50,7 +50,7 @@ pub(crate) fn alone_of(alloc: Global, part: &Part) -> Result<Alone, LoadError>
     requires { part.now.body_at + length part.now.body ≤ longest_file }
     ensures { IfOk result (IsAlone part.now) }
 {
-    let mut loading = Loading::with_room(alloc, 0)?;
+    let mut loading = Loading::none(alloc);
     match chunk_met(alloc, &[], &mut loading, part) {
         Ok(()) => Ok(Alone::of(loading)),
         Err(error) => {
@@ -73,12 +73,20 @@ fn alone_in(alloc: Global, part: &Part) -> Option<Alone>
     alone_of(alloc, part).ok()
 }
 
-// How few sections a thread takes: with few bytes in all, one thread takes all.
-fn least_piece(parts: &[Part]) -> usize {
-    let bytes = parts.iter().fold(0_usize, |sum, part| {
+// The bytes of the bodies of sections together.
+pub(crate) fn bytes_in(parts: &[Part]) -> usize {
+    parts.iter().fold(0_usize, |sum, part| {
         sum.saturating_add(part.body.as_slice().len())
-    });
-    if bytes < WORTH_THREADS { usize::MAX } else { 1 }
+    })
+}
+
+// How few sections a thread takes: with few bytes in all, one thread takes all.
+pub(crate) fn least_piece(parts: &[Part]) -> usize {
+    if bytes_in(parts) < WORTH_THREADS {
+        usize::MAX
+    } else {
+        1
+    }
 }
 
 // What is met in each section by itself, where it is a chunk's body that is decoded so.

@@ -1,6 +1,7 @@
 // Keeps the chunks' bodies, the channels and the messages of sections that were read.
 ghost use Rattle.std.specs.Prelude.{◌≡◌, ◌≢◌, ◌≤◌, ◌<◌, ◌^◌, ◌+◌, ◌++◌, ◌∷◌, [], All, length, map};
 ghost use Rattle.std.specs.Prelude.{IfOk, IfErr, IfSome, OnOk, IsOkUnless, None};
+ghost use Rattle.std.specs.List.{flat_map};
 ghost use Rattle.cy_msg.specs.Answer.{AnswersOr};
 ghost use Rattle.cy_wire.specs.Field.{fields_of};
 ghost use Rattle.cy_section.specs.Reading.{messages_of};
@@ -14,15 +15,22 @@ ghost use Rattle.cy_reader.specs.private.Loading.{IsSound, Leads, met_of};
 
 use crate::LoadError;
 use crate::cutting::Part;
-use crate::decoding::{Alone, decode};
+use crate::decoding::{Alone, bytes_in, decode};
 use crate::heads::PlacedHead;
 use crate::joining::alone_met;
-use crate::loading::{Body, Loading, body_met, plain_met};
+use crate::loading::{Body, Loading, Message, body_met, plain_met};
 use crate::sections::SectionView;
 use cy_msg::Bytes;
 use cy_section::{HEAD_SIZE, SectionKind};
-use std::alloc::Global;
+use std::alloc::{AllocError, Global};
 use std::thread::Threads;
+
+// A group of sections that are decoded side by side ends once it has so many, the headers of chunks
+// among them, and so many bytes: work enough for all threads, and little beside what a large file
+// has. What is known of its bodies by themselves stands in memory until they are joined.
+const GROUP_SECTIONS: usize = 64;
+
+const GROUP_BYTES: usize = 8_388_608;
 
 // A section, where its bytes lie in memory.
 fn view_of(part: &Part) -> SectionView<'_>
@@ -139,44 +147,85 @@ fn part_met(
     }
 }
 
-// How many messages were met in bodies by themselves.
-fn count_of(decoded: &[Option<Alone>]) -> usize {
-    decoded.iter().fold(0_usize, |sum, alone| match alone {
-        Some(alone) => sum.saturating_add(alone.messages.len()),
-        None => sum,
-    })
-}
-
-// The chunks' bodies, and what is met in sections, one after another: the first fault or limit in
-// the order of the file is answered. Of some bodies it is known what is met in them by themselves.
+// Keeps what sections have, one after another, behind what was met before: the first fault or limit
+// in the order of the file is answered. Of some bodies it is known what is met in them by
+// themselves.
 fn join(
     alloc: Global,
+    bodies: &mut Vec<Bytes>,
+    loading: &mut Loading,
     parts: Vec<Part>,
     decoded: Vec<Option<Alone>>,
-) -> Result<(Vec<Bytes>, Loading), LoadError>
+) -> Result<(), LoadError>
+    requires sound { IsSound (length bodies.old.items) loading.old }
     requires within { All (λ p. p.body_at + length p.body ≤ longest_file) parts.items }
     requires decoded { AreDecoded parts.items decoded.items }
-    ensures met { AnswersOr LoadError.Memory (λ k. met_of k.0.items k.1) result
-        (sections_met (map seen_part parts.items) None nothing) }
-    ensures sound { IfOk result (λ k. IsSound (length k.0.items) k.1) }
+    ensures met { Leads result (met_of bodies.new.items loading.new)
+        (sections_met (map seen_part parts.items) None (met_of bodies.old.items loading.old)) }
+    ensures still_sound { OnOk result (IsSound (length bodies.new.items) loading.new) }
     ensures not_store { IfErr result (λ e. e ≢ LoadError.Store) }
 {
-    let mut bodies = Vec::new(alloc);
-    let mut loading = Loading::with_room(alloc, count_of(decoded.as_slice()))?;
     let mut each = decoded.into_iter();
     for part in parts {
-        part_met(
-            alloc,
-            &mut bodies,
-            &mut loading,
-            part,
-            each.next().flatten(),
-        )?;
+        part_met(alloc, bodies, loading, part, each.next().flatten())?;
     }
-    Ok((bodies, loading))
+    Ok(())
 }
 
-// The chunks' bodies, and what is met in sections. The bodies are decoded side by side.
+// The same, where the bodies are decoded side by side before.
+fn group_met<R: Threads + Sync>(
+    rt: &R,
+    alloc: Global,
+    bodies: &mut Vec<Bytes>,
+    loading: &mut Loading,
+    parts: Vec<Part>,
+) -> Result<(), LoadError>
+    requires sound { IsSound (length bodies.old.items) loading.old }
+    requires within { All (λ p. p.body_at + length p.body ≤ longest_file) parts.items }
+    ensures met { Leads result (met_of bodies.new.items loading.new)
+        (sections_met (map seen_part parts.items) None (met_of bodies.old.items loading.old)) }
+    ensures still_sound { OnOk result (IsSound (length bodies.new.items) loading.new) }
+    ensures not_store { IfErr result (λ e. e ≢ LoadError.Store) }
+{
+    let decoded = decode(rt, alloc, parts.as_slice())?;
+    join(alloc, bodies, loading, parts, decoded)
+}
+
+// Sections in groups, in their order: a group ends once it has enough bodies for all threads and
+// enough bytes.
+fn groups_of(alloc: Global, parts: Vec<Part>) -> Result<Vec<Vec<Part>>, AllocError>
+    ensures { IfOk result (λ v. flat_map (λ g. g.items) v.items ≡ parts.items) }
+{
+    let mut groups = Vec::new(alloc);
+    let mut group = Vec::new(alloc);
+    let mut bytes = 0_usize;
+    for part in parts {
+        bytes = bytes.saturating_add(part.body.as_slice().len());
+        group.push(part)?;
+        if group.len() >= GROUP_SECTIONS && bytes >= GROUP_BYTES {
+            groups.push(group)?;
+            group = Vec::new(alloc);
+            bytes = 0;
+        }
+    }
+    groups.push(group)?;
+    Ok(groups)
+}
+
+// Makes room for the messages that are to be expected of the bytes that are left, by those that so
+// many bytes gave, and for some more, so that they are seldom moved. Where there is no room they are
+// kept as they come.
+fn expect_more(messages: &mut Vec<Message>, done: usize, left: usize)
+    ensures { messages.new.items ≡ messages.old.items }
+{
+    let more = messages.len().saturating_mul(left) / done.max(1);
+    if messages.capacity().saturating_sub(messages.len()) < more {
+        let _ = messages.reserve_exact(more.saturating_add(more / 8));
+    }
+}
+
+// The chunks' bodies, and what is met in sections. Those of a group are decoded side by side, and
+// then kept, before the next group is looked at.
 pub(crate) fn parts_met<R: Threads + Sync>(
     rt: &R,
     alloc: Global,
@@ -188,8 +237,16 @@ pub(crate) fn parts_met<R: Threads + Sync>(
     ensures sound { IfOk result (λ k. IsSound (length k.0.items) k.1) }
     ensures not_store { IfErr result (λ e. e ≢ LoadError.Store) }
 {
-    let decoded = decode(rt, alloc, parts.as_slice())?;
-    join(alloc, parts, decoded)
+    let all = bytes_in(&parts);
+    let mut done = 0_usize;
+    let mut bodies = Vec::new(alloc);
+    let mut loading = Loading::none(alloc);
+    for group in groups_of(alloc, parts)? {
+        done = done.saturating_add(bytes_in(&group));
+        group_met(rt, alloc, &mut bodies, &mut loading, group)?;
+        expect_more(&mut loading.messages, done, all.saturating_sub(done));
+    }
+    Ok((bodies, loading))
 }
 
 // The heads of the header and of sections.

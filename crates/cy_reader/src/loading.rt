@@ -25,7 +25,7 @@ use cy_msg::Bytes;
 use cy_section::{
     HEADER_SIZE, Header, MessageReader, MessageView, SectionKind, read_channel, read_chunk_header,
 };
-use std::alloc::{AllocError, Global};
+use std::alloc::Global;
 
 /// The longest content of a message, in bytes.
 const LONGEST_CONTENT: u64 = 268_435_456;
@@ -38,15 +38,14 @@ pub(crate) struct Loading {
 }
 
 impl Loading {
-    // Nothing, with room for so many messages.
-    pub(crate) fn with_room(alloc: Global, messages: usize) -> Result<Self, AllocError>
-        ensures { IfOk result IsNothing }
+    // Nothing.
+    pub(crate) fn none(alloc: Global) -> Self
+        ensures { IsNothing result }
     {
-        let messages = Vec::with_capacity(alloc, messages)?;
-        Ok(Loading {
+        Loading {
             channels: Channels::new(alloc),
-            messages,
-        })
+            messages: Vec::new(alloc),
+        }
     }
 }
 
@@ -230,7 +229,7 @@ fn sections_met(alloc: Global, file: &[u8]) -> Result<Loading, LoadError>
     ensures sound { IfOk result (IsSound 1) }
     ensures not_store { IfErr result (λ e. e ≢ LoadError.Store) }
 {
-    let mut loading = Loading::with_room(alloc, 0)?;
+    let mut loading = Loading::none(alloc);
     // The file is the only body.
     let body = Body {
         before: &[],

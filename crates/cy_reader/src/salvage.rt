@@ -1,16 +1,19 @@
 // Reads what stands in a record's file before its first fault.
 ghost use Rattle.std.specs.Prelude.{◌≡◌, ◌≢◌, ◌≤◌, ◌+◌, ◌-◌, if◌then◌else◌, length, map, All};
-ghost use Rattle.std.specs.Prelude.{true, ◌==◌, ◌&&◌, is_some, is_none, IfOk, IfErr, IsOkUnless};
+ghost use Rattle.std.specs.Prelude.{true, ◌==◌, ◌&&◌, is_some, is_none, IfOk, IfErr, IfSome};
+ghost use Rattle.std.specs.Prelude.{IsOkUnless};
 ghost use Rattle.cy_msg.specs.Answer.{Answers, AnswersOr};
 ghost use Rattle.cy_reader.specs.Heads.{end_of};
 ghost use Rattle.cy_reader.specs.Record.{file_header, header_end, longest_file};
 ghost use Rattle.cy_reader.specs.Salvage.{own_fault, is_unreadable, if_usable, SalvageAnswer};
 ghost use Rattle.cy_reader.specs.private.Cutting.{seen_part, fault_in, AreWithin};
-ghost use Rattle.cy_reader.specs.private.Salvaging.{AreSound, SizeAnswer, cut_salvage};
+ghost use Rattle.cy_reader.specs.private.Salvaging.{AreJudged, AreSound, IsJudged};
+ghost use Rattle.cy_reader.specs.private.Salvaging.{SizeAnswer, cut_salvage};
 ghost use Rattle.cy_section.specs.declared.error.SectionError.{SectionError as SectionFault};
 ghost use Rattle.std.specs.Prelude.{Option};
 
 use crate::cutting::{CutFile, Part, cut_file};
+use crate::decoding::least_piece;
 use crate::gathering::parts_met;
 use crate::header::{LONGEST_FILE, file_header};
 use crate::heads::KeptIndex;
@@ -21,7 +24,8 @@ use cy_section::{
     HEADER_SIZE, MessageReader, SectionError, SectionKind, read_channel, read_chunk_header,
 };
 use cy_store::{Store, read_range};
-use std::alloc::Global;
+use rayon::prelude::*;
+use std::alloc::{AllocError, Global};
 use std::marker::Model;
 use std::thread::Threads;
 
@@ -146,15 +150,38 @@ fn is_faulty(alloc: Global, part: &Part) -> Result<bool, LoadError>
     }
 }
 
+// Whether the fields of each section are faulty; none where there was no memory to tell. They are
+// looked at side by side.
+fn faults_of<R: Threads + Sync>(
+    rt: &R,
+    alloc: Global,
+    parts: &[Part],
+) -> Result<Vec<Option<bool>>, AllocError>
+    requires { All (λ p. p.body_at + length p.body ≤ longest_file) parts.now }
+    ensures { IfOk result (λ v. AreJudged parts.now v.items) }
+{
+    parts
+        .par_iter()
+        .with_min_len(least_piece(parts))
+        .map(
+            |part: &Part| -> Option<bool>
+                requires { part.now.body_at + length part.now.body ≤ longest_file }
+                ensures { IfSome result (IsJudged part.now) }
+            { is_faulty(alloc, part).ok() },
+        )
+        .collect(rt, alloc)
+}
+
 // How many sections stand before the first whose fields are faulty.
-fn sound_count(alloc: Global, parts: &[Part]) -> Result<usize, LoadError>
+fn sound_count<R: Threads + Sync>(rt: &R, alloc: Global, parts: &[Part]) -> Result<usize, LoadError>
     requires { All (λ p. p.body_at + length p.body ≤ longest_file) parts.now }
     ensures sound { IfOk result (λ count. (fault : Option SectionFault)
         → AreSound parts.now count fault) }
     ensures only_memory { IsOkUnless result LoadError.Memory }
 {
-    for (count, part) in parts.iter().enumerate() {
-        let faulty = is_faulty(alloc, part)?;
+    let faults = faults_of(rt, alloc, parts)?;
+    for (count, told) in faults.iter().enumerate() {
+        let faulty = told.ok_or(LoadError::Memory)?;
         if faulty {
             return Ok(count);
         }
@@ -206,7 +233,7 @@ fn salvaged_of<R: Threads + Sync>(
     ensures not_store { IfErr result (λ e. e ≢ LoadError.Store) }
 {
     let CutFile { mut parts, end } = cut;
-    let count = sound_count(alloc, &parts)?;
+    let count = sound_count(rt, alloc, &parts)?;
     let are_all = is_whole(count, &parts, &end);
     drop(end);
     parts.truncate(count);

@@ -1,5 +1,5 @@
--- What a replay plays: messages of its record and the ticks of its timers, and how many there are on
--- each channel.
+-- What a replay plays: messages of its record and the ticks of its timers, and how many there are
+-- on each channel.
 use Rattle.std.specs.Prelude.{ℕ, ◌≡◌, ◌+◌, ◌==◌, nat_lt, if◌then◌else◌, List, [], ◌∷◌, ◌++◌, length}
 use Rattle.std.specs.Prelude.{map, filter, sum_by, slice_index, Result, Ok, Err}
 use Rattle.cy_store.specs.Files.{Files}
@@ -38,7 +38,8 @@ record_in name files = file_in name (λ bytes. contents_or name (record_of name 
 abbrev pub channels_of : Contents → List (List ℕ)
 channels_of whole = map (λ known. known.channel.name) whole.channels
 
--- The channels whose messages a record has in vain: those that components write, and those of ticks.
+-- The channels whose messages a record has in vain: those that components write, and those of
+-- ticks.
 abbrev pub written_in : List Plan → List ℕ
 written_in plans = map (λ p. p.out) plans ++ map (λ t. t.channel) (timers_of plans)
 
@@ -47,8 +48,8 @@ abbrev pub choice_of : Filter → Wired → Choice
 choice_of filter w =
     record { names = w.names; filter = filter; written = written_in w.plans }
 
--- All that is played where components are wired so: the play list of some messages of a record, with
--- the ticks of the wiring's timers among them.
+-- All that is played where components are wired so: the play list of some messages of a record,
+-- with the ticks of the wiring's timers among them.
 pub record IsListed (whole : Contents) (filter : Filter) (w : Wired) (list : PlayList) : Type 0
   where
     pub messages : PlayList

@@ -32,8 +32,8 @@ pub record Replayed : Type 0 where
 
 -- What is judged once all files were read, in the order of refusals: the wiring over the record's
 -- channels, the component that a stop names, the number of messages and ticks that are played, and
--- the number of entries that are planned. A fault of the wiring or of a stop is one of the file that is named
--- for it.
+-- the number of entries that are planned. A fault of the wiring or of a stop is one of the file
+-- that is named for it.
 abbrev pub judged_in : List ℕ → Request → Configured → Contents → Reads Refusal Replayed
 judged_in file r configured contents = do
   wired ← wiring_in file (channels_of contents) configured

@@ -1,6 +1,6 @@
 -- What is met in a chunk's body by itself, and how it stands behind what was met before.
 use Rattle.std.specs.Prelude.{◌≡◌, ℕ, ◌<◌, All, List, [], ◌∷◌, ◌++◌, length, map, slice_index}
-use Rattle.std.specs.Prelude.{slice_index_or, unwrap_or, Option, Some, Result, Ok, Err, IfSome}
+use Rattle.std.specs.Prelude.{slice_index_or, unwrap_or, Option, Some, Result, Ok, IfSome}
 use Rattle.std.specs.List.{AllZip}
 use Rattle.cy_wire.specs.Field.{fields_of}
 use Rattle.cy_section.specs.Reading.{messages_of}

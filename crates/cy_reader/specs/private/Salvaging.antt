@@ -1,6 +1,7 @@
 -- What is salvaged of the sections that were read.
-use Rattle.std.specs.Prelude.{◌≡◌, ◌⊎◌, ◌<◌, ◌≤◌, ℕ, List, length, map, take, Option, Some}
-use Rattle.std.specs.Prelude.{Result, Ok, Err, IfOk, IfErr, IsErrOf, IsSome}
+use Rattle.std.specs.Prelude.{◌≡◌, ◌⊎◌, ◌<◌, ◌≤◌, ℕ, Bool, List, length, map, take, Option}
+use Rattle.std.specs.Prelude.{is_some, Result, Ok, Err, IfOk, IfErr, IfSome, IsErrOf, IsSome}
+use Rattle.std.specs.List.{AllZip}
 use Rattle.cy_store.specs.Files.{Holds}
 use Rattle.cy_store.specs.Store.{StoreView, HasCauses}
 use Rattle.cy_section.specs.declared.error.SectionError.{SectionError}
@@ -8,9 +9,9 @@ use Rattle.cy_reader.specs.declared.error.LoadError.{LoadError}
 use Rattle.cy_reader.specs.declared.error.LoadError.TheVariants.{Store, Memory}
 use Rattle.cy_reader.specs.declared.cutting.Part.{Part}
 use Rattle.cy_reader.specs.declared.cutting.CutFile.{CutFile}
-use Rattle.cy_reader.specs.Sections.{Sections}
 use Rattle.cy_reader.specs.Record.{file_header, header_end, longest_file}
-use Rattle.cy_reader.specs.Salvage.{Salvage, until_fault, if_usable, salvage_in, salvage_of}
+use Rattle.cy_reader.specs.Salvage.{Salvage, own_fault, until_fault, if_usable, salvage_in}
+use Rattle.cy_reader.specs.Salvage.{salvage_of}
 use Rattle.cy_reader.specs.private.Cutting.{seen_part, fault_in}
 
 -- These many sections stand before the first that has a fault of its own, if one has.
@@ -21,6 +22,13 @@ pub record AreSound (parts : List Part) (count : ℕ) (fault : Option SectionErr
   pub within : count ≤ length parts
   pub all : count ≡ length parts → end ≡ fault
   pub some : count < length parts → IsSome end
+
+-- Whether the fields of a section are faulty, and the same of many, as far as it is told.
+abbrev pub IsJudged : Part → Bool → Type 0
+IsJudged p faulty = faulty ≡ is_some (own_fault (seen_part p))
+
+abbrev pub AreJudged : List Part → List (Option Bool) → Type 0
+AreJudged parts faults = AllZip (λ p faulty. IfSome faulty (IsJudged p)) parts faults
 
 -- The size of a file whose front is usable, or why it isn't.
 pub record SizeAnswer (old new : StoreView) (name : List ℕ) (result : Result ℕ LoadError) : Type 0

@@ -1,7 +1,7 @@
 use Rattle.std.proofs.Common.{◌≡◌, ◌≤◌, ◌+◌, length, None}
 use Rattle.std.specs.Prelude.{All, map}
 use Rattle.std.specs.Vec.Iter.{into_iter_items, into_iter_len}
-use Rattle.cy_reader.specs.Record.{sections_met, nothing, longest_file}
+use Rattle.cy_reader.specs.Record.{sections_met, longest_file}
 use Rattle.cy_reader.specs.private.Alone.{AreDecoded}
 use Rattle.cy_reader.specs.private.Cutting.{seen_part}
 use Rattle.cy_reader.specs.private.Loading.{IsSound, met_of}
@@ -10,7 +10,7 @@ use Rattle.cy_reader.proofs.gathering.join.Given as goal
 -- What the sections that are left come to, behind those that were met.
 abbrev pub invariant-loop-part : goal.invariant-loop-part
 invariant-loop-part l = record {
-  so_far : sections_met (map seen_part (into_iter_items l.part-iterator)) None (met_of l.bodies.items l.loading) ≡ sections_met (map seen_part l.fn.parts.items) None nothing;
+  so_far : sections_met (map seen_part (into_iter_items l.part-iterator)) None (met_of l.bodies.items l.loading) ≡ sections_met (map seen_part l.fn.parts.items) None (met_of l.fn.bodies.items l.fn.loading);
   sound : IsSound (length l.bodies.items) l.loading;
   within : All (λ p. p.body_at + length p.body ≤ longest_file) (into_iter_items l.part-iterator);
   decoded : AreDecoded (into_iter_items l.part-iterator) (into_iter_items l.each);

@@ -1,4 +1,4 @@
-use Rattle.std.proofs.Common.{◌≡◌, ◌<◌, ◌+◌, ◌∷◌, [], suc, length, drop, sym, ap, ◌∙◌, arith, add-one, drop-cons, length-append, List}
+use Rattle.std.proofs.Common.{◌≡◌, ◌<◌, ◌+◌, ◌∷◌, [], suc, length, drop, sym, ap, ◌∙◌, arith, add-one, drop-cons, length-append}
 use Rattle.std.proofs.lemmas.List.{get_or_read}
 use Rattle.cy_reader.specs.declared.known.Known.{Known}
 use Rattle.cy_reader.specs.Record.{named_only}

@@ -11,13 +11,13 @@ loop-loading-init c = (
   suc (length c.args.file.now),
   omega arith,
   c.requires.long,
-  nothing_sound 1 c.in_ok-loading.loading c.in_ok-loading.ensures,
-  rw (met_nothing (c.args.file.now ∷ []) c.in_ok-loading.loading c.in_ok-loading.ensures) refl,
+  nothing_sound 1 c.none-loading.result c.none-loading.ensures,
+  rw (met_nothing (c.args.file.now ∷ []) c.none-loading.result c.none-loading.ensures) refl,
 )
 
 pub returns-in_err-section-clause-met : goal.returns-in_err-section-clause-met
 returns-in_err-section-clause-met c =
-    let p = err_from_is_err_and c.from_residual-in_err-section.result c.from_residual-in_err-section.ensures.1 in
+    let p = err_from_is_err_and c.from_residual.result c.from_residual.ensures.1 in
     let inv = c.loop-loading.invariant in
     let less = one_less inv.0 (omega (arith, inv.1)) in
     rw (p.1, p.2) (inr (sections_fault c.args.file.now less.0 c.loop-loading.at (met_of (c.args.file.now ∷ []) c.loop-loading.loading) c.in_err-section.field-0.0 _ c.in_err-section.ensures.section (rw less.1 at inv.4)))
