@@ -1,3 +1,4 @@
+pub mod BrokenOff
 pub mod RowsRead
 pub mod WrittenRead
 pub mod HeadsRead

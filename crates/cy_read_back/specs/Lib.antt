@@ -1,3 +1,4 @@
 pub mod Sections
 pub mod Records
 pub mod Fronts
+pub mod BrokenOff

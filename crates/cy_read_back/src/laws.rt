@@ -1,4 +1,5 @@
 // What holds of what is written and read: proved here, and nothing to run.
+ghost use Rattle.cy_read_back.specs.BrokenOff.{BrokenOffAreFronts};
 ghost use Rattle.cy_read_back.specs.Fronts.{FrontsAreSalvaged};
 ghost use Rattle.cy_read_back.specs.Records.{RecordsReadBack};
 ghost use Rattle.cy_read_back.specs.Sections.{SectionsReadBack};
@@ -20,4 +21,10 @@ pub fn records_read_back()
 /// in it are salvaged: the first ones of the record, cut at chunks.
 pub fn fronts_are_salvaged()
     ensures { FrontsAreSalvaged }
+{}
+
+/// What stands of a record whose writing was broken off is a front of its text, of which
+/// [`fronts_are_salvaged`] says what is salvaged.
+pub fn broken_off_are_fronts()
+    ensures { BrokenOffAreFronts }
 {}

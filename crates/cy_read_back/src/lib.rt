@@ -2,9 +2,10 @@
 //! text. There is nothing to run.
 //!
 //! `specs/Sections` says what is read of a section that was written, `specs/Records` of a record's
-//! text, and within which limits, and `specs/Fronts` what is salvaged of the front of one.
+//! text, and within which limits, `specs/Fronts` what is salvaged of the front of one, and
+//! `specs/BrokenOff` that a record whose writing was broken off is such a front.
 #![tactic(auto)]
 
 mod laws;
 
-pub use laws::{fronts_are_salvaged, records_read_back, sections_read_back};
+pub use laws::{broken_off_are_fronts, fronts_are_salvaged, records_read_back, sections_read_back};

@@ -1,8 +1,9 @@
-//! Tests of records and the files that hold them: stores and sinks, the wire form, sections, and
-//! records that are written and read.
+//! Tests of records and the files that hold them: stores and sinks, the wire form, sections,
+//! records that are written and read, and tools over whole records.
 
 mod reader;
 mod section;
 mod store;
+mod tools;
 mod wire;
 mod writer;

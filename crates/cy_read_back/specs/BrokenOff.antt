@@ -1,0 +1,27 @@
+-- What stands of a record whose writing was broken off is a front of its text: the law.
+use Rattle.std.specs.Prelude.{◌≡◌, ℕ, List, ◌∷◌, ◌++◌, length, take, drop}
+use Rattle.cy_section.specs.declared.types.BodyMessage.{BodyMessage}
+use Rattle.cy_section.specs.declared.types.Channel.{Channel}
+use Rattle.cy_section.specs.RecordText.{header_end, record_bytes}
+use Rattle.cy_writer.specs.RecordWrites.{record_sections}
+use Rattle.cy_writer.specs.Unfinished.{unfinished}
+use Rattle.cy_read_back.specs.Fronts.{IsFrontOf}
+
+-- The file of a record whose writing was broken off behind its first put: the header of an
+-- incomplete record and some sections, the last of which may have only its first bytes; or all
+-- sections, behind a header that may be torn.
+pub data IsBrokenOff (channels : List Channel) (chunks : List (List BodyMessage))
+    (file : List ℕ) : Type 0 where
+  Among : (done later : List (List ℕ)) (next : List ℕ) (kept : ℕ)
+      → done ++ next ∷ later ≡ record_sections channels chunks
+      → file ≡ unfinished done ++ take kept next → IsBrokenOff channels chunks file
+  Behind : length file ≡ length (record_bytes channels chunks)
+      → drop header_end file ≡ drop header_end (record_bytes channels chunks)
+      → IsBrokenOff channels chunks file
+
+-- Such a file has the front of the record's text, so of it the messages of the whole chunks are
+-- salvaged. It is what a play, or any writing of a record, leaves that is stopped between two writes
+-- or fails at one that keeps the first bytes of its piece.
+abbrev pub BrokenOffAreFronts : Type 0
+BrokenOffAreFronts = (channels : List Channel) (chunks : List (List BodyMessage))
+    (file : List ℕ) → IsBrokenOff channels chunks file → IsFrontOf channels chunks file

@@ -1,0 +1,6 @@
+pub mod private
+pub mod Answer
+pub mod Causes
+pub mod Kept
+pub mod Laws
+pub mod Tools

@@ -1,0 +1,21 @@
+//! Tools over whole records: one makes a record of what stands before the first fault of a file,
+//! and one cuts a record down to channels and times.
+//!
+//! `specs/Kept` says which messages of a record are kept and what is written of them, `specs/Tools`
+//! what each tool does, and `specs/Answer` what it answers; `specs/Laws` has what holds of every
+//! record that is written so.
+#![tactic(auto)]
+
+mod error;
+mod kept;
+mod laws;
+mod messages;
+mod numbering;
+mod recovering;
+mod splitting;
+mod writing;
+
+pub use error::{File, ToolError};
+pub use laws::kept_messages_are_record_text;
+pub use recovering::{Recovered, recover};
+pub use splitting::{Parted, split};
