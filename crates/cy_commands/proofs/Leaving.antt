@@ -1,11 +1,11 @@
 -- What the writes of a command's work leave of the files.
-use Rattle.std.proofs.Common.{◌≡◌, ℕ, zero, suc, ◌<◌, Bool, true, false, List, [], ◌∷◌, ◌++◌, map, length, get_or, Option, Some, None, refl, sym, ap, ◌∙◌, subst, inl, inr, arith, codes, flat_map, bytes_eq, true≢false, append-nil, append_assoc}
-use Rattle.std.specs.Prelude.{◌⊎◌, ⊤, All, option_map, IfSome, MatchOption}
+use Rattle.std.proofs.Common.{◌≡◌, ℕ, zero, suc, false, List, [], ◌∷◌, ◌++◌, map, get_or, Option, Some, None, refl, sym, ap, ◌∙◌, subst, inl, inr, arith, codes, flat_map, bytes_eq, true≢false, append-nil, append_assoc}
+use Rattle.std.specs.Prelude.{⊤, All, option_map}
 use Rattle.std.specs.FinMap.{get}
 use Rattle.std.proofs.lemmas.List.{append_cancel_left}
 use Rattle.std.proofs.lemmas.Slice.Eq.{bytes_eq-Decides}
 use Rattle.cy_store.specs.Files.{Files}
-use Rattle.cy_store.specs.Reads.{Reads, Accepts, Refuses, Absent}
+use Rattle.cy_store.specs.Reads.{Reads, Accepts}
 use Rattle.cy_store.specs.Store.{StoreView}
 use Rattle.cy_store.specs.Write.{Write, Create, Put, name_of, after_writes}
 use Rattle.cy_msg.specs.declared.play_list.PlayList.{PlayList}
@@ -14,7 +14,7 @@ use Rattle.cy_section.specs.declared.types.Channel.{Channel}
 use Rattle.cy_section.specs.RecordText.{record_bytes}
 use Rattle.cy_writer.specs.Laws.{LeavesRecord}
 use Rattle.cy_writer.specs.RecordWrites.{file_writes, record_puts}
-use Rattle.cy_writer.specs.Unfinished.{AreOfOthers, FailedLeaves, OthersStay, OthersStayStarved, StarvedLeaves, StandsCut, StandsTorn, writes_among}
+use Rattle.cy_writer.specs.Unfinished.{AreOfOthers, FailedLeaves, OthersStay, OthersStayStarved, StarvedLeaves, StandsCut, StandsTorn}
 use Rattle.cy_writer.specs.Writes.{puts_into, StopsAt, StopsBefore}
 use Rattle.cy_writer.proofs.Puts.{after_writes-append, get-inserted}
 use Rattle.cy_make.specs.declared.config.Config.{Config}
@@ -24,9 +24,12 @@ use Rattle.cy_make.specs.Messages.{channels_of}
 use Rattle.cy_make.specs.Texts.{suffix_of, text_of}
 use Rattle.wake_core.specs.Rest.{run_shown}
 use Rattle.cy_recording.specs.Recording.{channels_of_tape, chunks_of_tape}
+use Rattle.cy_reader.specs.Record.{Message, Met}
+use Rattle.cy_tools.specs.Kept.{channels_with, chunks_with, passing}
+use Rattle.cy_tools.specs.Tools.{met_in}
 use Rattle.cy_replay.specs.declared.error.Refusal.{Refusal}
 use Rattle.cy_replay.specs.Setup.{Replayed}
-use Rattle.cy_words.specs.Command.{Asks, Check, Command, Info, Make, Play, PlayFilesDiffer, Verify}
+use Rattle.cy_words.specs.Command.{Asks, Check, Command, Info, Make, Play, PlayFilesDiffer, Recover, Split, Verify}
 use Rattle.cy_words.specs.MakeWords.{MakeWords}
 use Rattle.cy_words.specs.PlayWords.{PlayWords}
 use Rattle.cy_commands.specs.declared.status.Status.{Status}
@@ -34,9 +37,10 @@ use Rattle.cy_commands.specs.declared.status.Status.TheVariants.{Done, Refused, 
 use Rattle.cy_commands.specs.Commands.{IsAccepted, outcome_of}
 use Rattle.cy_commands.specs.Commands.MakeWork.{IsMakeWork, play_made}
 use Rattle.cy_commands.specs.Commands.PlayWork.{IsPlayWork, run_trace, source_in}
+use Rattle.cy_commands.specs.Commands.RecoverWork.{WritesKept}
 use Rattle.cy_commands.specs.Commands.VerifyWork.{IsVerified, Judged, absent, bad, differs, judged, lawful, no_record, no_trace, refused, too_large, unlawful}
-use Rattle.cy_commands.specs.Due.{IsDone, IsDue, IsDueFor, IsMisused, FailsToWrite, StopsForMemory}
-use Rattle.cy_commands.specs.Stands.{HasRecord, LeavesItsFiles, LeavesOthers, Stands, StandsAfter, Wrote, WroteAll, WroteSome, WroteUpTo, records_of, texts_of}
+use Rattle.cy_commands.specs.Due.{IsDone, IsDueFor, FailsToWrite, StopsForMemory}
+use Rattle.cy_commands.specs.Stands.{HasRecord, LeavesItsFiles, StandsAfter, WroteAll, WroteSome, WroteUpTo, records_of, texts_of}
 use Rattle.cy_commands.specs.Work.{Work}
 
 -- ---- writes of other files
@@ -204,6 +208,25 @@ verified_silent w files result work (refused refusal is) e = cc
 verified_silent w files result work (absent name is) e = cc
 verified_silent w files result work (judged read list made is set out) e = judged_silent w read list files made work out e
 
+-- the one file of `recover` and of `split`
+kept_others : (name q : List ℕ) (met : Met) (kept : List Message) (work : Work) → WritesKept name met kept work → (name ≡ q → ⊥) → AreOfOthers q work.writes
+kept_others name q met kept work made apart =
+    subst (AreOfOthers q) (sym made.writes) (of_file q name (record_puts (channels_with met kept) (chunks_with name met kept)) apart)
+
+kept_record_of : (name : List ℕ) (met : Met) (kept : List Message) (work : Work) → WritesKept name met kept work → HasRecord work name (λ channels chunks. ⊤)
+kept_record_of name met kept work made =
+    let file = file_writes name (record_puts (channels_with met kept) (chunks_with name met kept)) in
+    record {
+      channels = channels_with met kept;
+      chunks = chunks_with name met kept;
+      first = [];
+      last = [];
+      writes = made.writes ∙ sym (append-nil file);
+      before = none_of name;
+      behind = none_of name;
+      stands = tt;
+    }
+
 -- all commands
 
 abbrev pub NamesDiffer : Command → Type 0
@@ -216,6 +239,8 @@ work_others (Check w) files work q a all = subst (AreOfOthers q) (sym a.made.sil
 work_others (Info w) files work q a all = subst (AreOfOthers q) (sym a.made.silent) (none_of q)
 work_others (Play w) files work q a all = played_others w a.read work q a.made (all 0 w.output (omega arith)) (all 1 w.trace (omega arith))
 work_others (Make w) files work q a all = made_others w work q a all
+work_others (Recover w) files work q a all = kept_others w.output q a.read.met a.read.met.messages work a.made.written (all 0 w.output (omega arith))
+work_others (Split w) files work q a all = kept_others w.output q (met_in a.read) (passing w.filter (met_in a.read)) work a.made.written (all 0 w.output (omega arith))
 work_others (Verify w) files work q a all = subst (AreOfOthers q) (sym (verified_silent w files (Accepts work) work a refl)) (none_of q)
 
 no_names : (P : List ℕ → Type 0) → All P []
@@ -235,6 +260,9 @@ work_records (Check w) files work apart a = no_names (λ name. HasRecord work na
 work_records (Info w) files work apart a = no_names (λ name. HasRecord work name (λ channels chunks. ⊤))
 work_records (Play w) files work apart a = one_name (λ name. HasRecord work name (λ channels chunks. ⊤)) w.output (played_record w a.read work a.made apart)
 work_records (Make w) files work apart a = two_names (λ name. HasRecord work name (λ channels chunks. ⊤)) (record_name w.prefix) (play_made w).output (made_record w work a) (made_output w work a)
+work_records (Recover w) files work apart a = one_name (λ name. HasRecord work name (λ channels chunks. ⊤)) w.output (kept_record_of w.output a.read.met a.read.met.messages work a.made.written)
+work_records (Split w) files work apart a =
+    one_name (λ name. HasRecord work name (λ channels chunks. ⊤)) w.output (kept_record_of w.output (met_in a.read) (passing w.filter (met_in a.read)) work a.made.written)
 work_records (Verify w) files work apart a = no_names (λ name. HasRecord work name (λ channels chunks. ⊤))
 
 -- ---- what stands of a record
@@ -347,6 +375,8 @@ differ apart words (Info w) h = tt
 differ apart words (Play w) h = apart words w h
 differ apart words (Make w) h = tt
 differ apart words (Verify w) h = tt
+differ apart words (Recover w) h = tt
+differ apart words (Split w) h = tt
 
 pub leaves_its_files : PlayFilesDiffer → Leavings → LeavesItsFiles
 leaves_its_files apart l words None old new due line asks d = record { misused = λ e. d.same; refused = λ e. d.same; limited = λ e. d.same; files = tt }

@@ -1,6 +1,7 @@
 pub mod AskedShort
 pub mod CheckExits
 pub mod Finding
+pub mod KeptExits
 pub mod Leaving
 pub mod MakeExits
 pub mod OneDue

@@ -38,7 +38,7 @@ puts_named name [] (x ∷ before) later w e = cc
 puts_named name (put ∷ rest) [] later w e = let same : w ≡ put_of name put = cc in ap name_of same
 puts_named name (put ∷ rest) (x ∷ before) later w e = puts_named name rest before later w (ap (drop 1) e)
 
-file_named : (name : List ℕ) (puts : List (ℕ × List ℕ)) (before later : List Write) (w : Write) → before ++ w ∷ later ≡ file_writes name puts → name_of w ≡ name
+pub file_named : (name : List ℕ) (puts : List (ℕ × List ℕ)) (before later : List Write) (w : Write) → before ++ w ∷ later ≡ file_writes name puts → name_of w ≡ name
 file_named name puts [] later w e = let same : w ≡ Create name = cc in ap name_of same
 file_named name puts (x ∷ before) later w e = puts_named name puts before later w (ap (drop 1) e)
 

@@ -4,6 +4,8 @@ pub mod CheckWork
 pub mod InfoWork
 pub mod MakeWork
 pub mod PlayWork
+pub mod RecoverWork
+pub mod SplitWork
 pub mod VerifyWork
 use Rattle.std.specs.Prelude.{ℕ, ◌≡◌, ⊤, List, Option, Some, IfSome}
 use Rattle.cy_store.specs.Files.{Files}
@@ -11,12 +13,14 @@ use Rattle.cy_store.specs.Reads.{Reads, Accepts, Absent}
 use Rattle.cy_replay.specs.Configuration.{IsAsked}
 use Rattle.cy_replay.specs.Setup as setup
 use Rattle.cy_replay.specs.declared.error.Refusal.{Refusal}
-use Rattle.cy_words.specs.Command.{Command, Check, Info, Play, Make, Verify}
+use Rattle.cy_words.specs.Command.{Command, Check, Info, Play, Make, Verify, Recover, Split}
 use Rattle.cy_commands.specs.declared.status.Status.{Status}
 use Rattle.cy_commands.specs.Commands.CheckWork.{IsCheckWork, checked_in}
 use Rattle.cy_commands.specs.Commands.InfoWork.{IsInfoWork, told_of}
 use Rattle.cy_commands.specs.Commands.MakeWork.{IsMakeWork}
 use Rattle.cy_commands.specs.Commands.PlayWork.{IsPlayWork, replayed_in}
+use Rattle.cy_commands.specs.Commands.RecoverWork.{IsRecoverWork, salvaged_in}
+use Rattle.cy_commands.specs.Commands.SplitWork.{IsSplitWork, parted_in}
 use Rattle.cy_commands.specs.Commands.VerifyWork.{IsReadToVerify, IsVerified}
 use Rattle.cy_commands.specs.Refused.{IsRefusal, IsRefusalBy}
 use Rattle.cy_commands.specs.Work.{IsMadeOf, Work}
@@ -37,6 +41,9 @@ outcome_of (Info w) = Reading (λ files name. name ≡ w.file) (told_of w) IsInf
 outcome_of (Play w) = Reading (setup.IsAsked w.request) (replayed_in w) (IsPlayWork w)
 outcome_of (Make w) = Making (IsMakeWork w)
 outcome_of (Verify w) = Judging (IsReadToVerify w) (IsVerified w)
+outcome_of (Recover w) =
+    Reading (λ files name. name ≡ w.input) (salvaged_in w) (IsRecoverWork w)
+outcome_of (Split w) = Reading (λ files name. name ≡ w.input) (parted_in w) (IsSplitWork w)
 
 -- A file that is read has this name.
 abbrev pub IsReadBy : Outcome → Option Files → List ℕ → Type 0

@@ -10,7 +10,7 @@ use Rattle.cy_section.specs.RecordText.{record_bytes}
 use Rattle.cy_writer.specs.Unfinished.{AreOfOthers, StandsCut, StandsTorn, writes_among}
 use Rattle.cy_make.specs.Inputs.{all_configs, record_name}
 use Rattle.cy_make.specs.Texts.{suffix_of}
-use Rattle.cy_words.specs.Command.{Asks, Command, Check, Info, Play, Make, Verify}
+use Rattle.cy_words.specs.Command.{Asks, Command, Check, Info, Play, Make, Verify, Recover, Split}
 use Rattle.cy_commands.specs.declared.status.Status.{Status}
 use Rattle.cy_commands.specs.declared.status.Status.TheVariants.{Done, Refused, Usage, StoreFault}
 use Rattle.cy_commands.specs.declared.status.Status.TheVariants.{SinkFault, Limit, Memory}
@@ -26,6 +26,8 @@ records_of (Info w) = []
 records_of (Play w) = w.output ∷ []
 records_of (Make w) = record_name w.prefix ∷ (play_made w).output ∷ []
 records_of (Verify w) = []
+records_of (Recover w) = w.output ∷ []
+records_of (Split w) = w.output ∷ []
 
 abbrev pub texts_of : Command → List (List ℕ)
 texts_of (Check w) = []
@@ -33,6 +35,8 @@ texts_of (Info w) = []
 texts_of (Play w) = w.trace ∷ []
 texts_of (Make w) = map (λ c. w.prefix ++ suffix_of c) all_configs ++ (play_made w).trace ∷ []
 texts_of (Verify w) = []
+texts_of (Recover w) = []
+texts_of (Split w) = []
 
 -- Every name but those is as before.
 abbrev pub LeavesOthers : Command → Files → Files → Type 0

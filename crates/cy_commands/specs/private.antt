@@ -1,4 +1,5 @@
 pub mod CheckEnds
+pub mod KeptEnds
 pub mod MakeEnds
 pub mod Unset
 pub mod VerifyEnds

@@ -9,6 +9,8 @@ ghost use Rattle.cy_words.specs.Views.{command_asked, IsInForm};
 mod check;
 mod info;
 mod make;
+mod recover;
+mod split;
 mod verify;
 
 use crate::begun::Begun;
@@ -19,6 +21,8 @@ use cy_store::Store;
 use cy_words::{Command, Play};
 use info::run_info;
 use make::run_make;
+use recover::run_recover;
+use split::run_split;
 use std::alloc::Global;
 use std::thread::Threads;
 use verify::run_verify;
@@ -59,5 +63,7 @@ pub fn begin_command<'a, S: Store, R: Threads + Sync>(
         Command::Play(play) => begin_play(rt, alloc, play, store),
         Command::Make(make) => Begun::Ended(run_make(rt, alloc, make, store)),
         Command::Verify(play) => Begun::Ended(run_verify(rt, alloc, play, store)),
+        Command::Recover(recover) => Begun::Ended(run_recover(rt, alloc, recover, store)),
+        Command::Split(split) => Begun::Ended(run_split(rt, alloc, split, store)),
     }
 }

@@ -12,6 +12,7 @@ mod commands;
 mod due;
 mod failure;
 mod fault_text;
+mod kept;
 mod laws;
 mod line;
 mod play;

@@ -62,6 +62,9 @@ fn due_with_threads<'s, S: Store, G: Gate, R: Threads + Wait + Sync>(
 /// choose messages, says whether the trace is that of a lawful run of such a play, and the record
 /// that of its tape. It makes no file.
 ///
+/// `recover IN OUT` makes a record of what stands in a file before its first fault, and `split IN
+/// OUT` one of those messages of a record that the options of `play` choose.
+///
 /// The text or the line that tells what was done goes to `out`, and one that tells of a refusal or
 /// a fault goes to `err`. The answer is one of the seven statuses; its contract says which is due,
 /// what stands in the store then, and how it is told. A processor passes `gate` before each call of

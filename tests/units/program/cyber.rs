@@ -4,6 +4,7 @@
 mod checks;
 mod faults;
 mod info;
+mod kept;
 mod pass;
 mod ran;
 mod refused;

@@ -1,6 +1,6 @@
 // Each call of the store fails in turn, and what stands then.
-use super::ran::{PASS, Ran, ends, run, store_of};
-use super::samples::{TRACE, in_record, open_record, out_record};
+use super::ran::{PASS, Ran, ends, holds, lacks, run, store_of};
+use super::samples::{TRACE, empty_record, in_record, open_record, out_record};
 use cy_reader::{LoadError, load};
 use cy_section::SectionError;
 use cy_store::MemStore;
@@ -144,6 +144,48 @@ fn reads_what_a_piece_left_that_failed(rt: HostRuntime) -> Result<(), Fail> {
             let read = load(&rt, alloc, &mut store, "out.rec")
                 .map(|record| (record.channels(), record.messages()));
             assert_eq!(rt; read, read_of(piece, keep), "{piece} {keep}");
+        }
+    }
+    Ok(())
+}
+
+// What is recovered of the record of which this piece kept so many bytes: how many messages, and how
+// many bytes are dropped; or what is told where it has no header.
+fn recovered_of(piece: usize, keep: usize) -> Result<(usize, usize), &'static [u8]> {
+    match (piece, keep) {
+        (0, 0..=15) => Err(b"cyber: out.rec: not a record\n"),
+        (0, 16..=2063) => Err(b"cyber: out.rec: at 0: Cut\n"),
+        (0, _) => Ok((0, 0)),
+        (1..=3, _) if keep == ENDS[piece + 1] - ENDS[piece] => Ok((0, 0)),
+        (4, 43) | (5, 16..) | (6, _) => Ok((2, 0)),
+        (5, _) => Ok((2, keep)),
+        _ => Ok((0, keep)),
+    }
+}
+
+#[test]
+fn recovers_what_a_piece_left_that_failed(rt: HostRuntime) -> Result<(), Fail> {
+    let alloc = rt.alloc();
+    for piece in 0..ENDS.len() {
+        for keep in kept_of(piece) {
+            let store = failing_at(&rt, alloc, FIRST_PUT + piece, keep)?.store;
+            let ran = run(&rt, alloc, &["recover", "out.rec", "whole.rec"], store)?;
+            match recovered_of(piece, keep) {
+                Ok((messages, dropped)) => {
+                    let line = format!(in alloc; "done: messages {messages}, dropped {dropped}\n")?;
+                    ends(&rt, &ran, Status::Done, line.as_bytes(), b"");
+                    let whole = if messages == 0 {
+                        empty_record(alloc)?
+                    } else {
+                        out_record(alloc)?
+                    };
+                    holds(&rt, &ran, "whole.rec", &whole);
+                }
+                Err(line) => {
+                    ends(&rt, &ran, Status::Refused, b"", line);
+                    lacks(&rt, &ran, "whole.rec");
+                }
+            }
         }
     }
     Ok(())

@@ -1,0 +1,31 @@
+-- How a command ends that writes a record of some messages of another.
+use Rattle.std.specs.Prelude.{ℕ, ◌≡◌, ◌⊎◌, List}
+use Rattle.cy_tools.specs.declared.error.File.{File}
+use Rattle.cy_tools.specs.declared.error.File.TheVariants.{Input, Output}
+use Rattle.cy_tools.specs.declared.error.ToolError.{ToolError}
+use Rattle.cy_tools.specs.declared.error.ToolError.TheVariants as tool
+use Rattle.cy_replay.specs.FaultText.{refusal_line}
+use Rattle.cy_replay.specs.declared.error.Fault.TheVariants as fault
+use Rattle.cy_commands.specs.declared.status.Status.{Status}
+use Rattle.cy_commands.specs.declared.status.Status.TheVariants.{Done, StoreFault}
+use Rattle.cy_commands.specs.Lines.{messages_line, store_line}
+use Rattle.cy_commands.specs.Status.{fault_status}
+use Rattle.cy_commands.specs.private.Unset.{IsStarved}
+
+-- It was written, and the line tells how many messages it has.
+abbrev pub IsDueKept : ℕ → List ℕ → ℕ → Status → List ℕ → Type 0
+IsDueKept messages words number due line = IsStarved due line
+    ⊎ ((due ≡ Done) × (line ≡ messages_line messages words number))
+
+-- It was not, of an input and for an output of these names.
+abbrev pub file_name : (input output : List ℕ) → File → List ℕ
+file_name input output Input = input
+file_name input output Output = output
+
+abbrev pub IsDueUnkept : (input output : List ℕ) → ToolError → Status → List ℕ → Type 0
+IsDueUnkept input output (tool.Load e) due line = IsStarved due line
+    ⊎ ((due ≡ fault_status (fault.Record e))
+    × (line ≡ refusal_line record { file = input; fault = fault.Record e }))
+IsDueUnkept input output (tool.Store f) due line = (due ≡ StoreFault)
+    × (line ≡ store_line (file_name input output f))
+IsDueUnkept input output tool.Memory due line = IsStarved due line
