@@ -9,8 +9,8 @@ configuration file, or what a play wrote. They are given to the commands that re
 - it ends with status 0, 1, 3 or 5, which are all that files can bring about, and not by a signal; 3 only where a file is none. A queue takes
   its room before the first message, so 6 may come where the DAG file has a number of seven digits or more;
 - its line or text stands on the stream where it belongs, in its form, and the other stream got nothing;
-- no file is made or changed unless it is Done, and then only the two that are written; they are a record and a trace of the numbers that
-  the line has, and `verify` finds them lawful;
+- no file is made or changed unless it is Done, and then only those that are written: a record and a trace of the numbers that the line has,
+  which `verify` finds lawful, or a record with as many messages as the line says, which for `recover` is the one that parted.py makes;
 - it takes at most a second of processor time, and at most 64 MB above what a run on a small record takes and the size of its files;
 - made once more, it says and writes the same (one run in eight, and none on threads).
 
@@ -37,6 +37,7 @@ HERE = os.path.dirname(os.path.abspath(__file__))
 sys.path.insert(0, os.path.join(HERE, "..", "tools"))
 from damage import spoiled_record, spoiled_text, spoiled_trace
 from mutations import changed_record, read, write
+from parted import recovered
 from record import messages_of
 from replays import CHANNELS, verify_words, without, write_files
 from strict import Bad, read_trace
@@ -62,10 +63,13 @@ TEXTS = {
     "play": re.compile(b"done: " + SUMMARY),
     "pass": re.compile(b"done: " + SUMMARY),
     "verify": re.compile(b"lawful: " + SUMMARY),
+    "recover": re.compile(rb"done: messages (\d+), dropped \d+\n"),
+    "split": re.compile(rb"done: messages (\d+) of \d+\n"),
     "info": re.compile(rb"file in\.rec bytes \d+\nversion \d+\.\d+ complete (?:yes|no) compress 0\n(?:[^\n]+\n)+"),
     "check": re.compile(rb"(?:[^\n]+\n)*ok\n"),
 }
 WRITTEN = ("out.rec", "out.trace")
+WRITES = {"play": WRITTEN, "pass": WRITTEN, "recover": WRITTEN[:1], "split": WRITTEN[:1]}
 TOLD = {0: "Done", 1: "Refused", 3: "StoreFault", 5: "Limit", MEMORY: "Memory"}  # the statuses that files can bring about
 
 
@@ -160,7 +164,7 @@ def looks_as_promised(ran, changed):
     if ran.is_done:
         require(TEXTS[ran.words[0]].fullmatch(ran.out), f"standard output got {ran.out[:200]}")
         require(not ran.err, f"Done, and standard error got {ran.err[:200]}")
-        must = {it.encode() for it in WRITTEN} if ran.words[0] in ("play", "pass") else set()
+        must = {it.encode() for it in WRITES.get(ran.words[0], ())}
         require(changed == must, f"Done, and there changed {changed}")
         return
     require(ran.status != MEMORY or LONG_QUEUE.search(read("m.dag")), "there is no memory")
@@ -184,6 +188,19 @@ def written_as_told(ran):
     require(told == (played, shadowed, calls, written), f"the trace tells of {told}, the line of {ran.out}")
     require(len(messages) == written, f"the record has {len(messages)} messages, and not {written}")
     require([it[0] for it in messages] == [channel for channel, _ in trace.tape], "the record has other channels than the tape")
+
+
+def parted_as_told(ran):
+    """Looks that a reader of the tests' own finds as many messages in what was recovered or split as the line has."""
+    count = int(TEXTS[ran.words[0]].fullmatch(ran.out)[1])
+    try:
+        messages = messages_of(read("out.rec"))
+    except ValueError as error:
+        raise Fault(f"what was written can't be read: {error!r}") from None
+    require(len(messages) == count, f"the record has {len(messages)} messages, and not {count}")
+    if ran.words[0] == "recover":
+        record, line = recovered(read(ran.words[1]))
+        require((read("out.rec"), ran.out) == (record, line.encode()), f"not what parted.py makes, which tells {line!r}")
 
 
 class Suite:
@@ -222,6 +239,8 @@ class Suite:
                 ran.seconds = min(ran.seconds, self.run(words).seconds)
         if ran.is_done and words[0] in ("play", "pass"):
             written_as_told(ran)
+        if ran.is_done and words[0] in ("recover", "split"):
+            parted_as_told(ran)
         self.takes_little(ran, before)
         self.counts[words[0], ran.status] += 1
         return ran
@@ -266,7 +285,8 @@ def a_record(words, chance, _):
     write("in.rec", spoiled_record(read("in.rec"), chance))
     leave_old_files(chance)
     passing = ["pass", "in.rec", *WRITTEN, *chance.sample(CHANNELS + ["/x"], 2)]
-    return [["info", "in.rec"], passing, *plays(words, chance)]
+    parting = ["split", "in.rec", WRITTEN[0], chance.choice(["--channels", "--drop"]), ",".join(chance.sample(CHANNELS, 2))]
+    return [["info", "in.rec"], passing, ["recover", "in.rec", WRITTEN[0]], parting, *plays(words, chance)]
 
 
 def a_text(words, chance, _):
@@ -302,7 +322,7 @@ def wrong_files(words, chance, _):
         write(name, data)
     elif way < 0.8:
         os.mkdir(name)
-    return [["info", "in.rec"], ["check", "--dag", "m.dag"], *plays(words, chance)]
+    return [["info", "in.rec"], ["check", "--dag", "m.dag"], ["recover", "in.rec", WRITTEN[0]], *plays(words, chance)]
 
 
 KINDS = [a_record, a_record, a_record, a_text, a_text, a_text, what_was_written, what_was_written, wrong_files]

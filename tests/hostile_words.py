@@ -33,6 +33,7 @@ NO_TIMES = [
     b"99999999999999999999", b"\xff", b"1@", b"1,",
 ]  # fmt: skip
 NO_LISTS = [b"", b",", b",p", b"p,", b"p,,p", b",,", *NO_NAMES, b"p,\xff"]
+SPLIT = [b"split", b"in.rec", b"part.rec"]
 PLAY = [b"play", b"--serial", b"--dag", b"d.dag", b"--record", b"in.rec", b"--out", b"out.rec", b"--trace", b"trace"]
 
 
@@ -132,9 +133,13 @@ def try_lists(rows, names):
             for words in option(name, value):
                 calls = sum(it[:4096] in named if name == b"--channels" else it[:4096] not in named for it in names)
                 rows.answers(PLAY + words, 0, done_line(count * len(TIMES), calls * len(TIMES)))
+            for words in option(name, value):
+                told = b"done: messages %d of %d\n" % (count * len(TIMES), len(there) * len(TIMES))
+                rows.answers(SPLIT + words, 0, told)
     for value in NO_LISTS:
         for words in option(b"--channels", value) + option(b"--drop", value):
             rows.refuses(PLAY + words)
+            rows.refuses(SPLIT + words)
 
 
 def try_places(rows, names):
@@ -147,8 +152,11 @@ def try_places(rows, names):
     for name in NO_NAMES:
         rows.refuses([b"pass", b"in.rec", b"out.rec", b"trace", name, b"/to"])
         rows.refuses([b"info", name])
+        rows.refuses([b"recover", name, b"part.rec"])
+        rows.refuses([b"split", b"in.rec", name])
     for name in (b"a\nb", b"a=b", "é".encode(), b"@", b"a,b", b'"', b"no\\", b" ", b"x" * 4000, b"x" * 100_000, b"/" * 100_000 + b"no"):
         rows.answers([b"info", name], 3, b"cyber: %s: the store failed\n" % name)
+        rows.answers([b"recover", name, b"part.rec"], 3, b"cyber: %s: the store failed\n" % name)
         for words in option(b"--dag", name):
             rows.answers([b"check", *words], 3, b"cyber: %s: the store failed\n" % name)
     rows.refuses([b"info"] + [b"in.rec"] * 10_000)

@@ -14,6 +14,10 @@ PLAY='play --serial --dag d.dag --record in.rec --out out.rec --trace trace'
 THREADS='play --dag d.dag --record in.rec --out out.rec --trace trace'
 VERIFY='verify --dag d.dag --record in.rec --out done.rec --trace done.trace'
 PASS='pass in.rec out.rec trace /in /out'
+RECOVER='recover done.rec out.rec'
+SPLIT='split done.rec out.rec'
+RECOVERED='done: messages 2000, dropped 0'
+PARTED='done: messages 2000 of 2000'
 DONE='done: played 1000, shadowed 0, calls 1000, written 2000'
 LAWFUL='lawful: played 1000, shadowed 0, calls 1000, written 2000'
 
@@ -119,6 +123,10 @@ signals() {
   holds files/out.rec want/rec
   [ "$(stat -c %s files/trace)" = 40960 ] && cmp -s files/trace <(head -c 40960 want/trace)
   count $? "$name: the trace isn't the front of what was to be written"
+  meets launched 'a limit of file size' 'ulimit -f 8' "$RECOVER" 3 "$OUT"
+  is_cut_short files/out.rec
+  meets launched 'a limit of file size' 'ulimit -f 8' "$SPLIT" 3 "$OUT"
+  is_cut_short files/out.rec
   meets launched 'a limit of file size of nothing, for the line too' 'ulimit -f 0' "$PASS" 4 ''
   holds files/out.rec want/nothing
   lacks files/trace
@@ -138,6 +146,10 @@ signals() {
 closed_streams() {
   meets program 'a closed standard output' 'exec >&-' "$PASS" 4 "$SINK"
   both_whole
+  meets program 'a closed standard output' 'exec >&-' "$RECOVER" 4 "$SINK"
+  holds files/out.rec want/rec
+  meets program 'a closed standard output' 'exec >&-' "$SPLIT" 4 "$SINK"
+  holds files/out.rec want/rec
   meets program 'a closed standard error' 'rm in.rec; exec 2>&-' "$PASS" 4 ''
   lacks files/out.rec
   meets program 'all streams closed' 'exec <&- >&- 2>&-' "$PASS" 4 ''
@@ -158,6 +170,9 @@ full_disks() {
   meets program 'a disk that fills with the record' 'mount_small size=16k' "${PASS/out.rec/small/out.rec}" 3 "$out"
   is_cut_short files/small/out.rec
   lacks files/trace
+  umount files/small
+  meets program 'a disk that fills with the record' 'mount_small size=16k' "${RECOVER/out.rec/small/out.rec}" 3 "$out"
+  is_cut_short files/small/out.rec
   umount files/small
   meets program 'a disk that fills with the trace' 'mount_small size=64k' "pass in.rec small/out.rec small/trace /in /out" 3 "$trace"
   holds files/small/out.rec want/rec
@@ -199,6 +214,10 @@ odd_records() {
   lacks files/out.rec
   meets program 'a pipe as the DAG file' 'rm d.dag; mkfifo d.dag; exec 3<>d.dag' "$PLAY" 3 'd.dag: the store failed'
   meets program 'a folder as a component file' 'rm p.conf; mkdir p.conf' "$PLAY" 3 'p.conf: the store failed'
+  meets program 'a pipe as the record' 'rm done.rec; mkfifo done.rec; exec 3<>done.rec' "$RECOVER" 3 'done.rec: the store failed'
+  lacks files/out.rec
+  meets program 'a device without end as the record' 'ln -sf /dev/zero done.rec' "$RECOVER" 1 'done.rec: not a record'
+  lacks files/out.rec
   meets program 'a pipe as the trace' 'rm done.trace; mkfifo done.trace; exec 3<>done.trace' "$VERIFY" 3 'done.trace: the store failed'
   meets program 'a device as the record that was written' 'ln -sf /dev/null done.rec' "$VERIFY" 1 'done.rec: differs at 0'
 }
@@ -222,6 +241,10 @@ odd_outs() {
   meets program 'the record itself as the out file' 'ln in.rec out.rec' "$PASS" 0 "$DONE"
   both_whole
   holds files/in.rec want/rec
+  meets program 'the record itself as the out file' 'ln done.rec out.rec' "$RECOVER" 0 "$RECOVERED"
+  holds files/done.rec want/rec
+  meets program 'the record itself as the out file' 'ln -s done.rec out.rec' "$SPLIT" 0 "$PARTED"
+  holds files/done.rec want/rec
   meets program 'a program that runs as the out file' \
     'cp "$(command -v sleep)" out.rec; ./out.rec 9 >../sleep 2>&1 & echo $! >../pid; await "[ /proc/$!/exe -ef out.rec ]"' "$PASS" 3 "$OUT"
   kill "$(cat pid)"
@@ -318,6 +341,8 @@ open_files
 memory_runs_out "$PASS" "$DONE" 3000 50 4200
 memory_runs_out "$PLAY" "$DONE" 3000 50 4200
 memory_runs_out "$VERIFY" "$LAWFUL" 3000 50 4200
+memory_runs_out "$RECOVER" "$RECOVERED" 3000 50 4200
+memory_runs_out "$SPLIT" "$PARTED" 3000 50 4200
 # What the launcher asks the C library for.
 GLIBC_TUNABLES=$(sed -n 's/.*GLIBC_TUNABLES:-\(.*\)}$/\1/p' "$top/cyber") memory_runs_out "$PLAY" "$DONE" 20000 20000 160000
 

@@ -23,6 +23,8 @@ ROWS = [
     ("play on threads", ["play", *DRIVE, *FILES], ["out.rec"], ["out.trace"]),
     ("check", ["check", "--dag", "examples/drive/drive.dag", "--sched", "examples/drive/drive.sched"], [], []),
     ("info", ["info", "one.rec"], [], []),
+    ("recover", ["recover", "one.rec", "out.rec"], ["out.rec"], []),
+    ("split", ["split", "one.rec", "out.rec", "--channels", "/in,/none", "--drop", "/x"], ["out.rec"], []),
 ]
 MADE = ("verify", ["verify", *DRIVE, *FILES], [], [])
 

@@ -3,8 +3,8 @@
 
     tour.py PAGE FOLDER COMMAND...
 
-The lines of PAGE that call `./cyber` are run in FOLDER, with COMMAND in place of `./cyber`, and so are those of `sed` that write a file; a
-backslash continues a line. What a line of `./cyber` prints has to stand on the page: one line in backquotes, more of them indented. A line
+The lines of PAGE that call `./cyber` are run in FOLDER, with COMMAND in place of `./cyber`, and so are those of `sed` and `head` that write a
+file; a backslash continues a line. What a line of `./cyber` prints has to stand on the page: one line in backquotes, more of them indented. A line
 on standard error goes with a status other than 0. Of a play on threads the numbers of calls and of written messages may be others, but
 `verify` prints those of the play before it. Ends with status 1 at the first line that fails.
 """
@@ -38,9 +38,9 @@ def main():
     page, folder, *command = sys.argv[1:]
     with open(page, encoding="utf-8") as file:
         text = file.read().replace("\\\n", "")
-    lines, played, count = re.findall(r"^    (\./cyber .*|sed .*>.*)$", text, re.M), "", 0
+    lines, played, count = re.findall(r"^    (\./cyber .*|(?:sed|head) .*>.*)$", text, re.M), "", 0
     for line in lines:
-        if line.startswith("sed"):
+        if not line.startswith("./cyber"):
             subprocess.run(line, shell=True, cwd=folder, check=True)
             continue
         call, count = line.removeprefix("./cyber "), count + 1
