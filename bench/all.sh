@@ -21,7 +21,7 @@ machine() {
   echo "The commit was $(git -C "$top" rev-parse --short HEAD). Each figure stands beside its baseline in the same run."
 } >"$new"
 
-for name in play verify threads timers pass read write text fuse table; do
+for name in play verify threads timers pass tools read write text fuse table; do
   echo "bench: $name.sh" >&2
   printf '\n## %s.sh\n\n' "$name" >>"$new"
   "$top/bench/$name.sh" | sed 's/^/    /' >>"$new"

@@ -3,13 +3,14 @@ _cyber() {
   local word=${COMP_WORDS[COMP_CWORD]} before=${COMP_WORDS[COMP_CWORD - 1]} options=
   COMPREPLY=()
   if [ "$COMP_CWORD" -eq 1 ]; then
-    mapfile -t COMPREPLY < <(compgen -W 'play verify pass check info make' -- "$word")
+    mapfile -t COMPREPLY < <(compgen -W 'play verify pass check info make recover split' -- "$word")
     return
   fi
   case ${COMP_WORDS[1]} in
     play) options='--serial --dag --record --out --trace --sched --channels --drop --begin --end --stop' ;;
     verify) options='--dag --record --out --trace --channels --drop --begin --end --stop' ;;
     check) options='--dag --sched' ;;
+    split) [ "$COMP_CWORD" -le 3 ] || options='--channels --drop --begin --end' ;;
   esac
   case $before in
     --channels | --drop | --begin | --end | --stop) return ;;

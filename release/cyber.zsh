@@ -8,6 +8,8 @@ commands=(
   'check:print what configuration files say'
   'info:print what a record is'
   'make:make the files of a play and play them'
+  'recover:make a whole record of what stands before the first fault of a file'
+  'split:write a record of some messages of another one'
 )
 if (( CURRENT == 2 )); then
   _describe command commands
@@ -35,4 +37,9 @@ case $command in
   pass) _arguments '1:record:_files' '2:record that is written:_files' '3:trace that is written:_files' '4:channel:' '5:channel:' ;;
   info) _arguments '1:record:_files' ;;
   make) _arguments '1:how many messages:' '2:prefix of the files:_files' ;;
+  recover) _arguments '1:file:_files' '2:record that is written:_files' ;;
+  split)
+    _arguments '1:record:_files' '2:record that is written:_files' '--channels=[only these channels]:channels:' \
+      '--drop=[none of these channels]:channels:' '--begin=[from this time on]:nanoseconds:' '--end=[up to this time]:nanoseconds:'
+    ;;
 esac

@@ -205,13 +205,18 @@ def messages_of(data):
     return list(each_message(data))
 
 
+def form_in(body):
+    """The name of the channel that a section is of, and its type and description."""
+    fields = last_of(fields_of(body))
+    return fields.get((1, bytes), b""), (fields.get((2, bytes), b""), fields.get((3, bytes), b""))
+
+
 def forms_of(data):
     """The type and description of each channel that has a section, by the first of its sections."""
     found = {}
     for kind, begin, end in sections_of(data):
         if kind == CHANNEL:
-            fields = last_of(fields_of(data[begin:end]))
-            found.setdefault(fields.get((1, bytes), b""), (fields.get((2, bytes), b""), fields.get((3, bytes), b"")))
+            found.setdefault(*form_in(data[begin:end]))
     return found
 
 
