@@ -20,8 +20,8 @@ pub data IsBrokenOff (channels : List Channel) (chunks : List (List BodyMessage)
       → IsBrokenOff channels chunks file
 
 -- Such a file has the front of the record's text, so of it the messages of the whole chunks are
--- salvaged. It is what a play, or any writing of a record, leaves that is stopped between two writes
--- or fails at one that keeps the first bytes of its piece.
+-- salvaged. It is what a play, or any writing of a record, leaves that is stopped between two
+-- writes or fails at one that keeps the first bytes of its piece.
 abbrev pub BrokenOffAreFronts : Type 0
 BrokenOffAreFronts = (channels : List Channel) (chunks : List (List BodyMessage))
     (file : List ℕ) → IsBrokenOff channels chunks file → IsFrontOf channels chunks file
