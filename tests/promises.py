@@ -1,9 +1,11 @@
 """Looks that each row of docs/PROMISES.md names what is there: a definition, a public call, a clause of its contract, and an edit;
-and that the pages of docs/promises/ name each edit, and no other.
+that the pages of docs/promises/ name each edit, and no other; and that each edit can still be applied.
 Usage: python3 tests/promises.py. It prints what is missing, and ends with status 1 where something is."""
 import pathlib
 import re
 import sys
+
+import edits_apply
 
 TOP = pathlib.Path(__file__).resolve().parent.parent
 CRATES = TOP / "crates"
@@ -103,6 +105,7 @@ def main():
     faults = [f"{quoted(row['Crate'])[0]}: {row['Promise']}: {fault}" for row in rows for fault in faults_of(row)]
     faults += [f"{crate}: no edit {name}" for crate, name, _ in sorted(edits_named() - edits_there())]
     faults += [f"{crate}: no page names the edit {name}, or not where it stands" for crate, name, _ in sorted(edits_there() - edits_named())]
+    faults += edits_apply.faults_of(edits_apply.all_crates())
     for fault in faults:
         print(fault)
     print(f"{len(rows)} promises, {len(faults)} faults")
