@@ -276,12 +276,25 @@ no_leave() {
   chmod 755 files/locked
 }
 
+# Closes all that is open beside the three streams, as whoever began this may have left it open: it would take up the room for files. At 255
+# the shell has its script, which no program inherits.
+close_others() {
+  local descriptor
+  for descriptor in /proc/self/fd/*; do
+    descriptor=${descriptor##*/}
+    if [ "$descriptor" -gt 2 ] && [ "$descriptor" -ne 255 ]; then
+      eval "exec $descriptor>&-"
+    fi
+  done
+}
+
 # Each file is closed before the next one is opened, so room for one beside the streams is enough. With less the C library isn't loaded, and
 # no program begins; so the room is taken away while the program runs, once the first of its files is there.
 open_files() {
-  meets program 'room for one open file' 'ulimit -n 4' "$PASS" 0 "$DONE"
+  local room='exec 3</dev/null 9</dev/null; close_others; ulimit -n 4'
+  meets program 'room for one open file' "$room" "$PASS" 0 "$DONE"
   both_whole
-  meets program 'room for one open file' 'ulimit -n 4' "$THREADS" 0 "$DONE"
+  meets program 'room for one open file' "$room" "$THREADS" 0 "$DONE"
   begin 'while it runs there comes to be no room for an open file'
   mkdir files
   (cd files && exec "$program" make 500000 m) >out 2>err &

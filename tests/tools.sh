@@ -1,6 +1,6 @@
 #!/usr/bin/env bash
-# Tests what stands around the program: tools/, release/ and batch/. Usage: tests/tools.sh [--install] [SECTION...], by default all of
-# timeline, pictures, messages, why_not, release and batch.
+# Tests what stands around the program: the gate itself, tools/, release/ and batch/. Usage: tests/tools.sh [--install] [SECTION...], by
+# default all of gate, timeline, pictures, messages, why_not, release and batch.
 # What a section needs beside Python's standard library is taken from the machine. With --install it is installed else: by apt-get where
 # root asks for it on a Debian, or by pip into a virtual environment in $TOOLS_ENVIRONMENT (by default in the user's cache). Where it is
 # not to be had the section is skipped, which is said. Without --install nothing is installed.
@@ -97,6 +97,76 @@ replay_drive() {
   (cd "$top" && python3 tests/replay.py "$OLDPWD/out.rec" "$OLDPWD/out.trace" "$OLDPWD/line" \
     --dag examples/drive/drive.dag --sched examples/drive/drive.sched --record examples/drive/drive.rec)
   sed -n '/^    component "smooth"/,/^    ok$/s/^    //p' "$top/examples/README.md" >drive.check
+}
+
+# Makes a part of a gate that prints some lines and ends with a status.
+stub() { # its file, the status, and the lines
+  printf '%s\n' '#!/bin/sh' 'cat <<T' "${@:3}" T "exit $2" >"$1"
+  chmod +x "$1"
+}
+
+gate() {
+  begin 'the gate runs all parts, and sums what they count'
+  mkdir -p .ci tests release bin
+  cp "$top/.ci/run" .ci/
+  stub bin/rt 0 'rt: ok' '7 passed, 0 failed'
+  stub tests/units.sh 0 'files: 2 passed, 0 failed' 'runs: 3 passed, 0 failed' '5 passed, 0 failed'
+  stub tests/program.sh 0 '20 passed, 0 failed, 4 skipped'
+  stub tests/tools.sh 0 '30 passed, 0 failed'
+  stub release/gate.sh 0 'commit 1, program 2'
+  touch tests/refusals.py tests/promises.py
+  PATH=$PWD/bin:$PATH try 0 .ci/run
+  [ "$(tail -n 1 out)" = 'gate: 65 passed, 0 failed' ]
+  count $? "$name: the last line is '$(tail -n 1 out)'"
+  begin 'a part of the gate that fails leaves out none behind it'
+  cp -r "$OLDPWD/." .
+  stub bin/rt 1 'rt: FAILED: x' '6 passed, 1 failed'
+  stub tests/units.sh 1 'units: no tests'
+  stub tests/program.sh 1 '20 passed, 0 failed'
+  stub tests/tools.sh 0 '28 passed, 2 failed'
+  echo 'raise SystemExit(1)' >tests/promises.py
+  PATH=$PWD/bin:$PATH try 1 .ci/run
+  printf 'failed: %s: status %s\n' 'rt ci' 1 tests/units.sh 1 tests/program.sh 1 \
+    'tests/tools.sh --install gate timeline messages why_not release' 0 'python3 tests/promises.py' 1 >want
+  echo 'gate: 56 passed, 6 failed' >>want
+  tail -n 6 out | cmp -s - want
+  count $? "$name: it ends with $(tail -n 6 out)"
+  tries_one_part
+  finds_edits
+}
+
+tries_one_part() {
+  begin 'a part of the tests is named, and one that there is not is refused'
+  fails_in_one_line 2 "tests/program.sh: no part 'plays': pass words .*" "$top/tests/program.sh" /bin/true plays
+  fails_in_one_line 2 "tests/units.sh: no group 'file': .*" "$top/tests/units.sh" file
+  fails_in_one_line 2 "tests/units.sh: no test 'reads' in files" "$top/tests/units.sh" files reads
+  try 1 "$top/tests/program.sh" /bin/false check
+  says out '[0-9]+ passed, [1-9][0-9]* failed'
+}
+
+# A crate with two edits, one of which can't be applied.
+finds_edits() {
+  begin 'an edit that can not be applied any more is found'
+  mkdir -p crates/c/src crates/c/must-fail tests/edits/c
+  cp "$top/tests/edits_apply.py" "$top/tests/edits.sh" tests/
+  printf 'let a = 1;\nlet b = 2;\nlet b = 2;\n' >crates/c/src/x.rt
+  printf 'file: src/x.rt\nold: a = 1;\nnew: a = 2;\nold: a = 2;\nnew: a = 3;\n' >crates/c/must-fail/well.edit
+  try 0 python3 tests/edits_apply.py
+  [ ! -s out ]
+  count $? "$name: $(cat out)"
+  printf 'file: src/x.rt\nold: b = 2;\nnew: b = 3;\n' >tests/edits/c/twice.edit
+  printf 'file: src/x.rt\nold: c = 2;\nnew: c = 3;\n' >tests/edits/c/gone.edit
+  printf 'file: src/y.rt\nold: a = 1;\nnew: a = 3;\n' >tests/edits/c/no_file.edit
+  printf 'file: src/x.rt\nold: a = 1;\nnew: a = 1;\n' >tests/edits/c/same.edit
+  try 1 python3 tests/edits_apply.py
+  says out "c: the edit twice can't be applied: src/x.rt has 2 times the text b = 2;"
+  says out "c: the edit gone can't be applied: src/x.rt has 0 times the text c = 2;"
+  says out "c: the edit no_file can't be applied: .*No such file or directory.*"
+  says out "c: the edit same can't be applied: it changes nothing"
+  [ "$(wc -l <out)" -eq 4 ]
+  count $? "$name: $(cat out)"
+  try 1 tests/edits.sh c
+  says out "c: the edit gone can't be applied: .*"
 }
 
 DRIVE='/wheel/speed /smooth/sum /smooth/sum,/map/limit /margin /map/limit /limit/new /camera/frame /late/frame /late/frame /frames'
@@ -643,7 +713,7 @@ if [ "${1:-}" = --install ]; then
   install=yes
   shift
 fi
-[ $# -gt 0 ] || set -- timeline pictures messages why_not release batch
+[ $# -gt 0 ] || set -- gate timeline pictures messages why_not release batch
 for section in "$@"; do
   "$section"
 done

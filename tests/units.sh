@@ -1,6 +1,6 @@
 #!/usr/bin/env bash
-# Runs the tests of tests/units, with checks and unproved, and sums them: those of the groups that are named, or all.
-# Usage: tests/units.sh [GROUP..]
+# Runs the tests of tests/units, with checks and unproved, and sums them: those of the groups that are named, or all; or one test of a group.
+# Usage: tests/units.sh [GROUP..], or tests/units.sh GROUP NAME, where NAME is the name of a test's function.
 # A group is a crate of a copy of this repository, since `rt ci` proves each crate that stands here. The status is 0 where all passed.
 set -euo pipefail
 top=$(cd "$(dirname "$0")/.." && pwd)
@@ -10,10 +10,19 @@ trap 'rm -rf "$work"' EXIT
 
 # The one that takes longest comes first.
 groups=(program runs files texts events)
+wanted=
+if [ $# -eq 2 ] && [[ " ${groups[*]} " == *" $1 "* && " ${groups[*]} " != *" $2 "* ]]; then
+  wanted=${2##*::}
+  set -- "$1"
+fi
 for group in "$@"; do
   [[ " ${groups[*]} " == *" $group "* ]] || { echo "tests/units.sh: no group '$group': ${groups[*]}" >&2; exit 2; }
 done
 [ $# -eq 0 ] || groups=("$@")
+if [ -n "$wanted" ] && ! grep -rqE "^ *fn $wanted[(<]" "$units/$1"; then
+  echo "tests/units.sh: no test '$wanted' in $1" >&2
+  exit 2
+fi
 
 # Copies what all crates are compiled from.
 copy_crates() {
@@ -27,13 +36,17 @@ copy_crates() {
   git init -q "$work"
 }
 
-# Copies the tests to a folder. They end in .rs here, since the gate takes every file that ends in .rt for part of a crate.
+# Copies the tests to a folder. They end in .rs here, since the gate takes every file that ends in .rt for part of a crate. Where one test is
+# wanted, the others are functions that nobody calls.
 copy_tests() { # the group, the folder
   local file to
   while read -r file; do
     to=$2/${file%.rs}.rt
     mkdir -p "$(dirname "$to")"
-    cp "$units/$1/$file" "$to"
+    awk -v wanted="$wanted" '
+      wanted != "" && /^ *#\[test\]/ { mark = $0; next }
+      mark != "" && /^ *fn / { if ($0 ~ "fn " wanted "[(<]") print mark; mark = "" }
+      { print }' "$units/$1/$file" >"$to"
   done < <(cd "$units/$1" && find . -name '*.rs')
 }
 
@@ -64,7 +77,7 @@ run_group() { # the group, its folder
 # has failed, and so has a group without tests, or whose run ended with another status than 0.
 report() { # the group
   local here=0 bad tests
-  tests=$(grep -rhF '#[test]' "$units/$1" | wc -l) || true
+  tests=$(grep -rhF -A 1 '#[test]' "$units/$1" | grep -cE "^ *fn ${wanted:-[a-z0-9_]+}[(<]") || true
   here=$(grep -cE '^test .* \.\.\. ok$' "$work/$1.log") || true
   bad=$((tests - here))
   if [ "$bad" -eq 0 ] && { [ "$tests" -eq 0 ] || [ "$(cat "$work/$1.status")" != 0 ]; }; then

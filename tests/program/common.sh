@@ -1,0 +1,129 @@
+# shellcheck shell=bash disable=SC2154
+# What the parts of tests/program.sh share: they make files, run the program, and compare what came of it. `program`, `top` and the
+# folder `work` are given by tests/program.sh.
+
+USAGE='cyber: the words are not of a known form'
+OUTPUT='cyber: the output failed'
+
+# Makes what `pass` must write for the record in `files`, in the folder `want`.
+wanted() { # the two channels
+  mkdir -p want
+  python3 "$top/tests/replay.py" want/rec want/trace want/line --record files/in.rec --pass "$@"
+}
+
+# Makes what `pass` must write for a record of `examples/`, in the folder `want`, and puts the record into `files`.
+given() { # the name of the record
+  mkdir -p files
+  cp "$top/examples/pass/$1" files/in.rec
+  wanted /in /out
+}
+
+# Looks that the record and the trace were written whole.
+both_whole() {
+  holds files/out.rec want/rec
+  holds files/trace want/trace
+}
+
+# Looks that `verify` finds the files of a play to be those of a lawful run, and prints the numbers that the play printed.
+is_lawful() { # the folder in which the play ran, the record and the trace as they are named there, and the words of the play but for these
+  local line expected
+  expected=$(sed 's/^done: /lawful: /' out)
+  line=$(cd "$1" && "$program" verify --out "$2" --trace "$3" "${@:4}" 2>&1)
+  [ "$line" = "$expected" ]
+  count $? "$name: verify says '$(head -c 200 <<<"$line")', not '$expected'"
+}
+
+refuses_the_words() { # the words
+  begin "refuses the words '$(printf '%q ' "$@")'"
+  run "$@"
+  ends 2 '' "$USAGE"
+  [ -z "$(ls files)" ]
+  count $? "$name: a file was made"
+}
+
+# A command that writes the record of these messages, in Python, and the types and descriptions of channels.
+write_record() { # the messages, and the forms
+  echo "PYTHONPATH='$top/tools' python3 -c 'from record import *; import sys; sys.stdout.buffer.write(record($1, $2))' >in.rec"
+}
+
+# Compares what standard output got with a text of several lines.
+prints() { # the text
+  [ "$status" -eq 0 ]
+  count $? "$name: status $status, not 0"
+  printf '%s\n' "$1" | cmp -s - out
+  count $? "$name: standard output got '$(head -c 2000 out)', not '$1'"
+  [ ! -s err ]
+  count $? "$name: standard error got '$(head -c 200 err)'"
+}
+
+# Writes a DAG of one component `p` of a class and a component file for it.
+one_component() { # the class, the fields behind its name, and the component file
+  mkdir -p files
+  printf 'module_config { module_library: "x" components { class_name: "%s" config { name: "p" %s } } }\n' "$1" "$2" \
+    >files/d.dag
+  printf '%s\n' "$3" >files/p.conf
+}
+
+# What components read, a command that writes a scheduler file, one that makes a cycle, and the words of a drive.
+READS_A='config_file_path: "p.conf" readers { channel: "/a" }'
+READS_IN='config_file_path: "p.conf" readers { channel: "/in" }'
+A_SCHED='echo "scheduler_conf { classic_conf { groups { name: \"g\" } } }" >s.sched'
+A_CYCLE="echo 'out: \"/in\"' >p.conf"
+drive=(--dag examples/drive/drive.dag --record examples/drive/drive.rec)
+
+refuses_files() { # what is wrong, the status, the line, and a command that writes the files
+  begin "refuses $1"
+  one_component PassComponent "$READS_A" 'out: "/o"'
+  (cd files && eval "$4")
+  run check --dag d.dag --sched s.sched
+  ends "$2" '' "$3"
+}
+
+refuses_a_dag() { # what is wrong, the line behind the file's name, the class, the fields and the component file
+  begin "refuses $1"
+  one_component "$3" "$4" "$5"
+  run check --dag d.dag
+  ends 1 '' "cyber: $2"
+}
+
+tells_no_record() { # what is wrong, the status, the line behind the record's name, and a command that does it
+  begin "tells nothing of $1"
+  given two.rec
+  (cd files && eval "$4")
+  run info in.rec
+  ends "$2" '' "cyber: in.rec: $3"
+}
+
+refuses_a_replay() { # what is wrong, the status, the line behind `cyber: `, and a command that changes the files
+  begin "refuses to play $1"
+  one_component PassComponent "$READS_IN" 'out: "/o"'
+  cp "$top/examples/pass/two.rec" files/in.rec
+  (cd files && eval "$4")
+  run play --serial --dag d.dag --record in.rec --out out.rec --trace trace --sched=s.sched
+  ends "$2" '' "cyber: $3"
+  lacks files/out.rec
+  lacks files/trace
+}
+
+# Plays records of a drive or others, and compares both files and the line with what a Python script makes of the same files.
+plays_as_described() { # the words, but those for the files that are written
+  begin "plays as the rules say: $*"
+  local here=$PWD words=("$@")
+  (cd "$top" && python3 tests/replay.py "$here/rec" "$here/trace" "$here/line" "$@")
+  (cd "$top" && exec "$program" play --serial --out "$here/out.rec" --trace "$here/out.trace" "$@") >out 2>err
+  status=$?
+  ends 0 "$(cat line)" ''
+  # `verify` knows no scheduler.
+  [ "${5:-}" != --sched ] || words=("${@:1:4}" "${@:7}")
+  is_lawful "$top" "$here/out.rec" "$here/out.trace" "${words[@]}"
+  holds out.rec rec
+  holds out.trace trace
+}
+
+# Runs a script of its own over the program, and tells what it found amiss.
+stands() { # what it shows, the script, and its words behind the program
+  begin "$1"
+  "$top/tests/$2" "$program" "${@:3}" >report 2>&1
+  count $? "$name: $(cat report)"
+  grep '^left out' report
+}
