@@ -42,7 +42,7 @@ if [ -n "$gate" ]; then
   proofs=$(grep '^rt: ok; ' "$gate" | tail -n 1 || true)
   [ -n "$proofs" ] || fail 'the gate did not come to its end: no line says that rt ci passed'
   said=$(sed -E '/^$|^(real|user|sys)[[:space:]]/d' "$gate" | tail -n 1)
-  [[ $said =~ ^[0-9]+\ promises,\ 0\ faults$ ]] || fail "the gate did not come to its end: its last line is '$said'"
+  [[ $said =~ ^gate:\ [0-9]+\ passed,\ 0\ failed$ ]] || fail "the gate did not come to its end: its last line is '$said'"
   of=$(grep -E '^commit .*, program [0-9a-f]{64}$' "$gate" | tail -n 1 || true)
   [ "$of" = "$state" ] || fail "the gate was of '${of:-nothing that it names}', and this is $state"
 fi
@@ -64,6 +64,7 @@ write_proved() {
   echo "commit ${commit/with changes/with changes that are not committed}"
   echo "logic ${logic:-not named in the log of the gate, for which all proofs were kept}"
   echo "proofs ${proofs:-$unknown}"
+  said=${said#gate: }
   echo "gate ${said:-$unknown}"
   echo "sha256 of the files beside this one:"
   (cd "$stage/usr" && find . -type f ! -name PROVED -printf '%P\n' | LC_ALL=C sort | xargs -d '\n' sha256sum)

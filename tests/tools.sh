@@ -446,7 +446,7 @@ release() {
   says tar/share/doc/zektrob/PROVED "commit $(git -C "$top" rev-parse HEAD)( with changes.*)?"
   says tar/share/doc/zektrob/PROVED 'logic 0123456789abcdef'
   says tar/share/doc/zektrob/PROVED 'proofs rt: ok; every proof was done in this run'
-  says tar/share/doc/zektrob/PROVED 'gate 1 promises, 0 faults'
+  says tar/share/doc/zektrob/PROVED 'gate 12 passed, 0 failed'
   (cd tar && sed -n 's/^\([0-9a-f]\{64\}  \)/\1/p' share/doc/zektrob/PROVED | sha256sum -c --quiet) >sums 2>&1
   count $? "$name: $(head -n 3 sums)"
   [ "$(grep -c '^[0-9a-f]\{64\}  ' tar/share/doc/zektrob/PROVED)" -eq $(($(find tar -type f | wc -l) - 1)) ]
@@ -478,7 +478,7 @@ write_log() {
   printf '%s\n' 'logic=proved functions=1 sum=0123456789abcdef native=nat' 'rt: x proved' 'rt: ok; every proof was done in this run' \
     '9 passed, 0 failed'
   "$top/release/gate.sh" "$program"
-  printf '1 promises, 0 faults\n\nreal\t1m\n'
+  printf '1 promises, 0 faults\ngate: 12 passed, 0 failed\n\nreal\t1m\n'
 }
 
 # Looks that no release is made with the log of a gate that failed, that was stopped, or that was of something else.
