@@ -1,12 +1,15 @@
-"""The table of drives of a batch, and the rows that tell what came of each."""
+"""The table of drives of a batch, the program's words for each, and the files that say what came of it."""
 import csv
 import json
 import os
 import re
+import subprocess
+import time
 
 NAME = re.compile(r"[A-Za-z0-9][A-Za-z0-9._-]*")
 COLUMNS = ["drive", "record", "dag", "sched", "channels", "drop", "begin", "end", "stop", "threads"]
 OPTIONS = ["dag", "record", "sched", "channels", "drop", "begin", "end", "stop"]
+LONGEST_LINE = 2000
 COMPONENT_FILE = re.compile(rb"""config_file_path\s*:\s*["']([^"']+)["']""")
 
 
@@ -31,7 +34,17 @@ def read_table(path):
             if None in row or not re.fullmatch(r"[0-9]{0,4}", drive.get("threads", "")):
                 raise ValueError(f"{path}: line {rows.line_num}: drive {name} has more cells than heads, or threads that are no number")
             found[name] = drive
+    if not found:
+        raise ValueError(f"{path}: no drives")
     return found
+
+
+def drive_of(table, name):
+    """The drive of a name in a table."""
+    drives = read_table(table)
+    if name not in drives:
+        raise ValueError(f"{table}: no drive {name}")
+    return drives[name]
 
 
 def threads_of(drive):
@@ -65,11 +78,58 @@ def files_of(drive):
     return [it for it in dict.fromkeys(files) if os.path.isfile(it)]
 
 
-def row_of(folder, name):
-    """What came of a drive, or None where it isn't done."""
+def run(command):
+    """Runs a command: its status, its line, the seconds, the processor's seconds, and its most memory in bytes."""
+    start = time.monotonic()
+    with subprocess.Popen(command, stdin=subprocess.DEVNULL, stdout=subprocess.PIPE, stderr=subprocess.STDOUT) as process:
+        line = process.stdout.read(LONGEST_LINE).decode("utf-8", "replace")
+        while process.stdout.read(1 << 20):
+            pass
+        _, ended, used = os.wait4(process.pid, 0)
+        process.returncode = os.waitstatus_to_exitcode(ended)
+    return {
+        "status": process.returncode,
+        "line": line.strip(),
+        "seconds": round(time.monotonic() - start, 3),
+        "processor": round(used.ru_utime + used.ru_stime, 3),
+        "memory": used.ru_maxrss * 1024,
+    }
+
+
+def row_path(folder, name):
+    """The file that says what came of a drive's play."""
+    return os.path.join(folder, name, "row.json")
+
+
+def judged_path(folder, name):
+    """The file that says what came of its comparison and of the further command."""
+    return os.path.join(folder, name, "judged.json")
+
+
+def write_whole(path, content):
+    """Writes a file of JSON in one piece: it is there whole, or not at all."""
+    with open(f"{path}.new", "w", encoding="utf-8") as file:
+        json.dump(content, file, indent=1)
+    os.replace(f"{path}.new", path)
+
+
+def read_object(path):
+    """What a file of JSON has, or None where it isn't there or is no object."""
     try:
-        with open(os.path.join(folder, name, "row.json"), encoding="utf-8") as file:
-            row = json.load(file)
+        with open(path, encoding="utf-8") as file:
+            content = json.load(file)
     except (OSError, ValueError):
         return None
-    return row if isinstance(row, dict) and "status" in row else None
+    return content if isinstance(content, dict) else None
+
+
+def row_of(folder, name):
+    """What came of a drive's play, or None where it isn't done."""
+    row = read_object(row_path(folder, name))
+    return row if row is not None and "status" in row else None
+
+
+def judged_of(folder, name, row, good, verify):
+    """What came of the comparison of this row with a good batch and of a further command, or None where that isn't done."""
+    judged = read_object(judged_path(folder, name))
+    return judged if judged is not None and [judged.get(it) for it in ("row", "good", "command")] == [row, good, verify] else None

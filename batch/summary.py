@@ -1,23 +1,34 @@
 #!/usr/bin/env python3
 """Writes the summary of a batch: a row for each drive of the table.
 
-    summary.py TABLE DIR
+    summary.py TABLE DIR [--good DIR] [--verify WORDS]
 
-writes DIR/summary.csv, and prints how many drives are done, failed and not done.
+writes DIR/summary.csv, and prints how many drives are well, and what the others are. GOOD and WORDS are those of the batch. Ends with
+status 0 where all drives are well and like the good run, and else with 1.
 """
 import argparse
 import csv
 import os
 import sys
 
-from drives import read_table, row_of
+from drives import judged_of, read_table, row_of
 
 HEADS = ["drive", "status", "played", "shadowed", "calls", "written", "seconds", "processor", "memory", "verify", "difference", "line"]
+NOT_DONE, WITHOUT = "not done", "no good run"
 
 
-def write_summary(table, folder):
+def row_with_verdict(folder, name, good, verify):
+    """The row of a drive in the summary."""
+    row = row_of(folder, name)
+    if row is None or not (good or verify):
+        return row or {"drive": name, "status": NOT_DONE}
+    judged = judged_of(folder, name, row, good, verify)
+    return row | {it: judged[it] if judged else NOT_DONE for it in ("verify", "difference")}
+
+
+def write_summary(table, folder, good="", verify=""):
     """Writes the rows of a table's drives, and gives them."""
-    rows = [row_of(folder, name) or {"drive": name, "status": "not done"} for name in read_table(table)]
+    rows = [row_with_verdict(folder, name, good, verify) for name in read_table(table)]
     path = os.path.join(folder, "summary.csv")
     os.makedirs(folder, exist_ok=True)
     with open(f"{path}.new", "w", newline="", encoding="utf-8") as file:
@@ -28,21 +39,41 @@ def write_summary(table, folder):
     return rows
 
 
+def kind_of(row):
+    """What a drive is: well, failed, refused by the further command, or not done."""
+    if NOT_DONE in (row["status"], row.get("verify"), row.get("difference")):
+        return NOT_DONE
+    if row["status"] != 0:
+        return "failed"
+    return "well" if row.get("verify", "") in ("", "verified") else "refused"
+
+
+def sum_up(rows, good="", verify=""):
+    """The last line of a batch, and whether all is well. What wasn't asked for isn't mentioned."""
+    kinds = [kind_of(row) for row in rows]
+    counts = [(it, kinds.count(it)) for it in ("well", "failed", "refused", NOT_DONE) if it != "refused" or verify]
+    if good:
+        differences = [row.get("difference", "") for row in rows]
+        counts.append(("unlike the good run", sum(it not in ("", WITHOUT, NOT_DONE) for it in differences)))
+        counts.append(("without a good run", differences.count(WITHOUT)))
+    line = f"{len(rows)} drives: {', '.join(f'{count} {what}' for what, count in counts)}"
+    return line, kinds.count("well") == len(rows) and dict(counts).get("unlike the good run", 0) == 0
+
+
 def main():
     reader = argparse.ArgumentParser(description=__doc__.split("\n")[0])
     reader.add_argument("table")
     reader.add_argument("folder", metavar="DIR")
+    reader.add_argument("--good", default="")
+    reader.add_argument("--verify", default="")
     words = reader.parse_args()
     try:
-        rows = write_summary(words.table, words.folder)
+        line, is_well = sum_up(write_summary(words.table, words.folder, words.good, words.verify), words.good, words.verify)
     except (OSError, ValueError) as error:
         print(f"summary.py: {error}", file=sys.stderr)
         return 1
-    well = sum(row["status"] == 0 for row in rows)
-    missing = sum(row["status"] == "not done" for row in rows)
-    unlike = sum(row.get("difference", "") not in ("", "no good run") for row in rows)
-    print(f"{len(rows)} drives: {well} well, {len(rows) - well - missing} failed, {missing} not done, {unlike} unlike the good run")
-    return 0
+    print(line)
+    return 0 if is_well else 1
 
 
 if __name__ == "__main__":

@@ -566,7 +566,8 @@ times() {
 
 # Looks that a batch of 200 drives, of which the 7th and the 11th are broken, is told as it is.
 is_summed_up() {
-  says out '200 drives: 198 well, 2 failed, 0 not done, 0 unlike the good run'
+  says out '200 drives: 198 well, 2 failed, 0 not done'
+  says err 'batch: not all is well: batch.out/summary.csv has a row for each drive'
   [ "$(wc -l <batch.out/summary.csv)" -eq 201 ]
   count $? "$name: not a row for each drive"
   says batch.out/summary.csv 'd7,1,,,,,[0-9.]+,[0-9.]+,[0-9]+,,(no good run|),cyber: 7.rec: at 2137: Cut'
@@ -586,6 +587,8 @@ batch() {
   fi
   local call=("$snakemake" -s "$top/batch/Snakefile" --profile "$top/batch/profiles/local")
   refuses_tables
+  refuses_settings
+  judges_what_is_done
   plays_200_drives
   changes_drives
   plays_on_slurm
@@ -601,14 +604,17 @@ plays_200_drives() {
   count $? "$name: it was stopped with $before drives done"
   times >first
   try 0 "${call[@]}" --unlock --config program="$program"
-  try 0 "${call[@]}" --config program="$program"
+  try 1 "${call[@]}" --config program="$program"
   is_summed_up
+  says err 'batch: ([0-9]+) of \1 jobs done'
+  ! grep -Eq 'Building DAG|Select jobs|rule play' out err log
+  count $? "$name: Snakemake tells of its own: $(head -n 3 err)"
   times >second
   after=$(comm -12 first second | wc -l)
   # Of the drives that were being played one may have had its row just then; these are played again.
   [ "$after" -ge $((before - $(nproc))) ]
   count $? "$name: of $before drives only $after were left as they were"
-  try 0 "${call[@]}" --config program="$program"
+  try 1 "${call[@]}" --config program="$program"
   times | cmp -s - second
   count $? "$name: a batch that was done has played drives again"
   batch_folder=$PWD
@@ -620,13 +626,14 @@ changes_drives() {
   mv batch.out good
   sed -n '1p;4,7p' drives.csv >few.csv
   cp 4.rec 5.rec
-  try 0 "${call[@]}" --config program="$program" table=few.csv good=good verify=verify
-  says out '4 drives: 4 well, 0 failed, 0 not done, 1 unlike the good run'
+  try 1 "${call[@]}" --config program="$program" table=few.csv good=good verify=verify
+  says out '4 drives: 4 well, 0 failed, 0 refused, 0 not done, 1 unlike the good run, 0 without a good run'
   says batch.out/summary.csv 'd5,0,.*,verified,"message 1: /a at 10 0x0808, was /a at 10 0x080a","done: .*"'
   says batch.out/summary.csv 'd3,0,.*,verified,,"done: .*"'
   cp 4.rec 6.rec
   times >first
-  try 0 "${call[@]}" --config program="$program" table=few.csv good=good verify=verify
+  try 1 "${call[@]}" --config program="$program" table=few.csv good=good verify=verify
+  says out '4 drives: 4 well, 0 failed, 0 refused, 0 not done, 2 unlike the good run, 0 without a good run'
   times | comm -13 first - | cut -d ' ' -f 1 >changed
   [ "$(cat changed)" = batch.out/d6/row.json ]
   count $? "$name: played again: $(cat changed)"
@@ -636,6 +643,71 @@ changes_drives() {
   times | comm -13 first - | cut -d ' ' -f 1 >changed
   [ "$(cat changed)" = batch.out/d4/row.json ]
   count $? "$name: with other words: $(cat changed)"
+}
+
+# A batch that is done is compared and verified when that is asked for, without another play. What isn't asked for isn't claimed.
+judges_what_is_done() {
+  begin 'a batch that is done is compared and verified later'
+  python3 "$top/tests/tools/drives.py" 6 .
+  try 0 "${call[@]}" --config program="$program" out=good
+  says out '6 drives: 6 well, 0 failed, 0 not done'
+  says err 'batch: 6 of 6 jobs done'
+  cp 4.rec 5.rec
+  try 0 "${call[@]}" --config program="$program"
+  says out '6 drives: 6 well, 0 failed, 0 not done'
+  times >first
+  truncate -s -1 batch.out/d2/out.trace
+  try 1 "${call[@]}" --config program="$program" verify=verify
+  says out '6 drives: 5 well, 0 failed, 1 refused, 0 not done'
+  says batch.out/summary.csv 'd2,0,.*,status 1: cyber: batch.out/d2/out.trace: line [0-9]+: Bad,,"done: .*"'
+  says batch.out/summary.csv 'd3,0,.*,verified,,"done: .*"'
+  try 1 "${call[@]}" --config program="$program" good=good
+  says out '6 drives: 6 well, 0 failed, 0 not done, 1 unlike the good run, 0 without a good run'
+  says batch.out/summary.csv 'd5,0,.*,,"message 1: /a at 10 0x0808, was /a at 10 0x080a","done: .*"'
+  try 1 "${call[@]}" --config program="$program" good=good verify='info {trace}'
+  says out '6 drives: 0 well, 0 failed, 6 refused, 0 not done, 1 unlike the good run, 0 without a good run'
+  rm good/d3/row.json
+  try 1 "${call[@]}" --config program="$program" good=good verify='info {out}'
+  says out '6 drives: 6 well, 0 failed, 0 refused, 0 not done, 1 unlike the good run, 1 without a good run'
+  try 0 "${call[@]}" --config program="$program" verify='info {out}'
+  says out '6 drives: 6 well, 0 failed, 0 refused, 0 not done'
+  times | cmp -s - first
+  count $? "$name: a drive was played again"
+  counts_what_a_signal_ended
+}
+
+counts_what_a_signal_ended() {
+  begin 'a drive whose play a signal ends is tried again, and is not done'
+  python3 "$top/tests/tools/drives.py" 3 .
+  printf '#!/bin/sh\ncase "$*" in *2.rec*) echo >>tries; kill -KILL $$;; esac\nexec "%s" "$@"\n' "$program" >killed
+  chmod +x killed
+  try 1 "${call[@]}" --config program="$PWD/killed" verify=verify
+  says out '3 drives: 2 well, 0 failed, 0 refused, 1 not done'
+  says batch.out/summary.csv 'd2,not done,,,,,,,,,,'
+  says err 'play.py: a signal ended the play of d2'
+  [ "$(wc -l <tries)" -eq 2 ]
+  count $? "$name: $(wc -l <tries) tries"
+}
+
+# Settings that are wrong are said in one line.
+refuses_settings() {
+  begin 'settings that are wrong are refused'
+  python3 "$top/tests/tools/drives.py" 2 .
+  head -n 1 drives.csv >empty.csv
+  mkdir empty
+  local batch=("${call[@]}" --config program="$program")
+  fails_in_one_line 1 'batch: no such setting: prgram, treads; there are table, program, out, good, verify' "${batch[@]}" prgram=x treads=4
+  fails_in_one_line 1 'batch: empty.csv: no drives' "${batch[@]}" table=empty.csv
+  fails_in_one_line 1 "batch: .*No such file or directory: 'none.csv'" "${batch[@]}" table=none.csv
+  fails_in_one_line 1 'batch: good=god: no such folder' "${batch[@]}" good=god
+  fails_in_one_line 1 'batch: good=empty: no run of these drives is there' "${batch[@]}" good=empty
+  fails_in_one_line 1 'batch: good=./empty/../batch.out: no such folder' "${batch[@]}" good=./empty/../batch.out
+  mkdir batch.out
+  fails_in_one_line 1 'batch: good=./empty/../batch.out: this batch is written there; .*' "${batch[@]}" good=./empty/../batch.out
+  fails_in_one_line 1 'batch: verify=info \{ot\}: no file \{ot\}; there are .*' "${batch[@]}" verify='info {ot}'
+  fails_in_one_line 1 "batch: verify=info 'x: No closing quotation" "${batch[@]}" verify="info 'x"
+  [ -z "$(ls batch.out)" ]
+  count $? "$name: a drive was played"
 }
 
 # A table that is wrong, a drive that it doesn't have and a missing program are told in one line.
@@ -655,10 +727,10 @@ refuses_tables() {
   fails_in_one_line 1 'play.py: bad.csv: line 3: drive d2 has .* threads that are no number' \
     python3 "$play" --table bad.csv --drive d1 --program "$program" --out .
   sed '1s/sched/shed/' drives.csv >bad.csv
-  try 1 "${call[@]}" --config program="$program" table=bad.csv
-  says err "bad.csv: no such columns: 'shed'"
-  ! grep -q Traceback err
-  count $? "$name: a traceback: $(head -c 300 err)"
+  fails_in_one_line 1 "batch: bad.csv: no such columns: 'shed'" "${call[@]}" --config program="$program" table=bad.csv
+  fails_in_one_line 1 'judge.py: d1 is not played' python3 "$top/batch/judge.py" --table drives.csv --drive d1 --program "$program" --out none
+  head -n 1 drives.csv >bad.csv
+  fails_in_one_line 1 'summary.py: bad.csv: no drives' python3 "$top/batch/summary.py" bad.csv none
 }
 
 # Jobs of Slurm may be forgotten, and the controller may not answer for a while.
@@ -696,7 +768,7 @@ plays_on_slurm() {
   python3 "$top/tests/tools/drives.py" 200 .
   call=("$snakemake" -s "$top/batch/Snakefile" --profile "$top/batch/profiles/slurm")
   # shellcheck disable=SC2016
-  try 0 "$top/tests/tools/slurm.sh" bash -c '"$1" 60 "${@:2}"; find batch.out -name row.json >before; "${@:2}" --unlock && "${@:2}"' - \
+  try 1 "$top/tests/tools/slurm.sh" bash -c '"$1" 60 "${@:2}"; find batch.out -name row.json >before; "${@:2}" --unlock && "${@:2}"' - \
     "$top/tests/tools/interrupt.sh" "${call[@]}" --config program="$program"
   is_summed_up
   [ "$(wc -l <before)" -ge 60 ] && [ "$(wc -l <before)" -lt 200 ]
