@@ -279,17 +279,40 @@ messages() {
   try 0 "$python" "$tool" a.rec --json --channel /whole
   says out '\{"channel": "/whole", "number": 1, "time": "60", "whole": "-7"\}'
   try 0 "$python" "$tool" a.rec --csv --channel /chassis
-  says out 'channel,number,time,header.frame,header.stamp,speed,wheels,gear'
-  says out '/chassis,1,10,map,18446744073709551615,1.5,"\[1, -2\]",DRIVE'
-  says out '/chassis,3,30,,,3.25,,'
+  says out 'channel,number,time,header.frame,header.stamp,speed,wheels,gear,undecoded bytes'
+  says out '/chassis,1,10,map,18446744073709551615,1.5,"\[1, -2\]",DRIVE,'
+  says out '/chassis,3,30,,,3.25,,,'
   try 0 "$python" "$tool" a.rec --csv
   says out '/raw,1,70,0xff00'
+  decodes_what_is_passed_on "$tool"
+  begin 'what is printed of random messages is what they were made of'
+  try 0 "$python" "$top/tests/tools/check_messages.py" 50 1
   begin 'the messages of a drive are decoded'
   try 0 "$python" "$tool" "$top/examples/drive/drive.rec" --channel /wheel/speed
   says out '/wheel/speed 1 1700000000000079088 \{"value": "8045"\}'
   [ "$(wc -l <out)" -eq 1000 ]
   count $? "$name: $(wc -l <out) lines"
   compares_records "$tool"
+}
+
+# A record that a play writes has the type of what was passed on, and not its description. That of another channel is used, or a set.
+decodes_what_is_passed_on() { # the tool
+  begin 'what was passed on is decoded by the description of another channel, or by a set'
+  "$python" "$top/tests/tools/described_record.py" a.rec 3.25 types
+  python3 "$top/tests/replay.py" out.rec out.trace line --record a.rec --pass /chassis /copy
+  try 0 "$python" "$1" out.rec --channel /copy
+  says out '/copy 3 30 \{"speed": 3.25\}'
+  (cd "$top" && python3 tests/parted.py "$OLDPWD/part.rec" "$OLDPWD/line" split "$OLDPWD/out.rec" --channels /copy)
+  try 0 "$python" "$1" part.rec
+  says out '/copy 3 30 0x[0-9a-f]+'
+  try 0 "$python" "$1" part.rec --types types
+  says out '/copy 3 30 \{"speed": 3.25\}'
+  [ ! -s err ]
+  count $? "$name: $(cat err)"
+  try 0 "$python" "$1" a.rec --types types --channel /odd
+  says err 'messages: a.rec: /odd: no descriptor of demo.Odd: .*'
+  fails_in_one_line 2 'messages: line: no FileDescriptorSet: .*Not all data was converted' "$python" "$1" part.rec --types line
+  fails_in_one_line 2 "messages: .*No such file or directory: 'none'" "$python" "$1" part.rec --types none
 }
 
 compares_records() { # the tool
@@ -299,13 +322,16 @@ compares_records() { # the tool
   try 0 "$python" "$1" --diff a.rec a.rec
   says out 'same: 7 messages on 5 channels'
   try 1 "$python" "$1" --diff a.rec b.rec
-  says out '/chassis 3 at 30: \{"speed": 3.25\} and \{"speed": 4.0\}'
-  [ "$(wc -l <out)" -eq 1 ]
-  count $? "$name: more than one line: $(cat out)"
+  says out '/chassis 3 at 30: speed 3.25 and 4.0; 1 of 3 differ'
+  says out 'differ: 1 of 7 messages, on 1 of 5 channels'
+  [ "$(wc -l <out)" -eq 2 ]
+  count $? "$name: more than two lines: $(cat out)"
+  try 0 "$python" "$1" --diff a.rec b.rec --ignore speed
+  says out 'same: 7 messages on 5 channels; 1 pass by --tolerance or --ignore'
   try 0 "$python" "$1" --diff a.rec b.rec --channel /whole
   replay_drive
   try 1 "$python" "$1" --diff out.rec "$top/examples/drive/drive.rec" --channel /margin
-  says out '/margin 1: only in out.rec, which has 965 in place of 0'
+  says out '/margin 1: only in out.rec, which has 965 in place of 0; 965 of 965 differ'
 }
 
 # What needs no description needs no package, and faults are told in one line.
@@ -316,7 +342,10 @@ tells_faults() { # the tool
   try 0 python3 "$1" --diff "$top/examples/pass/two.rec" "$top/examples/pass/two.rec"
   says out 'same: 2 messages on 1 channels'
   try 1 python3 "$1" --diff "$top/examples/pass/one.rec" "$top/examples/pass/two.rec"
-  says out '/in 2: only in .*/two.rec, which has 2 in place of 1'
+  says out '/in 2: only in .*/two.rec, which has 2 in place of 1; 1 of 2 differ'
+  says out 'differ: 1 of 2 messages, on 1 of 1 channels'
+  compares_numbers "$1"
+  counts_messages "$1"
   fails_in_one_line 2 'messages: .*README.md: not a record' python3 "$1" "$top/README.md"
   fails_in_one_line 2 "messages: .*No such file or directory: 'none'" python3 "$1" none
   fails_in_one_line 2 'messages: .*one.rec: no channel /other' python3 "$1" "$top/examples/pass/one.rec" --channel /other
@@ -327,6 +356,42 @@ tells_faults() { # the tool
   try 0 python3 "$1" --help
   # Whatever is cut or changed, there is a status of its own and at most a line.
   try 0 python3 "$top/tests/tools/damaged.py" 30 "$top/examples/pass/two.rec" python3 "$1" FILE
+}
+
+# Numbers may be some way apart, and what is neither a number nor described is compared by bytes.
+compares_numbers() { # the tool
+  local each
+  for each in 5 9; do
+    PYTHONPATH="$top/tools" python3 -c 'from record import *; import sys; sys.stdout.buffer.write(record([(b"/n", 1, content_of(-4)),
+      (b"/n", 2, content_of(int(sys.argv[1]))), (b"/x", 3, b"\xff" * 40 + sys.argv[1].encode())]))' "$each" >"$each.rec"
+  done
+  try 1 python3 "$1" --diff 5.rec 9.rec
+  says out '/n 2 at 2: 5 and 9; 1 of 2 differ'
+  says out '/x 1 at 3: byte 40 of 41 and 41: 0x35 and 0x39; 1 of 1 differ'
+  says out 'differ: 2 of 3 messages, on 2 of 2 channels'
+  try 1 python3 "$1" --diff 5.rec 9.rec --channel /n --tolerance 3.9
+  try 0 python3 "$1" --diff 5.rec 9.rec --channel /n --tolerance 4
+  says out 'same: 2 messages on 1 channels; 1 pass by --tolerance or --ignore'
+  for each in '--tolerance -1' '--tolerance x' '--json' '--stats' '--csv'; do
+    # shellcheck disable=SC2086
+    try 2 python3 "$1" --diff 5.rec 9.rec $each
+  done
+  try 2 python3 "$1" 5.rec --tolerance 1
+}
+
+# The times of the drive are those that examples/README.md has.
+counts_messages() { # the tool
+  local first=2023-11-14T22:13:20.000079088Z last=2023-11-14T22:13:39.990094318Z
+  try 0 python3 "$1" --stats "$top/examples/drive/drive.rec"
+  says out " *5  2023-11-14T22:13:20.700000000Z  2023-11-14T22:13:36.700000000Z  16.000000000 +0.250 +20  /map/limit +drive.Limit"
+  says out " *3205  $first  $last  19.990015230 +160.280 +[0-9]+  all"
+  [ "$(wc -l <out)" -eq 6 ]
+  count $? "$name: $(wc -l <out) lines"
+  try 0 python3 "$1" --stats --json "$top/examples/drive/drive.rec" --channel /map/limit
+  says out "\{\"channel\": \"/map/limit\", \"type\": \"drive.Limit\", \"messages\": 5, \"bytes\": 20, \"first\": \"2023-.*\", \"last\": \"2023-.*\", \
+\"first_time\": \"1700000000700000000\", \"last_time\": \"1700000016700000000\", \"seconds\": 16.0, \"a_second\": 0.25\}"
+  try 0 python3 "$1" --stats "$top/examples/pass/one.rec"
+  says out ' *1  1970-01-01T00:00:00.000000100Z  1970-01-01T00:00:00.000000100Z  0.000000000 +2  /in'
 }
 
 # Looks that a command ends with a status, and prints one line, which fits, on standard error.

@@ -1,4 +1,7 @@
 """Messages of types that a record describes, by the Protocol Buffers package."""
+import importlib
+import warnings
+
 from google.protobuf import descriptor_pb2, descriptor_pool, json_format, message_factory
 from google.protobuf.descriptor import FieldDescriptor
 from google.protobuf.message import DecodeError
@@ -6,6 +9,12 @@ from google.protobuf.message import DecodeError
 from record import fields_of
 
 DEEPEST = 4  # messages in messages have columns of their own up to here
+WELL_KNOWN = "google.protobuf."  # types with a form of their own in JSON
+FAULTS = (KeyError, TypeError, ValueError, DecodeError, RecursionError, RuntimeWarning, SystemError)
+
+# Of bytes that are a message only up to some place the package warns, and gives that message: here that is a fault. Where it is written in C
+# the warning comes as the cause of a SystemError.
+warnings.filterwarnings("error", message=".*Not all data was converted", category=RuntimeWarning)
 
 
 def add_files(pool, description, known):
@@ -24,24 +33,122 @@ def add_files(pool, description, known):
         pool.Add(file)
 
 
-def class_of(kind, description):
-    """The class of the messages of a type; a ValueError where its description can't be read."""
+def pool_of(description):
+    """The types that a description has."""
     pool = descriptor_pool.DescriptorPool()
+    add_files(pool, description, set())
+    return pool
+
+
+def add_from_set(pool, files, name, known):
+    """Adds a file of a set to a pool, the ones that it depends on first. The package itself has the files of `google/protobuf`."""
+    if name in known:
+        return
+    known.add(name)
+    if name not in files and name.startswith("google/protobuf/"):
+        importlib.import_module(name.removesuffix(".proto").replace("/", ".") + "_pb2")
+        files[name] = descriptor_pb2.FileDescriptorProto()
+        descriptor_pool.Default().FindFileByName(name).CopyToProto(files[name])
+    if name not in files:
+        raise ValueError(f"{name} is not in it, and another file imports it; protoc puts it in with --include_imports")
+    for other in files[name].dependency:
+        add_from_set(pool, files, other, known)
+    pool.Add(files[name])
+
+
+def pool_of_set(path):
+    """The types of a file that has a FileDescriptorSet; a ValueError where it has none."""
+    with open(path, "rb") as file:
+        data = file.read()
+    pool, known = descriptor_pool.DescriptorPool(), set()
     try:
-        add_files(pool, description, set())
-        found = pool.FindMessageTypeByName(kind)
-    except (KeyError, TypeError, ValueError, DecodeError, RecursionError) as error:
-        raise ValueError(f"no descriptor of {kind}: {error}") from None
+        files = {it.name: it for it in descriptor_pb2.FileDescriptorSet.FromString(data).file if it.name}
+        for name in list(files):
+            add_from_set(pool, files, name, known)
+    except (ImportError, *FAULTS) as error:
+        raise ValueError(f"{path}: no FileDescriptorSet: {error.__cause__ or error}") from None
+    if not known:
+        raise ValueError(f"{path}: no FileDescriptorSet")
+    return pool
+
+
+def class_in(pool, kind):
+    """The class of the messages of a type; a KeyError where the pool doesn't have it."""
+    found = pool.FindMessageTypeByName(kind)
     if hasattr(message_factory, "GetMessageClass"):
         return message_factory.GetMessageClass(found)
     return message_factory.MessageFactory(pool).GetPrototype(found)
 
 
+def class_of(kind, description):
+    """The class of the messages of a type; a ValueError where its description can't be read."""
+    try:
+        return class_in(pool_of(description), kind)
+    except FAULTS as error:
+        raise ValueError(f"no descriptor of {kind}: {error.__cause__ or error}") from None
+
+
+class Types:
+    """The classes of a record's messages. What a channel doesn't describe itself is looked for by the name of its type."""
+
+    def __init__(self, forms, path=None):
+        """`forms` has the type and the description of each channel, and `path` names a file with a FileDescriptorSet."""
+        self.forms, self.path = forms, path
+        self.set = pool_of_set(path) if path else None
+        self.pools = {}
+
+    def pool(self, description):
+        """The types of a description, None where it can't be read."""
+        if description not in self.pools:
+            try:
+                self.pools[description] = pool_of(description)
+            except FAULTS:
+                self.pools[description] = None
+        return self.pools[description]
+
+    def elsewhere(self, kind):
+        """The class of a type by the other channels, those of this type first, or by the set; None where none of these has it."""
+        same = [description for name, description in self.forms.values() if name == kind]
+        others = [description for name, description in self.forms.values() if name != kind]
+        pools = [self.pool(it) for it in dict.fromkeys(same + others) if it] + [self.set]
+        for pool in filter(None, pools):
+            try:
+                return class_in(pool, kind.decode("utf-8", "replace"))
+            except FAULTS:
+                continue
+        return None
+
+    def of(self, channel):
+        """The class of a channel's messages, None where nothing is said of its type. A ValueError says why there is none else."""
+        kind, description = self.forms.get(channel, (b"", b""))
+        name, fault = kind.decode("utf-8", "replace"), None
+        if not kind:
+            return None
+        if description:
+            try:
+                return class_of(name, description)
+            except ValueError as error:
+                fault = error
+        found = self.elsewhere(kind)
+        if found is None and (fault or self.path):
+            raise fault or ValueError(f"no descriptor of {name}, neither in the record nor in {self.path}")
+        return found
+
+
+def message_of(kind, content):
+    """The message of a class that some bytes hold, or None where they hold none."""
+    try:
+        return kind.FromString(content)
+    except FAULTS:
+        return None
+
+
 def dictionary_of(kind, content):
     """The message of a class that some bytes hold, as a dictionary, or None where they hold none."""
+    message = message_of(kind, content)
     try:
-        return json_format.MessageToDict(kind.FromString(content), preserving_proto_field_name=True)
-    except (DecodeError, json_format.Error, TypeError, ValueError, RecursionError):
+        return None if message is None else json_format.MessageToDict(message, preserving_proto_field_name=True)
+    except (json_format.Error, *FAULTS):
         return None
 
 
@@ -50,13 +157,34 @@ def is_repeated(field):
     return field.is_repeated if hasattr(field, "is_repeated") else field.label == FieldDescriptor.LABEL_REPEATED
 
 
-def columns_of(descriptor, prefix="", depth=1):
-    """The names of a message's fields; those of a message in it behind a point, and repeated ones as they are."""
+def columns_of(descriptor, path=()):
+    """The fields of a message, each as the fields on the way to it; repeated ones, and those of a deep message, as they are."""
     found = []
     for field in descriptor.fields:
-        is_single = field.type == FieldDescriptor.TYPE_MESSAGE and not is_repeated(field)
-        if is_single and depth < DEEPEST:
-            found += columns_of(field.message_type, f"{prefix}{field.name}.", depth + 1)
+        kind, here = field.message_type, path + (field,)
+        if kind and not is_repeated(field) and not kind.full_name.startswith(WELL_KNOWN) and len(here) < DEEPEST:
+            found += columns_of(kind, here)
         else:
-            found.append(prefix + field.name)
+            found.append(here)
     return found
+
+
+def column_name(path):
+    """The head of a column."""
+    return ".".join(field.name for field in path)
+
+
+def default_of(field):
+    """What a field has that isn't in the message: its zero, and nothing where the message may as well be without it."""
+    if is_repeated(field) or field.has_presence:
+        return None
+    return field.enum_type.values_by_number[0].name if field.enum_type else field.default_value
+
+
+def value_at(message, path):
+    """The value of a column in a message that is a dictionary, None where the message doesn't have it."""
+    for field in path[:-1]:
+        message = message.get(field.name)
+        if message is None:
+            return None
+    return message.get(path[-1].name, default_of(path[-1]))

@@ -1,8 +1,9 @@
 #!/usr/bin/env python3
-"""Prints the messages of a record, decoded by the descriptors that its channels carry; or compares two records.
+"""Prints the messages of a record, decoded by descriptors; or how often they come; or compares two records.
 
-    messages.py RECORD [--channel C] [--csv | --json]
-    messages.py --diff A B [--channel C]
+    messages.py RECORD [--channel C] [--csv | --json] [--types SET]
+    messages.py --stats RECORD [--channel C] [--json]
+    messages.py --diff A B [--channel C] [--tolerance X] [--ignore FIELD].. [--types SET]
 
 Ends with status 0, with 1 where two records differ, and with 2 where a file can't be read or has no such channel.
 """
@@ -11,40 +12,48 @@ import csv
 import json
 import signal
 import sys
-from collections import Counter, deque
+from collections import Counter
 from contextlib import ExitStack
-from itertools import zip_longest
+from fractions import Fraction
 
-from record import content_of, each_message, forms_of, header_of, opened, whole_of
+from differences import Comparison, Rules
+from record import content_of, each_message, forms_of, header_of, name_of, opened, whole_of
+from stats import print_stats
 
-
-def name_of(channel):
-    return channel.decode("utf-8", "replace")
+UNDECODED = "undecoded bytes"  # a head that no field has
 
 
 class Record:
     """A record with the classes of its channels' messages; what is wrong with a description is told once."""
 
-    def __init__(self, path, data, channel):
+    def __init__(self, path, data, channel, types=None):
         self.path, self.data, self.channel = path, data, channel and channel.encode("utf-8", "surrogateescape")
-        self.classes, self.counts, self.described = {}, Counter(), None
         header_of(data)
-        for name, (kind, description) in forms_of(data).items():
-            if self.channel in (None, name):
-                self.counts[name] = 0
-                self.describe(name, kind, description)
+        self.forms, self.path_of_types = forms_of(data), types
+        self.counts = Counter(dict.fromkeys((it for it in self.forms if self.channel in (None, it)), 0))
+        self.classes, self.types, self.described = {}, None, None
 
-    def describe(self, name, kind, description):
-        """Finds the class of a channel's messages, where something is said of it."""
-        if not kind or not description:
-            return
-        import described  # it needs the Protocol Buffers package, which other records don't
+    def class_of(self, channel):
+        """The class of a channel's messages, None where it isn't known. The package that finds it is loaded for the first one."""
+        if channel not in self.classes:
+            self.classes[channel] = self.find_class(channel) if self.may_be_described(channel) else None
+        return self.classes[channel]
 
-        self.described = described
+    def may_be_described(self, channel):
+        """Whether a channel has a type, and some descriptions are at hand; others need no package."""
+        return bool(self.forms.get(channel, (b"",))[0] and (self.path_of_types or any(it[1] for it in self.forms.values())))
+
+    def find_class(self, channel):
+        """Finds the class of a channel's messages, or tells why there is none."""
+        if self.types is None:
+            import described  # it needs the Protocol Buffers package, which other records don't
+
+            self.described, self.types = described, described.Types(self.forms, self.path_of_types)
         try:
-            self.classes[name] = described.class_of(kind.decode("utf-8", "replace"), description)
+            return self.types.of(channel)
         except ValueError as error:
-            print(f"messages: {self.path}: {name_of(name)}: {error}", file=sys.stderr)
+            print(f"messages: {self.path}: {name_of(channel)}: {error}", file=sys.stderr)
+            return None
 
     def messages(self):
         """Each message that is wanted, with its number on its channel: channel, number, time and content."""
@@ -56,9 +65,14 @@ class Record:
         except ValueError as error:
             raise ValueError(f"{self.path}: {error}") from None
 
+    def message(self, channel, content):
+        """A message of its class, None where it has none or can't be decoded."""
+        kind = self.class_of(channel)
+        return kind and self.described.message_of(kind, content)
+
     def decode(self, channel, content):
         """A message as a dictionary of one entry: `message`, or where it has no class `whole` or `hex`."""
-        kind = self.classes.get(channel)
+        kind = self.class_of(channel)
         if kind:
             message = self.described.dictionary_of(kind, content)
             return {"hex": content.hex()} if message is None else {"message": message}
@@ -71,26 +85,24 @@ class Record:
         return json.dumps(value, ensure_ascii=False) if key == "message" else value if key == "whole" else f"0x{value}"
 
 
-def cell_of(message, column):
-    """The value in a column, empty where the message doesn't have it."""
-    for name in column.split("."):
-        message = message.get(name) if isinstance(message, dict) else None
-    return "" if message is None else json.dumps(message, ensure_ascii=False) if isinstance(message, (dict, list)) else message
-
-
-def columns_for(record):
-    """The fields of the one channel's type that is wanted, none where it has no descriptor or more than one channel is wanted."""
-    kind = record.classes.get(record.channel)
-    return record.described.columns_of(kind.DESCRIPTOR) if kind else []
+def cell_of(value):
+    """A value as a cell, empty where there is none."""
+    return "" if value is None else json.dumps(value, ensure_ascii=False) if isinstance(value, (dict, list, bool)) else value
 
 
 def print_csv(record):
-    """A row a message: of one channel with a descriptor a column a field, else one column with the text."""
-    rows, columns = csv.writer(sys.stdout, lineterminator="\n"), columns_for(record)
-    rows.writerow(["channel", "number", "time"] + (columns or ["message"]))
+    """A row a message: of one channel with a class a column a field and one for what can't be decoded, else one column with the text."""
+    rows, kind = csv.writer(sys.stdout, lineterminator="\n"), record.channel and record.class_of(record.channel)
+    columns = record.described.columns_of(kind.DESCRIPTOR) if kind else []
+    heads = [record.described.column_name(it) for it in columns] + [UNDECODED] if kind else ["message"]
+    rows.writerow(["channel", "number", "time"] + heads)
     for channel, number, time, content in record.messages():
-        message = record.decode(channel, content).get("message", {}) if columns else {}
-        cells = [cell_of(message, it) for it in columns] or [record.text(channel, content)]
+        if not kind:
+            cells = [record.text(channel, content)]
+        else:
+            found = record.decode(channel, content)
+            values = [record.described.value_at(found["message"], it) for it in columns] if "message" in found else [None] * len(columns)
+            cells = [cell_of(it) for it in values] + [f"0x{found['hex']}" if "hex" in found else ""]
         rows.writerow([name_of(channel), number, time] + cells)
 
 
@@ -102,60 +114,36 @@ def print_json(record):
 
 
 def print_lines(record):
+    """A line a message."""
     for channel, number, time, content in record.messages():
         print(f"{name_of(channel)} {number} {time} {record.text(channel, content)}")
 
 
-class Comparison:
-    """Two records, compared channel by channel. Of a channel that has not differed yet, the messages are kept by which one is ahead."""
-
-    def __init__(self, records):
-        self.records, self.ahead, self.found = records, {}, {}
-        for pair in zip_longest(*[it.messages() for it in records]):
-            for which, message in enumerate(pair):
-                if message and message[0] not in self.found:
-                    self.take(which, *message)
-
-    def take(self, which, channel, number, time, content):
-        """Compares the next message of a channel with that of the other record, or keeps it where that one is behind."""
-        queues = self.ahead.setdefault(channel, (deque(), deque()))
-        queues[which].append((number, time, content))
-        if all(queues):
-            one, other = [it.popleft() for it in queues]
-            if one != other:
-                self.found[channel] = self.difference(channel, one, other)
-                del self.ahead[channel]
-
-    def difference(self, channel, one, other):
-        """How two messages of one number differ."""
-        (number, time, content), (_, other_time, other_content) = one, other
-        if time != other_time:
-            return f"{name_of(channel)} {number}: time {time} and {other_time}"
-        texts = [record.text(channel, it) for record, it in zip(self.records, (content, other_content))]
-        if texts[0] == texts[1]:
-            texts = [f"0x{it.hex()}" for it in (content, other_content)]
-        return f"{name_of(channel)} {number} at {time}: {texts[0]} and {texts[1]}"
-
-    def lines(self):
-        """The first difference of each channel that has one."""
-        for channel in dict.fromkeys(channel for it in self.records for channel in it.counts):
-            for which, queue in enumerate(self.ahead.get(channel, ())):
-                if queue:
-                    counts = [it.counts[channel] for it in self.records]
-                    self.found[channel] = (
-                        f"{name_of(channel)} {queue[0][0]}: only in {self.records[which].path},"
-                        f" which has {counts[which]} in place of {counts[1 - which]}"
-                    )
-            if channel in self.found:
-                yield self.found[channel]
+def rules_of(words, records):
+    """What is no difference. A ValueError names a field that no message has."""
+    ignored = frozenset(tuple(it.split(".")) for it in words.ignore)
+    kinds = [it.class_of(channel) for it in records for channel in list(it.counts)] if ignored else []
+    for names in ignored:
+        if not any(kind and has_field(kind.DESCRIPTOR, names) for kind in kinds):
+            raise ValueError(f"no message has a field {'.'.join(names)}")
+    return Rules(words.tolerance, ignored)
 
 
-def compare(records):
+def has_field(descriptor, names):
+    """Whether a type has a field, by its names from the outside in."""
+    for name in names:
+        field = descriptor and descriptor.fields_by_name.get(name)
+        if not field:
+            return False
+        descriptor = field.message_type
+    return True
+
+
+def compare(records, rules):
     """Prints how two records differ, and answers whether they do."""
-    lines = list(Comparison(records).lines())
-    counts = +records[0].counts
-    print("\n".join(lines) if lines else f"same: {sum(counts.values())} messages on {len(counts)} channels")
-    return bool(lines)
+    comparison = Comparison(records, rules)
+    print("\n".join(comparison.lines()))
+    return bool(comparison.found)
 
 
 def run(words):
@@ -164,26 +152,53 @@ def run(words):
         records = []
         for path in words.records:
             try:
-                records.append(Record(path, stack.enter_context(opened(path)), words.channel))
+                records.append(Record(path, stack.enter_context(opened(path)), words.channel, words.types))
             except ValueError as error:
                 raise ValueError(f"{path}: {error}") from None
-        status = int(compare(records)) if words.diff else words.form(records[0]) or 0
+        status = 0
+        if words.diff:
+            status = int(compare(records, rules_of(words, records)))
+        elif words.stats:
+            print_stats(records[0], words.json)
+        else:
+            (print_csv if words.csv else print_json if words.json else print_lines)(records[0])
     if words.channel and not any(it.counts for it in records):
         raise ValueError(f"{' and '.join(words.records)}: no channel {words.channel}")
     return status
 
 
-def main():
+def tolerance(text):
+    """A number that isn't negative, exactly."""
+    value = Fraction(text)
+    if value < 0:
+        raise ValueError
+    return value
+
+
+def read_words():
     reader = argparse.ArgumentParser(description=__doc__.split("\n")[0])
     forms = reader.add_mutually_exclusive_group()
     reader.add_argument("records", nargs="+", metavar="RECORD")
     reader.add_argument("--channel", help="only the messages of this channel")
-    forms.add_argument("--csv", dest="form", action="store_const", const=print_csv, default=print_lines, help="comma-separated values")
-    forms.add_argument("--json", dest="form", action="store_const", const=print_json, help="a JSON object a line")
+    reader.add_argument("--types", metavar="SET", help="a file with a FileDescriptorSet, for types that the record doesn't describe")
+    reader.add_argument("--json", action="store_true", help="a JSON object a line")
+    reader.add_argument("--tolerance", type=tolerance, metavar="X", help="numbers that differ by X at most are the same")
+    reader.add_argument("--ignore", action="append", default=[], metavar="FIELD", help="a field that may differ, as header.stamp")
+    forms.add_argument("--csv", action="store_true", help="comma-separated values")
+    forms.add_argument("--stats", action="store_true", help="of each channel how many messages, when, how often, and their bytes")
     forms.add_argument("--diff", action="store_true", help="compare two records, message by message")
     words = reader.parse_args()
     if len(words.records) != (2 if words.diff else 1):
         reader.error("--diff takes two records" if words.diff else "one record is printed at a time")
+    if words.json and (words.csv or words.diff):
+        reader.error("--json stands alone or beside --stats")
+    if not words.diff and (words.tolerance is not None or words.ignore):
+        reader.error("--tolerance and --ignore are for --diff")
+    return words
+
+
+def main():
+    words = read_words()
     signal.signal(signal.SIGPIPE, signal.SIG_DFL)  # who reads the output may stop
     try:
         return run(words)

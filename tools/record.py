@@ -220,6 +220,11 @@ def forms_of(data):
     return found
 
 
+def name_of(channel):
+    """The name of a channel as a text."""
+    return channel.decode("utf-8", "replace")
+
+
 def whole_of(content):
     """The number that a content `{ 1 value: sint64 }` holds, or None."""
     try:

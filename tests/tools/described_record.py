@@ -1,10 +1,11 @@
 #!/usr/bin/env python3
 """Writes a record whose channels carry descriptors as Cyber RT stores them, made by the Protocol Buffers package.
 
-    described_record.py OUT [SPEED]
+    described_record.py OUT [SPEED [SET]]
 
 /chassis has three messages of type demo.Chassis, whose file depends on another one; the last one's speed is SPEED (3.25). /bad has a
-descriptor that is none, /odd a type that its descriptor doesn't have, /whole a whole number and /raw two bytes, both without.
+descriptor that is none, /odd a type that its descriptor doesn't have, /whole a whole number and /raw two bytes, both without. SET is a
+file with the descriptors of demo.Chassis alone, as protoc writes it.
 """
 import os
 import sys
@@ -60,6 +61,9 @@ def main():
     forms = {b"/chassis": (b"demo.Chassis", description), b"/bad": (b"demo.Bad", b"\x0a\x02\xff\xff"), b"/odd": (b"demo.Odd", description)}
     with open(sys.argv[1], "wb") as out:
         out.write(record(tape, forms))
+    if len(sys.argv) > 3:
+        with open(sys.argv[3], "wb") as out:
+            out.write(descriptor_pb2.FileDescriptorSet(file=[HEADER, CHASSIS]).SerializeToString())
 
 
 main()
