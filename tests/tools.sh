@@ -201,14 +201,63 @@ timeline() {
   begin 'channels that can be told apart by nothing are named'
   replay_drive
   try 0 python3 "$line" out.trace --record out.rec -o run.json
-  says err '.*of margin, frames; some flows are left out.*'
+  says err 'timeline: without --dag calls may be drawn at wrong times, since .*: .*of margin, frames, and some flows are left out'
+  says run.json '.*"note": "without --dag calls may be drawn at wrong times, .*'
   begin 'a timeline of forty thousand calls takes less than 100 MB'
   python3 "$top/tests/tools/long_run.py" 40000 long
   try 0 python3 "$top/tests/tools/measure.py" usage python3 "$line" long.trace --record long.rec -o long.json
   [ "$(sed -n 's/^memory //p' usage)" -lt 100000000 ]
   count $? "$name: $(cat usage)"
   try 0 python3 "$check" long.json long.trace /in /out
+  asks_the_program "$line"
+  decodes_in_timelines "$line"
   refuses_traces "$line"
+}
+
+# The program says what the components read and write. Where nobody does, calls may be drawn at wrong times, which is said.
+asks_the_program() { # the tool
+  begin 'a timeline takes a DAG file, and asks the program what it says'
+  replay_drive
+  printf '%s\n' '#!/bin/sh' 'echo "$@" >>asked' 'cat drive.check' >program
+  chmod +x program
+  try 0 python3 "$1" out.trace --record out.rec --wiring drive.check -o wired.json
+  try 0 python3 "$1" out.trace --record out.rec --dag some.dag --program ./program -o run.json
+  [ ! -s err ] && [ "$(cat asked)" = 'check --dag some.dag' ]
+  count $? "$name: the program was asked for '$(cat asked)': $(cat err)"
+  cmp -s run.json wired.json
+  count $? "$name: the timeline is another one than with what check prints"
+  try 0 python3 "$1" out.trace --dag some.dag --program ./program -o run.json
+  says err 'timeline: without --record calls may be drawn at wrong times: .*'
+  try 0 python3 "$1" out.trace -o run.json
+  says err 'timeline: without --record and --dag calls may be drawn at wrong times: .*'
+  printf '%s\n' '#!/bin/sh' 'echo "cyber: some.dag: NoComponents" >&2' 'exit 1' >program
+  fails_in_one_line 1 'timeline: `./program check --dag some.dag` ended with status 1: cyber: some.dag: NoComponents' \
+    python3 "$1" out.trace --record out.rec --dag some.dag --program ./program -o run.json
+  fails_in_one_line 1 "timeline: .*No such file or directory: './none'" \
+    python3 "$1" out.trace --record out.rec --dag some.dag --program ./none -o run.json
+  try 2 python3 "$1" out.trace --dag some.dag --wiring drive.check -o run.json
+  if [ -x "$program" ]; then
+    try 0 env -C "$top" python3 "$1" "$PWD/out.trace" --record "$PWD/out.rec" --dag examples/drive/drive.dag --program "$program" -o "$PWD/run.json"
+    cmp -s run.json wired.json
+    count $? "$name: by the program it is another timeline"
+  fi
+}
+
+decodes_in_timelines() { # the tool
+  begin 'a timeline has what messages hold, where that is asked for'
+  python3 "$top/tests/replay.py" out.rec out.trace line --record "$top/examples/pass/one.rec" --pass /in /out
+  try 0 python3 "$1" out.trace --record out.rec --decode -o run.json
+  [ "$(grep -c '"number":1,"time":"100","message":"7"' run.json)" = 2 ]
+  count $? "$name: not two messages with 7"
+  try 2 python3 "$1" out.trace --decode -o run.json
+  try 2 python3 "$1" out.trace --record out.rec --types types -o run.json
+  find_python google.protobuf python3-protobuf protobuf || return 0
+  "$python" "$top/tests/tools/described_record.py" a.rec 3.25 types
+  python3 "$top/tests/replay.py" out.rec out.trace line --record a.rec --pass /chassis /copy
+  try 0 "$python" "$1" out.trace --record out.rec --decode --types types -o run.json
+  [ "$(grep -cF '"number":3,"time":"30","message":"{\"speed\": 3.25}"' run.json)" = 2 ]
+  count $? "$name: a message that was passed on isn't decoded"
+  says err 'timeline: out.rec: /bad: no descriptor of demo.Bad: .*'
 }
 
 refuses_traces() { # the tool
@@ -254,6 +303,11 @@ pictures() {
   count $? "$name: the texts differ: $(head -c 300 texts)"
   [ "$(stat -c %s "$top/docs/pictures/drive.svg")" -lt 300000 ]
   count $? "$name: docs/pictures/drive.svg is too large"
+  ! grep -q 'wrong times' drive.svg
+  count $? "$name: it says that calls may be at wrong times"
+  try 0 "$python" "$top/tools/timeline.py" out.trace --record out.rec -o run.svg
+  grep -q '>without --dag calls may be drawn at wrong times<' run.svg
+  count $? "$name: a picture without a DAG file doesn't say so"
   try 0 "$python" "$top/tools/timeline.py" out.trace -o run.png
   [ "$(head -c 4 run.png | tail -c 3)" = PNG ]
   count $? "$name: run.png is no picture"

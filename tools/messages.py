@@ -26,8 +26,8 @@ UNDECODED = "undecoded bytes"  # a head that no field has
 class Record:
     """A record with the classes of its channels' messages; what is wrong with a description is told once."""
 
-    def __init__(self, path, data, channel, types=None):
-        self.path, self.data, self.channel = path, data, channel and channel.encode("utf-8", "surrogateescape")
+    def __init__(self, path, data, channel, types=None, tool="messages"):
+        self.tool, self.path, self.data, self.channel = tool, path, data, channel and channel.encode("utf-8", "surrogateescape")
         header_of(data)
         self.forms, self.path_of_types = forms_of(data), types
         self.counts = Counter(dict.fromkeys((it for it in self.forms if self.channel in (None, it)), 0))
@@ -52,7 +52,7 @@ class Record:
         try:
             return self.types.of(channel)
         except ValueError as error:
-            print(f"messages: {self.path}: {name_of(channel)}: {error}", file=sys.stderr)
+            print(f"{self.tool}: {self.path}: {name_of(channel)}: {error}", file=sys.stderr)
             return None
 
     def messages(self):

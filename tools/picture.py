@@ -1,4 +1,6 @@
 """A picture of a run by matplotlib: a lane for each channel that was played and for each component."""
+import re
+
 import matplotlib
 
 matplotlib.use("Agg")
@@ -107,6 +109,9 @@ def draw(run, path, begin, end):
     marks = [("message played", PLAYED), ("call with an output", CALL), ("call without", QUIET), ("tuple skipped", SKIPPED)]
     handles = [Line2D([], [], color=colour, label=text) for text, colour in marks] + [Patch(color=HELD, label="output held")]
     figure.legend(handles=handles, loc="upper center", ncols=5, frameon=False, fontsize=8)
-    figure.tight_layout(rect=(0, 0, 1, 1 - 0.25 / figure.get_size_inches()[1]))
+    height = figure.get_size_inches()[1]
+    if run.note:
+        figure.text(0.01, 0.06 / height, re.split("[:,]", run.note)[0], fontsize=7, color=SKIPPED)
+    figure.tight_layout(rect=(0, 0.2 / height if run.note else 0, 1, 1 - 0.25 / height))
     figure.savefig(path, dpi=110, metadata={"Date": None} if path.endswith(".svg") else None)
     plt.close(figure)

@@ -1,19 +1,21 @@
 """A run as its trace, its record and its wiring tell it together."""
-import sys
 from array import array
 
 from record import each_message, header_of, opened, whole_of
 from trace import read_trace
-from wiring import Deduction, read_wiring
+from wiring import Deduction, check_wiring, read_wiring
 
 COMPARED = 100  # how many values of a channel are compared with those of outputs
 
 
 class Run:
-    """A trace with the times of the messages by channel, and with the channels of each component, where they are known."""
+    """A trace with the times of the messages by channel, and with the channels of each component, where they are known.
 
-    def __init__(self, trace, times, wiring):
-        self.trace, self.times, self.wiring = trace, times, wiring
+    `note` says why calls may be drawn at wrong times; it is empty where the time of each call's trigger is known.
+    """
+
+    def __init__(self, trace, times, wiring, note=""):
+        self.trace, self.times, self.wiring, self.note = trace, times, wiring, note
         self.first = self.find_first()
 
     def find_first(self):
@@ -94,23 +96,32 @@ def check_tuples(run):
                 raise ValueError(f"component {it.name}: a call on a message that {channel} doesn't have")
 
 
-def read_run(trace, record=None, wiring=None):
-    """The run of files; what can't be known of its wiring is told on standard error. A ValueError tells of files that make no run."""
+def note_of(has_record, has_wiring, doubts):
+    """Why calls may be drawn at wrong times, as far as it isn't known what the components read."""
+    if has_record and has_wiring:
+        return ""
+    lacks = " and ".join(["--record"] * (not has_record) + ["--dag"] * (not has_wiring))
+    if not has_record:
+        return f"without {lacks} calls may be drawn at wrong times: each is at the time of its output, or of the output before it"
+    why = f": more than one channel fits, or none, of {', '.join(doubts)}, and some flows are left out" if doubts else ""
+    return f"without {lacks} calls may be drawn at wrong times, since what components read is guessed from the run{why}"
+
+
+def read_run(trace, record=None, wiring=None, dag=None, program=None):
+    """The run of files. Its wiring is what a file or the program says, or else it is guessed. A ValueError tells of files that make no run."""
     path, trace = trace, read_trace(trace)
     try:
         times, values = times_of(trace, record) if record else ({}, {})
     except ValueError as error:
         raise ValueError(f"{record}: {error}") from None
-    found, doubts = (read_wiring(wiring), []) if wiring else Deduction(trace, times, values).wiring() if record else ({}, [])
-    run = Run(trace, times, found)
+    found, doubts = {}, []
+    if dag or wiring:
+        found = check_wiring(dag, program) if dag else read_wiring(wiring)
+    elif record:
+        found, doubts = Deduction(trace, times, values).wiring()
+    run = Run(trace, times, found, note_of(bool(record), bool(dag or wiring), doubts))
     try:
         check_tuples(run)
     except ValueError as error:
         raise ValueError(f"{path}: {error}") from None
-    if doubts:
-        print(
-            f"timeline: more than one channel fits, or none, of {', '.join(doubts)}; some flows are left out."
-            " With --wiring and what `cyber check` prints for the DAG file there are all.",
-            file=sys.stderr,
-        )
     return run

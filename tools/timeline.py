@@ -1,11 +1,12 @@
 #!/usr/bin/env python3
 """Makes a timeline of a trace: for Perfetto or Chrome's tracing page, or a picture.
 
-    timeline.py TRACE [--record OUT] [--wiring FILE] -o run.json | run.json.gz
-    timeline.py TRACE [--record OUT] [--wiring FILE] [--begin S] [--end S] -o run.png | run.svg
+    timeline.py TRACE [--record OUT] [--dag DAG] [--decode] -o run.json | run.json.gz
+    timeline.py TRACE [--record OUT] [--dag DAG] [--begin S] [--end S] -o run.png | run.svg
 
-OUT is the record that was written with the trace; it has the times of the messages. FILE is what `cyber check` prints for the
-DAG file; it has the channels of the components. Without it they are deduced, as far as only one channel fits.
+OUT is the record that was written with the trace; it has the times of the messages. DAG is the DAG file of the run: the program says which
+channels its components read and write, by `check`. What it printed may be given by --wiring instead. Without either the channels are guessed,
+as far as only one fits, and calls may be drawn at wrong times.
 """
 import argparse
 import gzip
@@ -15,6 +16,7 @@ from array import array
 from itertools import count, islice, repeat
 from operator import sub
 
+from record import opened
 from run import read_run
 
 COMPONENTS, CHANNELS = 1, 2  # the two processes of the timeline
@@ -24,6 +26,7 @@ BEGIN, STEP, FINISH = (
     f'{{"ph":"{phase}","cat":"flow","name":"message","id":' for phase in ("s", "t", 'f","bp":"e')
 )
 COUNTED = 50_000  # how many events are made at once
+LONGEST_MESSAGE = 1000  # characters of a decoded message
 
 
 class Calls:
@@ -119,8 +122,8 @@ class Timeline:
     round them.
     """
 
-    def __init__(self, run, file):
-        self.run, self.file, self.layout, self.flows = run, file, Layout(run), 0
+    def __init__(self, run, file, messages=None):
+        self.run, self.file, self.layout, self.flows, self.messages = run, file, Layout(run), 0, messages or {}
         self.track = {channel: k + 1 for k, channel in enumerate(run.times)}
         self.texts = {channel: self.microseconds(starts) for channel, starts in self.layout.starts.items()}
 
@@ -138,8 +141,11 @@ class Timeline:
     def put_messages(self, channel):
         """The slices of the messages of a channel."""
         head = f'{{"ph":"X","cat":"message","name":{json.dumps(channel)},"pid":{CHANNELS},"tid":{self.track[channel]},"ts":'
-        rows = zip(self.texts[channel], count(1), self.run.times[channel])
-        self.put(f'{head}{text},"dur":0.001,"args":{{"number":{number},"time":"{time}"}}}}' for text, number, time in rows)
+        decoded = (f',"message":{json.dumps(it)}' for it in self.messages[channel]) if channel in self.messages else repeat("")
+        rows = zip(self.texts[channel], count(1), self.run.times[channel], decoded)
+        self.put(
+            f'{head}{text},"dur":0.001,"args":{{"number":{number},"time":"{time}"{message}}}}}' for text, number, time, message in rows
+        )
 
     def put_calls(self, calls, texts):
         """The slices of the calls of a component."""
@@ -219,6 +225,7 @@ class Timeline:
 
     def write(self):
         about = {"first time in nanoseconds": str(self.run.first), "played": self.run.trace.played, "calls": self.run.trace.calls}
+        about |= {"note": self.run.note} if self.run.note else {}
         self.file.write('{"displayTimeUnit":"ns","otherData":%s,"traceEvents":[\n' % json.dumps(about))
         self.file.write(f'{{"ph":"M","name":"process_sort_index","pid":{COMPONENTS},"args":{{"sort_index":1}}}}')
         for channel in self.run.times:
@@ -232,32 +239,68 @@ class Timeline:
         self.file.write("\n]}\n")
 
 
-def main():
+def decoded_messages(path, types):
+    """By the name of each channel the texts of its messages, decoded where something describes them."""
+    from messages import Record  # it needs more than a timeline does
+
+    found = {}
+    with opened(path) as data:
+        record = Record(path, data, None, types, "timeline")
+        for channel, _, _, content in record.messages():
+            text = record.text(channel, content)
+            text = text if len(text) <= LONGEST_MESSAGE else text[: LONGEST_MESSAGE - 3] + "..."
+            found.setdefault(channel.decode("utf-8", "surrogateescape"), []).append(text)
+    return found
+
+
+def read_words():
     reader = argparse.ArgumentParser(description=__doc__.split("\n")[0])
+    wirings = reader.add_mutually_exclusive_group()
     reader.add_argument("trace")
     reader.add_argument("--record", help="the record that was written with the trace")
-    reader.add_argument("--wiring", help="what `cyber check` prints for the DAG file")
+    wirings.add_argument("--dag", help="the DAG file of the run, for which the program's `check` is called")
+    wirings.add_argument("--wiring", help="what `cyber check` prints for the DAG file")
+    reader.add_argument("--program", help="the program, by default the one that is built here, or else the one that is installed")
+    reader.add_argument("--decode", action="store_true", help="what each message holds, decoded by the record's descriptions")
+    reader.add_argument("--types", metavar="SET", help="a file with a FileDescriptorSet, for --decode")
     reader.add_argument("--begin", type=float, help="where a picture begins, in seconds from the first message")
     reader.add_argument("--end", type=float, help="where a picture ends, in seconds from the first message")
     reader.add_argument("-o", dest="out", required=True, help="a file that ends with .json, .json.gz, .png or .svg")
     words = reader.parse_args()
+    words.is_picture = words.out.endswith((".png", ".svg"))
     if not words.out.endswith((".json", ".json.gz", ".png", ".svg")):
         reader.error("-o has to end with .json, .json.gz, .png or .svg")
-    is_picture = words.out.endswith((".png", ".svg"))
-    if not is_picture and (words.begin, words.end) != (None, None):
+    if not words.is_picture and (words.begin, words.end) != (None, None):
         reader.error("--begin and --end are for pictures")
+    if words.program and not words.dag:
+        reader.error("--program is for --dag")
+    if words.types and not words.decode or words.decode and (words.is_picture or not words.record):
+        reader.error("--types is for --decode, which is for timelines with --record")
+    return words
+
+
+def write(words):
+    """Makes the picture or the timeline that the words ask for."""
+    if words.is_picture:
+        from picture import draw  # it needs matplotlib, which a timeline doesn't
+    run = read_run(words.trace, words.record, words.wiring, words.dag, words.program)
+    if run.note:
+        print(f"timeline: {run.note}", file=sys.stderr)
+    if words.is_picture:
+        draw(run, words.out, words.begin or 0, words.end)
+        return
+    messages = decoded_messages(words.record, words.types) if words.decode else {}
+    with gzip.open(words.out, "wt", 1, "utf-8") if words.out.endswith(".gz") else open(words.out, "w", encoding="utf-8") as file:
+        Timeline(run, file, messages).write()
+
+
+def main():
+    words = read_words()
     try:
-        if is_picture:
-            from picture import draw  # it needs matplotlib, which a timeline doesn't
-        run = read_run(words.trace, words.record, words.wiring)
-        if is_picture:
-            draw(run, words.out, words.begin or 0, words.end)
-        else:
-            opened = gzip.open(words.out, "wt", 1, "utf-8") if words.out.endswith(".gz") else open(words.out, "w", encoding="utf-8")
-            with opened as file:
-                Timeline(run, file).write()
+        write(words)
     except ImportError as error:
-        print(f"timeline: {error}; a picture is made by matplotlib (python3-matplotlib of Debian)", file=sys.stderr)
+        needs = "a picture is made by matplotlib (python3-matplotlib" if words.is_picture else "messages are decoded by the Protocol Buffers package (python3-protobuf"
+        print(f"timeline: {error}; {needs} of Debian)", file=sys.stderr)
         return 1
     except (OSError, ValueError) as error:
         print(f"timeline: {error}", file=sys.stderr)

@@ -1,7 +1,12 @@
 """Which channels the components of a trace read and write: as `cyber check` prints it, or as far as a run itself shows it."""
+import os
 import re
+import shutil
+import subprocess
 
 from trace import QUOTED, unquoted
+
+BUILT = os.path.join(os.path.dirname(os.path.abspath(__file__)), "..", "crates", "cyber", "out", "cyber")
 
 COMPONENT = re.compile(
     rb'component (?P<name>"(?:[^"\\]|\\.)*") class \S+ reads (?P<reads>"(?:[^"\\]|\\.)*"(?: "(?:[^"\\]|\\.)*")*)'
@@ -17,13 +22,37 @@ def reads_of(match):
     return [unquoted(text) for text in QUOTED.findall(match["reads"])]
 
 
-def read_wiring(path):
-    """By the name of each component in a text of `check`: the list of the channels that it reads, and the one that it writes."""
-    with open(path, "rb") as file:
-        found = [match for line in file if (match := COMPONENT.match(line) or TIMER.match(line))]
+def wiring_in(lines, path):
+    """By the name of each component in the lines of `check`: the list of the channels that it reads, and the one that it writes."""
+    found = [match for line in lines if (match := COMPONENT.match(line) or TIMER.match(line))]
     if not found:
         raise ValueError(f"{path}: no component; this has to be what `cyber check` prints")
     return {unquoted(it["name"][1:-1]): (reads_of(it), unquoted(it["writes"][1:-1])) for it in found}
+
+
+def read_wiring(path):
+    """The wiring in a file that has what `check` printed."""
+    with open(path, "rb") as file:
+        return wiring_in(file, path)
+
+
+def find_program(program=None):
+    """The program that is named, else the one that is built here, else the one that is installed. A ValueError tells where there is none."""
+    if program is None:
+        program = BUILT if os.access(BUILT, os.X_OK) else shutil.which("cyber")
+    if program is None:
+        raise ValueError("no program is built here, and none is installed: name one by --program, or a file with what `check` prints by --wiring")
+    return program
+
+
+def check_wiring(dag, program=None):
+    """The wiring of a DAG file, by `check` of the program. Its component files are found from the current folder, as by `play`."""
+    command = [find_program(program), "check", "--dag", dag]
+    done = subprocess.run(command, stdin=subprocess.DEVNULL, capture_output=True, check=False)
+    if done.returncode != 0:
+        said = done.stderr.decode("utf-8", "replace").strip().splitlines()
+        raise ValueError(f"`{' '.join(command)}` ended with status {done.returncode}{': ' + said[0] if said else ''}")
+    return wiring_in(done.stdout.splitlines(), f"`{' '.join(command)}`")
 
 
 class Deduction:
