@@ -37,12 +37,12 @@ said=
 proofs=
 if [ -n "$gate" ]; then
   [[ -f $gate && -r $gate ]] || fail "no log at $gate"
-  faults=$(grep -m 1 -E '^rt: FAILED|[0-9]+ passed, [1-9][0-9]* failed$|, [1-9][0-9]* faults$' "$gate" || true)
+  faults=$(grep -m 1 -E '^rt: FAILED|[0-9]+ passed, [1-9][0-9]* failed(, [0-9]+ skipped)?$|, [1-9][0-9]* faults$' "$gate" || true)
   [ -z "$faults" ] || fail "the gate failed: $faults"
   proofs=$(grep '^rt: ok; ' "$gate" | tail -n 1 || true)
   [ -n "$proofs" ] || fail 'the gate did not come to its end: no line says that rt ci passed'
   said=$(sed -E '/^$|^(real|user|sys)[[:space:]]/d' "$gate" | tail -n 1)
-  [[ $said =~ ^gate:\ [0-9]+\ passed,\ 0\ failed$ ]] || fail "the gate did not come to its end: its last line is '$said'"
+  [[ $said =~ ^gate:\ [0-9]+\ passed,\ 0\ failed(,\ [0-9]+\ skipped)?$ ]] || fail "the gate did not come to its end: its last line is '$said'"
   of=$(grep -E '^commit .*, program [0-9a-f]{64}$' "$gate" | tail -n 1 || true)
   [ "$of" = "$state" ] || fail "the gate was of '${of:-nothing that it names}', and this is $state"
 fi

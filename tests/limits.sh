@@ -163,7 +163,7 @@ closed_streams() {
 # A disk that is full, or isn't to be written: a small file system in memory.
 full_disks() {
   if ! may_mount; then
-    echo 'left out, since root alone may mount a file system: full disks, and disks that are not to be written'
+    leave_out 'root alone may mount a file system' 'full disks, and disks that are not to be written'
     return
   fi
   local out='small/out.rec: the store failed' trace='small/trace: the store failed'
@@ -359,5 +359,4 @@ memory_runs_out "$SPLIT" "$PARTED" 3000 50 4200
 # What the launcher asks the C library for.
 GLIBC_TUNABLES=$(sed -n 's/.*GLIBC_TUNABLES:-\(.*\)}$/\1/p' "$top/cyber") memory_runs_out "$PLAY" "$DONE" 20000 20000 160000
 
-echo "$passed passed, $failed failed"
-[ "$failed" -eq 0 ]
+sum_up

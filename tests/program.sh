@@ -24,5 +24,4 @@ for part; do
   # shellcheck disable=SC1090
   . "$top/tests/program/$part.sh"
 done
-echo "$passed passed, $failed failed"
-[ "$failed" -eq 0 ]
+sum_up

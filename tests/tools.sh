@@ -13,6 +13,7 @@ work=$(mktemp -d)
 trap 'rm -rf "$work"' EXIT
 passed=0
 failed=0
+skipped=0
 install=no
 patience=60 # seconds
 
@@ -28,6 +29,7 @@ count() { # whether it is well: 0, and what was compared
 
 # Says that a section is left out.
 skip() { # its name, and what is missing
+  skipped=$((skipped + 1))
   echo "skipped: $1: $2"
 }
 
@@ -116,7 +118,7 @@ gate() {
   stub release/gate.sh 0 'commit 1, program 2'
   touch tests/refusals.py tests/promises.py
   PATH=$PWD/bin:$PATH try 0 .ci/run
-  [ "$(tail -n 1 out)" = 'gate: 65 passed, 0 failed' ]
+  [ "$(tail -n 1 out)" = 'gate: 65 passed, 0 failed, 4 skipped' ]
   count $? "$name: the last line is '$(tail -n 1 out)'"
   begin 'a part of the gate that fails leaves out none behind it'
   cp -r "$OLDPWD/." .
@@ -565,7 +567,7 @@ release() {
   says tar/share/doc/zektrob/PROVED "commit $(git -C "$top" rev-parse HEAD)( with changes.*)?"
   says tar/share/doc/zektrob/PROVED 'logic 0123456789abcdef'
   says tar/share/doc/zektrob/PROVED 'proofs rt: ok; every proof was done in this run'
-  says tar/share/doc/zektrob/PROVED 'gate 12 passed, 0 failed'
+  says tar/share/doc/zektrob/PROVED 'gate 12 passed, 0 failed, 3 skipped'
   (cd tar && sed -n 's/^\([0-9a-f]\{64\}  \)/\1/p' share/doc/zektrob/PROVED | sha256sum -c --quiet) >sums 2>&1
   count $? "$name: $(head -n 3 sums)"
   [ "$(grep -c '^[0-9a-f]\{64\}  ' tar/share/doc/zektrob/PROVED)" -eq $(($(find tar -type f | wc -l) - 1)) ]
@@ -597,7 +599,7 @@ write_log() {
   printf '%s\n' 'logic=proved functions=1 sum=0123456789abcdef native=nat' 'rt: x proved' 'rt: ok; every proof was done in this run' \
     '9 passed, 0 failed'
   "$top/release/gate.sh" "$program"
-  printf '1 promises, 0 faults\ngate: 12 passed, 0 failed\n\nreal\t1m\n'
+  printf '1 promises, 0 faults\ngate: 12 passed, 0 failed, 3 skipped\n\nreal\t1m\n'
 }
 
 # Looks that no release is made with the log of a gate that failed, that was stopped, or that was of something else.
@@ -616,6 +618,8 @@ refuses_logs() {
   refuses_log "the gate was of 'commit .*, program 000000.*', and this is commit .*"
   sed 's/^commit ....../commit 000000/' gate.log >bad.log
   refuses_log "the gate was of 'commit 000000.*', and this is commit .*"
+  sed 's/^gate: .*/gate: 12 passed, 1 failed, 3 skipped/' gate.log >bad.log
+  refuses_log 'the gate failed: gate: 12 passed, 1 failed, 3 skipped'
   sed '/^commit/d' gate.log >bad.log
   refuses_log "the gate was of 'nothing that it names', and this is commit .*"
 }
@@ -908,5 +912,7 @@ fi
 for section in "$@"; do
   "$section"
 done
-echo "$passed passed, $failed failed"
+behind=
+[ "$skipped" -eq 0 ] || behind=", $skipped skipped"
+echo "$passed passed, $failed failed$behind"
 [ "$failed" -eq 0 ]

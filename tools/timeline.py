@@ -299,8 +299,8 @@ def main():
     try:
         write(words)
     except ImportError as error:
-        needs = "a picture is made by matplotlib (python3-matplotlib" if words.is_picture else "messages are decoded by the Protocol Buffers package (python3-protobuf"
-        print(f"timeline: {error}; {needs} of Debian)", file=sys.stderr)
+        package = "matplotlib" if words.is_picture else "protobuf"
+        print(f"timeline: {error}; this needs the package {package} of pip, or python3-{package} of Debian", file=sys.stderr)
         return 1
     except (OSError, ValueError) as error:
         print(f"timeline: {error}", file=sys.stderr)

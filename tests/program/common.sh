@@ -126,4 +126,5 @@ stands() { # what it shows, the script, and its words behind the program
   "$top/tests/$2" "$program" "${@:3}" >report 2>&1
   count $? "$name: $(cat report)"
   grep '^left out' report
+  skipped=$((skipped + $(grep -c '^left out' report)))
 }

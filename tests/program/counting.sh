@@ -4,6 +4,7 @@
 
 passed=0
 failed=0
+skipped=0
 
 # Counts one comparison, and tells of one that failed.
 count() { # whether it is well: 0, and what was compared
@@ -13,6 +14,20 @@ count() { # whether it is well: 0, and what was compared
     failed=$((failed + 1))
     echo "FAILED: $2"
   fi
+}
+
+# Says that tests are left out, and why.
+leave_out() { # why, and what
+  skipped=$((skipped + 1))
+  echo "left out, since $1: $2"
+}
+
+# Prints how many comparisons came out well, and answers whether all did.
+sum_up() {
+  local behind=''
+  [ "$skipped" -eq 0 ] || behind=", $skipped skipped"
+  echo "$passed passed, $failed failed$behind"
+  [ "$failed" -eq 0 ]
 }
 
 # Begins a test in an empty folder.

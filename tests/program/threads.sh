@@ -52,7 +52,7 @@ obeys_on_threads() { # how often, and the stop
 plays_where_threads_are_few() { # how many
   begin "plays where $1 threads may run at once"
   if [ "$(id -u)" -ne 0 ]; then
-    echo "left out, since root alone may try it: $name"
+    leave_out 'root alone may try it' "$name"
     return
   fi
   mkdir files
