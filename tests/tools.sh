@@ -343,12 +343,29 @@ messages() {
   decodes_what_is_passed_on "$tool"
   begin 'what is printed of random messages is what they were made of'
   try 0 "$python" "$top/tests/tools/check_messages.py" 50 1
+  begin 'records that are the same need no package, and others do'
+  "$python" "$top/tests/tools/described_record.py" a.rec
+  "$python" "$top/tests/tools/described_record.py" b.rec 4
+  without_package 0 "$tool" --diff a.rec a.rec
+  says out 'same: 7 messages on 5 channels'
+  without_package 0 "$tool" --stats a.rec
+  without_package 2 "$tool" --diff a.rec b.rec
+  says err 'messages: .*google.*; described messages are decoded by the Protocol Buffers package .*'
   begin 'the messages of a drive are decoded'
   try 0 "$python" "$tool" "$top/examples/drive/drive.rec" --channel /wheel/speed
   says out '/wheel/speed 1 1700000000000079088 \{"value": "8045"\}'
   [ "$(wc -l <out)" -eq 1000 ]
   count $? "$name: $(wc -l <out) lines"
   compares_records "$tool"
+}
+
+# Runs a tool of tools/ where there is no Protocol Buffers package.
+without_package() { # the status, and the words
+  try "$1" python3 -c 'import runpy, sys
+sys.modules["google"] = None
+sys.argv[:] = sys.argv[1:]
+sys.path.insert(0, sys.argv[0].rpartition("/")[0])
+runpy.run_path(sys.argv[0], run_name="__main__")' "${@:2}"
 }
 
 # A record that a play writes has the type of what was passed on, and not its description. That of another channel is used, or a set.
@@ -542,6 +559,17 @@ $d' --stop control@8
     try 1 python3 "$top/tools/why_not.py" --dag pass.dag --record in.rec --out changed.rec --trace pass.trace
     says out "changed.rec: the trace is lawful, but the record differs from that of its tape at byte ${each%% *}, ${each#* }"
   done
+  python3 "$top/tests/replay.py" longer.rec longer.trace line --record "$top/examples/pass/two.rec" --pass /in /out
+  try 1 python3 "$top/tools/why_not.py" --dag pass.dag --record in.rec --out longer.rec --trace pass.trace
+  says out 'longer.rec: the trace is lawful, but .* at byte [0-9]+, in the header; it has 4 messages, and the tape 2'
+  try 1 python3 "$top/tools/why_not.py" --dag pass.dag --record "$top/examples/pass/two.rec" --out pass.rec --trace longer.trace
+  says out 'pass.rec: the trace is lawful, but .*, in the header; the first message that differs is message 3 of the tape, /in 2'
+  mv pass.conf kept.conf
+  fails_in_one_line 2 'why_not: pass.conf: No such file or directory' \
+    python3 "$top/tools/why_not.py" --dag pass.dag --record in.rec --out pass.rec --trace pass.trace
+  mv kept.conf pass.conf
+  try 2 python3 "$top/tools/why_not.py" --dag pass.dag --record in.rec --out pass.rec --trace pass.trace --stop pass
+  says err 'why_not.py: error: argument --stop: pass is not NAME@N, .*'
   fails_in_one_line 2 'why_not: .*none.*' python3 "$top/tools/why_not.py" --dag pass.dag --record in.rec --out none --trace pass.trace
   fails_in_one_line 2 'why_not: line: not a record' python3 "$top/tools/why_not.py" --dag pass.dag --record line --out none --trace pass.trace
   fails_in_one_line 2 'why_not: line: not in the text form: .*' \

@@ -1,4 +1,5 @@
 """Which messages of a record are played, in their order, as docs/RULES.md says; and the options of `play` that choose them."""
+import argparse
 import os
 from typing import NamedTuple, Optional
 
@@ -88,6 +89,8 @@ def planned_entries(components, played):
 def stop_of(word):
     """The name and the time of a stop: the last @ parts them."""
     name, _, time = word.rpartition("@")
+    if not name or not time.isdecimal():
+        raise argparse.ArgumentTypeError(f"{word} is not NAME@N, a component and a time in nanoseconds")
     return os.fsencode(name), int(time)
 
 

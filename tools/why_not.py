@@ -7,7 +7,9 @@ takes the files and options of `cyber verify`, and looks at the rules of docs/RU
 `cyber verify` says. Ends with status 0 where all is lawful, 1 with a sentence where it isn't, and 2 where a file can't be read.
 """
 import argparse
+import os
 import sys
+from itertools import zip_longest
 
 from dag import forms_of_outs, read_components
 from judging import Task, Told, first_fault, message_text, tape_of
@@ -72,6 +74,21 @@ def first_difference(one, other, step=1 << 16):
     return next((it for it in range(piece, least) if one[it] != other[it]), least)
 
 
+def first_message(data, tape):
+    """Which message of a record is the first that differs from its tape, as a text; empty where none does, or where it can't be read."""
+    try:
+        header_of(data)
+        messages = messages_of(data)
+    except ValueError:
+        return ""
+    for number, (found, wanted) in enumerate(zip_longest(messages, tape), 1):
+        if wanted is None:
+            return f"; it has {len(messages)} messages, and the tape {len(tape)}"
+        if found != (wanted.channel, wanted.time, wanted.content):
+            return f"; the first message that differs is message {number} of the tape, {message_text(wanted)}"
+    return ""
+
+
 def why_not(words):
     """The sentence that says what is wrong, or None."""
     task, forms = task_of(words)
@@ -88,9 +105,11 @@ def why_not(words):
     want = record([(it.channel, it.time, it.content) for it in tape], forms)
     with opened(words.out) as data:
         place = first_difference(want, bytes(data))
+        # Another number of bytes stands in the header, too, which comes before all messages.
+        message = first_message(data, tape) if place is not None and place < HEADER_END else ""
     if place is not None:
         where = "where it ends or goes on too long" if place == len(want) else section_at(want, tape, place)
-        return f"{words.out}: the trace is lawful, but the record differs from that of its tape at byte {place}, {where}"
+        return f"{words.out}: the trace is lawful, but the record differs from that of its tape at byte {place}, {where}{message}"
     return None
 
 
@@ -105,7 +124,8 @@ def main():
     try:
         sentence = why_not(words)
     except (OSError, ValueError) as error:
-        print(f"why_not: {error}", file=sys.stderr)
+        is_named = isinstance(error, OSError) and error.filename
+        print(f"why_not: {f'{os.fsdecode(error.filename)}: {error.strerror}' if is_named else error}", file=sys.stderr)
         return 2
     print(sentence or "lawful: a lawful run has this trace and this record")
     return 1 if sentence else 0
