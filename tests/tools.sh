@@ -142,6 +142,15 @@ tries_one_part() {
   fails_in_one_line 2 "tests/program.sh: no part 'plays': pass words .*" "$top/tests/program.sh" /bin/true plays
   fails_in_one_line 2 "tests/units.sh: no group 'file': .*" "$top/tests/units.sh" file
   fails_in_one_line 2 "tests/units.sh: no test 'reads' in files" "$top/tests/units.sh" files reads
+  fails_in_one_line 2 "tests/units.sh: no test 'places_each_fault' in files, store.rs" "$top/tests/units.sh" files store::places_each_fault
+  # In place of the toolchain stands what lists the tests of a group.
+  mkdir bin
+  printf '%s\n' '#!/bin/sh' 'grep -rhF -A 1 "#[test]" src | sed -n "s/^ *fn \([a-z0-9_]*\).*/test \1 ... ok/p"' >bin/rt
+  chmod +x bin/rt
+  PATH=$PWD/bin:$PATH try 0 "$top/tests/units.sh" files wire::reading::places_each_fault
+  says out '1 passed, 0 failed'
+  PATH=$PWD/bin:$PATH try 0 "$top/tests/units.sh" texts events
+  says out "$(grep -rF '#[test]' "$top/tests/units/texts" "$top/tests/units/events" | wc -l) passed, 0 failed"
   try 1 "$top/tests/program.sh" /bin/false check
   says out '[0-9]+ passed, [1-9][0-9]* failed'
 }

@@ -1,6 +1,7 @@
 #!/usr/bin/env bash
 # Runs the tests of tests/units, with checks and unproved, and sums them: those of the groups that are named, or all; or one test of a group.
-# Usage: tests/units.sh [GROUP..], or tests/units.sh GROUP NAME, where NAME is the name of a test's function.
+# Usage: tests/units.sh [GROUP..], or tests/units.sh GROUP NAME, where NAME is the name of a test's function, with its modules where it has
+# namesakes, as `text::fields::reads_a_classic_file`.
 # A group is a crate of a copy of this repository, since `rt ci` proves each crate that stands here. The status is 0 where all passed.
 set -euo pipefail
 top=$(cd "$(dirname "$0")/.." && pwd)
@@ -11,16 +12,21 @@ trap 'rm -rf "$work"' EXIT
 # The one that takes longest comes first.
 groups=(program runs files texts events)
 wanted=
+place= # the file that it is in, where its modules are named
 if [ $# -eq 2 ] && [[ " ${groups[*]} " == *" $1 "* && " ${groups[*]} " != *" $2 "* ]]; then
   wanted=${2##*::}
+  place=${2%"$wanted"}
+  place=${place#"$1::"}
+  place=${place//:://}
+  place=${place:+${place%/}.rs}
   set -- "$1"
 fi
 for group in "$@"; do
   [[ " ${groups[*]} " == *" $group "* ]] || { echo "tests/units.sh: no group '$group': ${groups[*]}" >&2; exit 2; }
 done
 [ $# -eq 0 ] || groups=("$@")
-if [ -n "$wanted" ] && ! grep -rqE "^ *fn $wanted[(<]" "$units/$1"; then
-  echo "tests/units.sh: no test '$wanted' in $1" >&2
+if [ -n "$wanted" ] && ! grep -rqE "^ *fn $wanted[(<]" "$units/$1/$place"; then
+  echo "tests/units.sh: no test '$wanted' in $1${place:+, $place}" >&2
   exit 2
 fi
 
@@ -39,11 +45,15 @@ copy_crates() {
 # Copies the tests to a folder. They end in .rs here, since the gate takes every file that ends in .rt for part of a crate. Where one test is
 # wanted, the others are functions that nobody calls.
 copy_tests() { # the group, the folder
-  local file to
+  local file to name
   while read -r file; do
     to=$2/${file%.rs}.rt
     mkdir -p "$(dirname "$to")"
-    awk -v wanted="$wanted" '
+    name=$wanted
+    if [ -n "$place" ] && [ "$file" != "./$place" ]; then
+      name=- # no function is called so
+    fi
+    awk -v wanted="$name" '
       wanted != "" && /^ *#\[test\]/ { mark = $0; next }
       mark != "" && /^ *fn / { if ($0 ~ "fn " wanted "[(<]") print mark; mark = "" }
       { print }' "$units/$1/$file" >"$to"
@@ -77,7 +87,7 @@ run_group() { # the group, its folder
 # has failed, and so has a group without tests, or whose run ended with another status than 0.
 report() { # the group
   local here=0 bad tests
-  tests=$(grep -rhF -A 1 '#[test]' "$units/$1" | grep -cE "^ *fn ${wanted:-[a-z0-9_]+}[(<]") || true
+  tests=$(grep -rhF -A 1 '#[test]' "$units/$1/$place" | grep -cE "^ *fn ${wanted:-[a-z0-9_]+}[(<]") || true
   here=$(grep -cE '^test .* \.\.\. ok$' "$work/$1.log") || true
   bad=$((tests - here))
   if [ "$bad" -eq 0 ] && { [ "$tests" -eq 0 ] || [ "$(cat "$work/$1.status")" != 0 ]; }; then
