@@ -890,6 +890,7 @@ fails_without_standard_error 'is closed' '2>&-'
 
 . "$top/tests/program/timers.sh"
 . "$top/tests/program/refused.sh"
+. "$top/tests/program/many.sh"
 . "$top/tests/program/verify.sh"
 . "$top/tests/program/tools.sh"
 

@@ -40,11 +40,14 @@ pub record IsCutTo (name : List ℕ) (size at : ℕ) (first heads : List PlacedH
 pub nothing_cut : (name : List ℕ) (size : ℕ) (first heads : List PlacedHead) (window : Window) (view : StoreView) → header_end ≤ size → Holds view.files name (λ file. size ≡ length file) → heads ≡ first
     → ((file : List ℕ) → IsRead file window) → IsCutTo name size header_end first heads [] window view view
 nothing_cut name size first heads window view long there is empty = record {
-  ahead = held_by view.files name (λ file told. (told, record {
-    done = [];
-    ahead = ahead_first file (omega (arith, told, long));
-    kept = record { heads = is ∙ sym (append-nil first); parts = refl; follow = tt };
-  })) there;
+  ahead = held_by view.files name (λ file told. (
+    told,
+    record {
+      done = [];
+      ahead = ahead_first file (omega (arith, told, long));
+      kept = record { heads = is ∙ sym (append-nil first); parts = refl; follow = tt };
+    },
+  )) there;
   read = held_by view.files name (λ file told. empty file) there;
   same = refl;
   counts = record { faults = refl; misses = refl };

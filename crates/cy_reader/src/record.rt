@@ -12,7 +12,7 @@ ghost use Rattle.cy_reader.specs.Load.{FileAnswer, LoadAnswer};
 ghost use Rattle.cy_reader.specs.Play.{message_at, time_at};
 
 use crate::cutting::{CutFile, cut_file};
-use crate::facts::{Facts, channel_counts, count_parts, head_places, index_found};
+use crate::facts::{Facts, channel_counts, count_parts, index_found, places_for};
 use crate::front::{Front, front_of};
 use crate::gathering::parts_met;
 use crate::header::LONGEST_FILE;
@@ -224,11 +224,14 @@ impl Record {
         let channels = self.loading.channels.list.len();
         let heads = self.heads.as_slice();
         let index = self.index.as_ref();
+        let counts = channel_counts(alloc, messages, channels)?;
+        let found = index_found(alloc, index)?;
+        let places = places_for(alloc, &found, heads)?;
         Ok(Facts {
             counted: count_parts(channels, messages, heads, index, self.size),
-            counts: channel_counts(alloc, messages, channels)?,
-            index: index_found(alloc, index)?,
-            places: head_places(alloc, heads)?,
+            counts,
+            index: found,
+            places,
         })
     }
 
