@@ -4,6 +4,8 @@
     large.py FILE messages [CHANNEL COUNT TIME]..   COUNT messages of the value 1 on a channel at a time, for each three words
     large.py FILE content SIZE                      one message on /a at time 1, whose content is SIZE zeros
     large.py FILE channel SIZE                      the channel /a, whose name, type and description have SIZE bytes together
+    large.py FILE sections TYPE COUNT               COUNT sections of a type's number, without a byte of their own
+    large.py FILE chunks COUNT                      COUNT chunks, each of one message on /a at time 1
 
 Where FILE has zeros alone it has a hole, as far as the file system allows.
 """
@@ -44,6 +46,10 @@ def main():
             size = int(words[0])
             message = block(1, b"/a") + number(2, 1) + opening(3, size)
             write_zeros(file, 2, opening(1, len(message) + size) + message, size)
+        elif what == "sections":
+            file.write(section(int(words[0]), b"") * int(words[1]))
+        elif what == "chunks":
+            file.write(section(2, block(1, block(1, b"/a") + number(2, 1))) * int(words[0]))
         else:
             size = int(words[0]) - 2
             write_zeros(file, 4, block(1, b"/a") + opening(3, size), size)

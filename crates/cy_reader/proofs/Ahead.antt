@@ -138,7 +138,7 @@ head_size at bytes head e =
     let d = guard (nat_le (2 ^ 63) size) (Size at (cast_signed w64 size)) _ head c in
     sym (ap (λ (h : Head). h.size) (ok_is _ head d))
 
-too_few : (at : ℕ) (bytes : List ℕ) → length bytes < 16 → head_found at bytes ≡ Err (Cut at)
+pub too_few : (at : ℕ) (bytes : List ℕ) → length bytes < 16 → head_found at bytes ≡ Err (Cut at)
 unfolding head_found
 too_few at bytes few = rw (lt-ltb (length bytes) 16 few) refl
 

@@ -1,5 +1,5 @@
 -- What is read of the front of a file, and what a record is made of.
-use Rattle.std.proofs.Common.{◌≡◌, ◌≢◌, ◌≤◌, ℕ, List, length, take, drop, min, refl, ap, sym, subst, ◌∙◌, arith, Option, Result, Ok, Err, inl, inr}
+use Rattle.std.proofs.Common.{◌≡◌, ◌≢◌, ◌≤◌, ℕ, List, [], ◌∷◌, length, take, drop, min, refl, ap, sym, subst, ◌∙◌, arith, Option, Result, Ok, Err, inl, inr}
 use Rattle.std.specs.Prelude.{IfOk, IfErr}
 use Rattle.cy_msg.specs.Answer.{Answers, AnswersOr}
 use Rattle.cy_store.specs.Files.{Files, Holds}
@@ -68,13 +68,13 @@ front_answered old mid new name size k bytes slice (Err e) told short is lent re
     }
 
 -- what is loaded of a file whose front and sections were read
-pub loaded_so : (old mid new : StoreView) (name : List ℕ) (f : Front) (c : CutFile) (result : Result Contents LoadError) → FrontAnswer old mid name (Ok f) → CutAnswer mid new name (Ok c)
+pub loaded_so : (old mid new : StoreView) (name : List ℕ) (f : Front) (c : CutFile) (result : Result Contents LoadError) → FrontAnswer old mid name (Ok f) → CutAnswer mid new name (f.head ∷ []) (Ok c)
     → AnswersOr Memory (λ (r : Contents). r) result (cut_record name f c) → IfErr result (λ e. e ≢ Store) → LoadAnswer old new name result
 loaded_so old mid new name f c result front cut is other = by_result result is other
   where
     there : Holds old.files name (λ file. record_of name file ≡ cut_record name f c)
     there = both_held old.files name (λ file a b. cut_is name file f a c b) (may_hold (λ file. IsFront file f) old.files name front.front)
-        (subst (λ (files : Option Files). Holds files name (λ file. IsCut file c)) front.same cut.cut)
+        (subst (λ (files : Option Files). Holds files name (λ file. IsCut file (f.head ∷ []) c)) front.same cut.cut)
 
     all : SameCounts old new
     all = same_counts old mid new (front.causes.quiet (λ e. no_err _ _ e)) (cut.causes.quiet (λ e. no_err _ _ e))

@@ -1,5 +1,5 @@
 -- The header of a file is that of its first bytes.
-use Rattle.std.proofs.Common.{◌≡◌, ◌≤◌, ◌∷◌, ◌++◌, ℕ, List, length, take, drop, min, refl, ap, ◌∙◌, arith, length-take, inl, inr, Option, Some, None, Result, Ok, Err}
+use Rattle.std.proofs.Common.{◌≡◌, ◌≤◌, [], ◌∷◌, ◌++◌, ℕ, List, length, take, drop, min, refl, ap, sym, ◌∙◌, arith, length-take, inl, inr, Option, Some, None, Result, Ok, Err}
 use Rattle.std.specs.Prelude.{map, IfOk}
 use Rattle.std.specs.Option.{option_map}
 use Rattle.cy_section.specs.declared.error.SectionError.{SectionError}
@@ -12,13 +12,15 @@ use Rattle.cy_reader.specs.declared.error.LoadError.{LoadError}
 use Rattle.cy_reader.specs.declared.front.Front.{Front}
 use Rattle.cy_reader.specs.declared.cutting.CutFile.{CutFile}
 use Rattle.cy_reader.specs.declared.heads.KeptIndex.{KeptIndex}
+use Rattle.cy_reader.specs.declared.heads.PlacedHead.{PlacedHead}
 use Rattle.cy_reader.specs.Sections.{WholeSection, Sections, sections_from}
 use Rattle.cy_reader.specs.Heads.{header_head, section_head, index_head, index_of, heads_of}
 use Rattle.cy_reader.specs.Record.{◌>>=◌, fault_of, Met, Contents, Source, shown, source_of, nothing, header_end, longest_file, file_header, sized_header, sections_met, parts_of, record_of}
 use Rattle.cy_reader.specs.private.Front.{IsFront, index_in, cut_source, cut_record}
-use Rattle.cy_reader.specs.private.Cutting.{IsCut, fault_in, seen_part}
+use Rattle.cy_reader.specs.private.Cutting.{IsCut, AreKept, fault_in, seen_part}
 use Rattle.cy_reader.specs.private.Kept.{seen_index}
 use Rattle.cy_reader.proofs.Bodies.{nothing_comes, before_fault, then_fault}
+use Rattle.cy_reader.proofs.Quiet.{kept_met}
 
 sized_same : (file : List ℕ) → 2064 ≤ length file → (size : ℕ) → sized_header (take 2064 file) size ≡ sized_header file size
 sized_same file long size =
@@ -101,9 +103,22 @@ module _ (name file : List ℕ) (f : Front) (front : IsFront file f) where
       each (Err e) = refl
   by_end all (Err fault) is last = record_is (record { sections = all; fault = Some fault }) is ∙ nothing_comes all fault nothing behind (made all (Err fault))
 
-  pub cut_is : (c : CutFile) → IsCut file c → record_of name file ≡ cut_record name f c
+  kept_is : (c : CutFile) (all : List WholeSection) → AreKept all (f.head ∷ []) c.heads.items c.parts.items → sections_met all (fault_in c.end) nothing >>= made all c.end ≡ cut_record name f c
   unfolding cut_record
-  cut_is c cut = by_end (map seen_part c.parts.items) c.end cut.all cut.index
+  kept_is c all kept =
+      let met : sections_met all (fault_in c.end) nothing ≡ sections_met (map seen_part c.parts.items) (fault_in c.end) nothing
+      = sym (ap (λ (ss : List WholeSection). sections_met ss (fault_in c.end) nothing) kept.parts ∙ kept_met all (fault_in c.end) nothing) in
+      ap (λ (r : Result Met LoadError). r >>= made all c.end) met
+      ∙ ap (λ (heads : List PlacedHead). sections_met (map seen_part c.parts.items) (fault_in c.end) nothing >>= λ met. Ok (shown (let s : Source = record {
+        name = name;
+        size = f.size;
+        header = f.header;
+        heads = heads ++ index_head (index_in c.end);
+        index = index_in c.end;
+      } in s) met)) (sym kept.heads)
+
+  pub cut_is : (c : CutFile) → IsCut file (f.head ∷ []) c → record_of name file ≡ cut_record name f c
+  cut_is c cut = by_end cut.sections c.end cut.all cut.index ∙ kept_is c cut.sections cut.kept
 
 -- or the first fault of them
 abbrev made-of : List ℕ → Front → CutFile → Met → Result Contents LoadError

@@ -13,8 +13,11 @@ pub mod NamedChannels
 pub mod Bodies
 pub mod Behind
 pub mod Moved
+pub mod Windows
 pub mod Ahead
+pub mod Quiet
 pub mod Fronts
+pub mod Judged
 pub mod CutTo
 pub mod FrontRead
 pub mod Salvaging

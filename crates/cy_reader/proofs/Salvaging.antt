@@ -1,11 +1,11 @@
 -- What is salvaged of a file whose front and sections were read.
 use Rattle.std.proofs.Common.{◌≡◌, ◌≢◌, ◌≤◌, ◌<◌, ◌+◌, ◌-◌, ℕ, zero, suc, List, [], ◌∷◌, ◌++◌, length, take, drop, get_or, min, refl, ap, sym, subst, ◌∙◌, arith, append_assoc, append-nil, Bool, true, false, cond, Option, Some, None, Result, Ok, Err, ◌⊎◌, inl, inr, eq-eqb}
-use Rattle.std.specs.Prelude.{ℤ, map, IfOk, IfErr, IfSome, IsSome, is_none, is_some, ◌==◌, ◌&&◌, ◌||◌, not, nat_lt}
+use Rattle.std.specs.Prelude.{ℤ, map, filter, slice_get, IfOk, IfErr, IfSome, IsSome, is_none, is_some, ◌==◌, ◌&&◌, ◌||◌, not, nat_lt}
 use Rattle.std.specs.Int.{w64, cast_signed}
 use Rattle.std.specs.Option.{ok_or}
 use Rattle.std.proofs.lemmas.Bool.{lt-ltb, cases_lt}
 use Rattle.std.proofs.lemmas.Grind.{common_steps}
-use Rattle.std.proofs.lemmas.List.{take_more, take_all, drop_more, drop_all}
+use Rattle.std.proofs.lemmas.List.{length-map, length-take-le, take_more, take_all, drop_more, drop_all}
 use Rattle.byteorder.specs.Endian.{little_number}
 use Rattle.cy_msg.specs.Answer.{Answers, AnswersOr}
 use Rattle.cy_store.specs.Files.{Files, Holds}
@@ -25,9 +25,10 @@ use Rattle.cy_reader.specs.Sections.{WholeSection, Sections, no_section, with_se
 use Rattle.cy_reader.specs.Heads.{end_of}
 use Rattle.cy_reader.specs.Record.{◌>>=◌, Met, file_header, header_end, longest_file, sections_met, nothing}
 use Rattle.cy_reader.specs.Salvage.{Salvage, SalvageAnswer, own_fault, until_fault, sound_sections, if_usable, dropped_at, salvage_in, salvage_of}
-use Rattle.cy_reader.specs.private.Cutting.{IsCut, CutAnswer, seen_part, fault_in}
-use Rattle.cy_reader.specs.private.Salvaging.{IsJudged, AreJudged, AreSound, SizeAnswer, cut_salvage}
+use Rattle.cy_reader.specs.private.Cutting.{IsCut, CutAnswer, Follow, is_kept, seen_part, fault_in}
+use Rattle.cy_reader.specs.private.Salvaging.{IsJudged, AreJudged, AreSound, SizeAnswer, place_before, salvage_kept, cut_salvage}
 use Rattle.cy_reader.proofs.Fronts.{front_header}
+use Rattle.cy_reader.proofs.Quiet.{kept_met, place_in, place_seen, IsUntil, until_kept}
 use Rattle.cy_reader.proofs.FrontRead.{same_counts}
 use Rattle.cy_reader.proofs.Refusals.{err_is, no_err}
 use Rattle.cy_reader.proofs.Told.{salvage_named}
@@ -141,27 +142,41 @@ all_sound front left fault all so_far is =
     so_far ∙ ap (λ (ps : List Part). behind front (until_fault (map seen_part ps) fault)) is
     ∙ ap (λ (ss : List WholeSection). let s : Sections = record { sections = ss; fault = fault } in s) (append-nil (map seen_part front))
 
--- where they end
-end_of-last : (at : ℕ) (ss : List WholeSection) (s : WholeSection) → end_of at (ss ++ s ∷ []) ≡ s.body_at + length s.body
-end_of-last at [] s = refl
-end_of-last at (x ∷ ss) s = end_of-last (x.body_at + length x.body) ss s
-
-pub end_more : (front : List Part) (p : Part) → end_of header_end (map seen_part (front ++ p ∷ [])) ≡ p.body_at + length p.body
-end_more front p = ap (end_of header_end) (map-push front p) ∙ end_of-last header_end (map seen_part front) (seen_part p)
-
 -- ---- what is salvaged of them
 
-pub salvage_is : (file : List ℕ) (size : ℕ) (c : CutFile) → size ≡ length file → if_usable (file_header file) ≡ Ok tt → IsCut file c → salvage_of file ≡ cut_salvage size c
-unfolding salvage_of sound_sections cut_salvage
-salvage_is file size c sized usable cut = rw (usable, cut.all, sized) refl
+same_salvage : (r q : Result Met LoadError) (d e : ℕ) → r ≡ q → d ≡ e → (r >>= λ met. Ok (let s : Salvage = record { met = met; dropped = d } in s)) ≡ (q >>= λ met. Ok (let s : Salvage = record { met = met; dropped = e } in s))
+same_salvage r q d e is at = rw (is, at) refl
 
-pub salvaged_so : (old mid new : StoreView) (name : List ℕ) (size : ℕ) (c : CutFile) (result : Result Salvage LoadError) → SizeAnswer old mid name (Ok size) → CutAnswer mid new name (Ok c)
+kept_salvage : (size end : ℕ) (parts : List Part) (ss : List WholeSection) (fault : Option SectionError) → map seen_part parts ≡ filter is_kept ss → Follow header_end ss → end ≡ end_of header_end ss
+    → salvage_in size (until_fault ss fault) ≡ salvage_kept size end parts (until_fault (map seen_part parts) fault)
+kept_salvage size end parts ss fault kept follow last =
+    let u = until_kept header_end ss fault follow in
+    let all = until_fault ss fault in
+    let others = until_fault (map seen_part parts) fault in
+    let same : others ≡ until_fault (filter is_kept ss) fault = ap (λ (l : List WholeSection). until_fault l fault) kept in
+    let sections : others.sections ≡ filter is_kept all.sections = ap (λ (s : Sections). s.sections) same ∙ u.kept in
+    let faults : others.fault ≡ all.fault = ap (λ (s : Sections). s.fault) same ∙ u.same_fault in
+    let met : sections_met all.sections None nothing ≡ sections_met others.sections None nothing = sym (ap (λ (l : List WholeSection). sections_met l None nothing) sections ∙ kept_met all.sections None nothing) in
+    let place : end_of header_end all.sections ≡ place_before end (slice_get parts (length others.sections)) =
+    u.place ∙ ap (λ (n : ℕ). place_in n (slice_get (filter is_kept ss) (length (until_fault (filter is_kept ss) fault).sections))) (sym last)
+    ∙ ap (λ (s : Sections). place_in end (slice_get (filter is_kept ss) (length s.sections))) (sym same)
+    ∙ ap (λ (l : List WholeSection). place_in end (slice_get l (length others.sections))) (sym kept) ∙ sym (place_seen end parts (length others.sections)) in
+    let dropped : dropped_at size (end_of header_end all.sections) all.fault ≡ dropped_at size (place_before end (slice_get parts (length others.sections))) others.fault =
+    ap (λ (n : ℕ). dropped_at size n all.fault) place ∙ ap (dropped_at size (place_before end (slice_get parts (length others.sections)))) (sym faults) in
+    same_salvage (sections_met all.sections None nothing) (sections_met others.sections None nothing) _ _ met dropped
+
+pub salvage_is : (file : List ℕ) (size : ℕ) (c : CutFile) → size ≡ length file → if_usable (file_header file) ≡ Ok tt → IsCut file [] c → salvage_of file ≡ cut_salvage size c
+unfolding salvage_of sound_sections cut_salvage
+salvage_is file size c sized usable cut =
+    rw (usable, cut.all, sym sized) (kept_salvage size c.ends_at c.parts.items cut.sections (fault_in c.end) cut.kept.parts cut.kept.follow cut.place)
+
+pub salvaged_so : (old mid new : StoreView) (name : List ℕ) (size : ℕ) (c : CutFile) (result : Result Salvage LoadError) → SizeAnswer old mid name (Ok size) → CutAnswer mid new name [] (Ok c)
     → AnswersOr Memory (λ (s : Salvage). s) result (cut_salvage size c) → IfErr result (λ e. e ≢ Store) → SalvageAnswer old new name result
 salvaged_so old mid new name size c result front cut is other = by_result result is other
   where
     there : Holds old.files name (λ file. salvage_of file ≡ cut_salvage size c)
     there = both_held old.files name (λ file a b. salvage_is file size c a.0 a.1 b) (may_hold (λ file. (size ≡ length file) × (if_usable (file_header file) ≡ Ok tt)) old.files name front.size)
-        (subst (λ (files : Option Files). Holds files name (λ file. IsCut file c)) front.same cut.cut)
+        (subst (λ (files : Option Files). Holds files name (λ file. IsCut file [] c)) front.same cut.cut)
 
     all : SameCounts old new
     all = same_counts old mid new (front.causes.quiet (λ e. no_err _ _ e)) (cut.causes.quiet (λ e. no_err _ _ e))
@@ -270,26 +285,23 @@ sound_all parts i n fault end is so_far =
       some = λ low. absurd (omega (arith, low, is));
     }
 
--- where they end
-pub ends_at : (parts : List Part) (i end : ℕ) (p : Part) → i < length parts → p ≡ get_or parts i p → end ≡ p.body_at + length p.body → end ≡ end_of header_end (map seen_part (take (i + 1) parts))
-ends_at parts i end p low is place = place ∙ sym (ap (λ (ps : List Part). end_of header_end (map seen_part ps)) (sym (part_last parts i p low is)) ∙ end_more (take i parts) p)
-
-pub ends_all : (parts : List Part) (i end : ℕ) → length parts ≤ i → end ≡ end_of header_end (map seen_part (take i parts)) → end ≡ end_of header_end (map seen_part parts)
-ends_all parts i end last is = is ∙ ap (λ (ps : List Part). end_of header_end (map seen_part ps)) (take_all i parts last)
-
 -- ---- what they come to
 
 pub sound_salvage : (size : ℕ) (c : CutFile) (count : ℕ) (kept : List Part) (a : AreSound c.parts.items count (fault_in c.end)) → kept ≡ take count c.parts.items
-    → cut_salvage size c ≡ sections_met (map seen_part kept) None nothing >>= λ met. Ok (record { met = met; dropped = dropped_at size (end_of header_end (map seen_part kept)) a.end })
+    → cut_salvage size c ≡ sections_met (map seen_part kept) None nothing >>= λ met. Ok (record { met = met; dropped = dropped_at size (place_before c.ends_at (slice_get c.parts.items count)) a.end })
 unfolding cut_salvage
 sound_salvage size c count kept a is =
     let these : List Part → Sections = λ ps. record { sections = map seen_part ps; fault = a.end } in
-    ap (salvage_in size) (a.sound ∙ ap these (sym is))
+    let within = a.within in
+    let many : length (map seen_part kept) ≡ count = length-map kept seen_part ∙ ap length is ∙ length-take-le count c.parts.items within in
+    ap (salvage_kept size c.ends_at c.parts.items) (a.sound ∙ ap these (sym is))
+    ∙ ap (λ (n : ℕ). sections_met (map seen_part kept) None nothing >>= λ met. Ok (let s : Salvage = record { met = met; dropped = dropped_at size (place_before c.ends_at (slice_get c.parts.items n)) a.end } in s)) many
 
 pub salvage_wrong : (size : ℕ) (c : CutFile) (count : ℕ) (kept : List Part) (a : AreSound c.parts.items count (fault_in c.end)) (e : LoadError) → kept ≡ take count c.parts.items
     → sections_met (map seen_part kept) None nothing ≡ Err e → cut_salvage size c ≡ Err e
 salvage_wrong size c count kept a e is wrong =
-    sound_salvage size c count kept a is ∙ ap (λ (r : Result Met LoadError). r >>= λ met. Ok (record { met = met; dropped = dropped_at size (end_of header_end (map seen_part kept)) a.end })) wrong
+    sound_salvage size c count kept a is
+    ∙ ap (λ (r : Result Met LoadError). r >>= λ met. Ok (record { met = met; dropped = dropped_at size (place_before c.ends_at (slice_get c.parts.items count)) a.end })) wrong
 
 -- none is dropped exactly where all were sound and no fault ended them
 dropped_is : (size end count n : ℕ) (are_all : Bool) (last fault : Option SectionError) → are_all ≡ ((count == n) && is_none fault) → count ≤ n → (count ≡ n → last ≡ fault) → (count < n → IsSome last)
@@ -313,14 +325,14 @@ dropped_is size end count n are_all last fault is within all some = elim (cases_
     ended None = refl
     ended (Some x) = refl
 
-pub salvage_met : (size : ℕ) (c : CutFile) (count dropped : ℕ) (are_all : Bool) (kept : List Part) (a : AreSound c.parts.items count (fault_in c.end)) (met : Met) → kept ≡ take count c.parts.items
-    → sections_met (map seen_part kept) None nothing ≡ Ok met → are_all ≡ ((count == length c.parts.items) && is_none (fault_in c.end))
-    → dropped ≡ cond are_all 0 (size - end_of header_end (map seen_part kept)) → cut_salvage size c ≡ Ok (record { met = met; dropped = dropped })
-salvage_met size c count dropped are_all kept a met is so all told =
-    let end = end_of header_end (map seen_part kept) in
+pub salvage_met : (size : ℕ) (c : CutFile) (count place dropped : ℕ) (are_all : Bool) (kept : List Part) (a : AreSound c.parts.items count (fault_in c.end)) (met : Met) → kept ≡ take count c.parts.items
+    → sections_met (map seen_part kept) None nothing ≡ Ok met → are_all ≡ ((count == length c.parts.items) && is_none (fault_in c.end)) → place ≡ place_before c.ends_at (slice_get c.parts.items count)
+    → dropped ≡ cond are_all 0 (size - place) → cut_salvage size c ≡ Ok (record { met = met; dropped = dropped })
+salvage_met size c count place dropped are_all kept a met is so all there told =
+    let end = place_before c.ends_at (slice_get c.parts.items count) in
     sound_salvage size c count kept a is ∙ ap (λ (r : Result Met LoadError). r >>= λ met. Ok (record { met = met; dropped = dropped_at size end a.end })) so
     ∙ ap (λ (n : ℕ). let r : Result Salvage LoadError = Ok (record { met = met; dropped = n }) in r)
-    (sym (told ∙ dropped_is size end count (length c.parts.items) are_all a.end (fault_in c.end) all a.within a.all a.some))
+    (sym (told ∙ ap (λ (n : ℕ). cond are_all 0 (size - n)) there ∙ dropped_is size end count (length c.parts.items) are_all a.end (fault_in c.end) all a.within a.all a.some))
 
 -- ---- a channel's section
 

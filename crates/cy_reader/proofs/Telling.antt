@@ -1,9 +1,10 @@
 -- The parts of the text that tells what a record is.
-use Rattle.std.proofs.Common.{◌≡◌, ◌≤◌, ◌<◌, ℕ, suc, ◌+◌, List, [], ◌∷◌, ◌++◌, length, take, get_or, refl, ap, sym, ◌∙◌, arith, append_assoc, append-nil, length-take, Bool, true, false}
+use Rattle.std.proofs.Common.{◌≡◌, ◌≤◌, ◌<◌, ℕ, suc, ◌+◌, List, [], ◌∷◌, ◌++◌, length, take, get_or, refl, ap, sym, subst, ◌∙◌, arith, append_assoc, append-nil, length-take, Bool, true, false}
 use Rattle.std.specs.Prelude.{map, min, max}
 use Rattle.std.proofs.lemmas.List.{take_more, take_all}
 use Rattle.std.specs.Prelude.{filter, nat_eq, ◌==◌, ◌&&◌, ◌||◌, All, OnOk, Result, Ok, Err, set, cond, Option}
 use Rattle.std.specs.List.{list_any}
+use Rattle.std.specs.HashSet.{HashSet}
 use Rattle.std.proofs.lemmas.List.Folds.{list_any-append}
 use Rattle.std.proofs.lemmas.List.Filters.{length-filter_more}
 use Rattle.std.proofs.lemmas.List.{get_or-set_same, get_or-set_other}
@@ -19,7 +20,7 @@ use Rattle.cy_reader.specs.Heads.{PlacedIndex}
 use Rattle.cy_reader.specs.Record.{Contents, Source, shown}
 use Rattle.cy_reader.specs.private.Loading.{met_of, message_of}
 use Rattle.cy_reader.specs.Info.{least, greatest, numbered, is_head, count_on, channels_of, times_of, counted, channel_line, channel_lines, entry_line, entry_difference, index_differences, file_line, front_lines, index_line, header_differences, index_found, info_text}
-use Rattle.cy_reader.specs.private.Facts.{AreFacts, AreCounts, ArePlaces, counted_line, placed_line, placed_lines}
+use Rattle.cy_reader.specs.private.Facts.{AreFacts, AreCounts, ArePlacesFor, counted_line, placed_line, placed_lines}
 use Rattle.cy_reader.proofs.Playing.{filter-short}
 
 -- a further time
@@ -159,12 +160,12 @@ channels-told w facts are =
     numbered-alike (counted_line facts.counts.items) (λ n known. channel_line known (count_on n (channels_of w.messages))) 0 (length w.channels) w.channels (omega arith)
     (λ k few known. ap (λ n. channel_line known n) (are.counts.each k few))
 
-entries-told : (w : Contents) (facts : Facts) → AreFacts w facts → (found : IndexFound) → placed_lines facts.places found ≡ index_differences w.source.heads found
-entries-told w facts are Absent = refl
-entries-told w facts are Cut = refl
-entries-told w facts are Unreadable = refl
-entries-told w facts are (Present entries) =
-    numbered-alike (placed_line facts.places) (entry_difference w.source.heads) 0 (length entries) entries (omega arith) (λ k few e. ap (λ b. entry_line k e b) (are.places e.position e.kind))
+entries-told : {S : Type 0} (w : Contents) (places : HashSet (ℕ × ℕ) S) (found : IndexFound) → ArePlacesFor found w.source.heads places → placed_lines places found ≡ index_differences w.source.heads found
+entries-told w places Absent are = refl
+entries-told w places Cut are = refl
+entries-told w places Unreadable are = refl
+entries-told w places (Present entries) are =
+    numbered-alike (placed_line places) (entry_difference w.source.heads) 0 (length entries) entries (omega arith) (λ k few e. ap (λ b. entry_line k e b) (are e.position e.kind))
 
 pub info-told : {T E : Type 0} (r : Result T E) (w : Contents) (facts : Facts) (o a b d e f n : List ℕ) → AreFacts w facts → a ≡ o ++ file_line w.source.name w.source.size
     → b ≡ a ++ front_lines w.source.header facts.counted → d ≡ b ++ index_line facts.index → e ≡ d ++ numbered (counted_line facts.counts.items) 0 w.channels
@@ -176,12 +177,12 @@ info-told (Ok x) w facts o a b d e f n are file front index channels header entr
     (channels ∙ ap (λ l. l ++ numbered (counted_line facts.counts.items) 0 w.channels) (index ∙ ap (λ l. l ++ index_line facts.index) (front ∙ ap (λ l. l ++ front_lines w.source.header facts.counted) file))))
     ∙ six o (file_line w.source.name w.source.size) (front_lines w.source.header facts.counted) (index_line facts.index) (numbered (counted_line facts.counts.items) 0 w.channels)
     (header_differences w.source.header facts.counted) (placed_lines facts.places facts.index)
-    ∙ rw (channels-told w facts are, entries-told w facts are facts.index, are.counted, are.index) refl
+    ∙ rw (channels-told w facts are, entries-told w facts.places facts.index are.places, are.counted, are.index) refl
 
 -- what is found of a record that is kept
 pub facts-are : (source : Source) (bodies : List (List ℕ)) (loading : Loading) (facts : Facts) (index : Option PlacedIndex) (heads : List PlacedHead) (channels size : ℕ) (ms : List Message)
     → index ≡ source.index → heads ≡ source.heads → channels ≡ length loading.channels.list.items → ms ≡ loading.messages.items → size ≡ source.size
-    → facts.counted ≡ counted index heads channels (map (λ m. m.time) ms) size → AreCounts (map (λ m. m.channel) ms) channels facts.counts.items → facts.index ≡ index_found index → ArePlaces heads facts.places
+    → facts.counted ≡ counted index heads channels (map (λ m. m.time) ms) size → AreCounts (map (λ m. m.channel) ms) channels facts.counts.items → facts.index ≡ index_found index → ArePlacesFor facts.index heads facts.places
     → AreFacts (shown source (met_of bodies loading)) facts
 facts-are source bodies loading facts index heads channels size ms ei eh ec em es is counts found places = record {
   counted = is ∙ ap (λ (x : Option PlacedIndex). counted x heads channels (map (λ m. m.time) ms) size) ei
@@ -194,7 +195,7 @@ facts-are source bodies loading facts index heads channels size ms ei eh ec em e
     each = λ n few. counts.each n (omega (arith, few, ec)) ∙ ap (λ (x : List ℕ). count_on n x) numbers;
   };
   index = found ∙ ap index_found ei;
-  places = λ position number. places position number ∙ ap (λ (x : List PlacedHead). is_head x position number) eh;
+  places = subst (λ (x : List PlacedHead). ArePlacesFor facts.index x facts.places) eh places;
 }
   where
     times : map (λ m. m.time) ms ≡ times_of (map (message_of bodies) loading.messages.items)

@@ -27,8 +27,8 @@ use Rattle.cy_reader.specs.declared.cutting.CutFile.{CutFile}
 use Rattle.cy_reader.specs.declared.front.Front.{Front}
 use Rattle.cy_reader.specs.private.Cutting.{seen_part, fault_in}
 use Rattle.cy_reader.specs.private.Front.{cut_record, cut_source}
-use Rattle.cy_reader.specs.private.Salvaging.{cut_salvage}
-use Rattle.cy_reader.specs.Salvage.{Salvage, until_fault, dropped_behind}
+use Rattle.cy_reader.specs.private.Salvaging.{place_before, cut_salvage}
+use Rattle.cy_reader.specs.Salvage.{Salvage, until_fault, dropped_at}
 use Rattle.cy_reader.specs.Said.{messages_under, section_messages, names_of, StandOnChannels, IsSaid}
 use Rattle.cy_reader.proofs.Bodies.{then_fault, before_fault}
 use Rattle.cy_reader.proofs.Sums.{position-added}
@@ -384,6 +384,6 @@ pub salvage_named : (size : ℕ) (c : CutFile) (s : Salvage) → cut_salvage siz
 unfolding cut_salvage
 salvage_named size c s h =
     let sound = until_fault (map seen_part c.parts.items) (fault_in c.end) in
-    let made : Met → Salvage = λ met. record { met = met; dropped = dropped_behind size sound } in
+    let made : Met → Salvage = λ met. record { met = met; dropped = dropped_at size (place_before c.ends_at (slice_get c.parts.items (length sound.sections))) sound.fault } in
     let a = bind_ok (sections_met sound.sections None nothing) (λ met. Ok (made met)) s h in
     subst (λ (d : Salvage). StandOnChannels d.met.channels d.met.messages) (ok_is (made a.0) s a.1.1) (met_named sound.sections None a.0 a.1.0)

@@ -17,7 +17,7 @@ use Rattle.cy_reader.specs.declared.error.LoadError.TheVariants.{TooManyPlayed, 
 use Rattle.cy_reader.specs.Record.{Contents, Message, named_only}
 
 -- What a record is played by: the names of the channels in the order of their numbers, the filter,
--- and the numbers of the channels that components write.
+-- and the numbers of the channels that components write and of the tick channels.
 pub record Choice : Type 0 where
   pub names : List (List ℕ)
   pub filter : Filter
@@ -44,8 +44,8 @@ abbrev pub number_at : Contents → Choice → ℕ → ℕ
 number_at whole choice place = number_in choice.names
     (name_of whole (message_at whole place).channel)
 
--- The message at a place passes the filter, and then it is shadowed where a component writes its
--- channel, and played where none does.
+-- The message at a place passes the filter. Then it is shadowed where a component or a timer writes
+-- its channel, and played where none does.
 abbrev pub passes : Contents → Choice → ℕ → Bool
 passes whole choice place =
     lets_channel choice.filter (name_of whole (message_at whole place).channel)

@@ -6,4 +6,5 @@ pub mod Found
 pub mod Front
 pub mod Loading
 pub mod Uses
+pub mod Window
 pub mod Salvaging

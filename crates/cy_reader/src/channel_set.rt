@@ -1,10 +1,11 @@
-// The channels that components write.
+// The channels that components write, and the tick channels.
 ghost use Rattle.std.specs.Prelude.{◌≡◌, ◌==◌};
 ghost use Rattle.std.specs.List.{list_any};
 
 use std::marker::Model;
 
-/// The numbers of the channels that components write, which contracts see as a list.
+/// The numbers of the channels whose messages a record does not give: those that components write,
+/// and the tick channels of timers. Contracts see a list.
 #[derive(Drop)]
 pub struct ChannelSet {
     numbers: Vec<u32>,

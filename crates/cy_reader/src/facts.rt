@@ -6,7 +6,7 @@ ghost use Rattle.std.specs.Option.{option_map};
 ghost use Rattle.cy_reader.specs.private.Kept.{IsPlaced, seen_index};
 ghost use Rattle.cy_reader.specs.Info.{least, greatest, chunk_bodies, index_place, counted};
 ghost use Rattle.cy_reader.specs.Info.{index_found};
-ghost use Rattle.cy_reader.specs.private.Facts.{AreCounts, ArePlaces};
+ghost use Rattle.cy_reader.specs.private.Facts.{AreCounts, ArePlaces, ArePlacesFor};
 
 use crate::LoadError;
 use crate::heads::{KeptIndex, PlacedHead};
@@ -175,10 +175,7 @@ pub(crate) fn index_found(alloc: Global, index: Option<&KeptIndex>) -> Result<In
 }
 
 // The places at which heads stand, each with the number of its section's type.
-pub(crate) fn head_places(
-    alloc: Global,
-    heads: &[PlacedHead],
-) -> Result<HashSet<(u64, u32)>, LoadError>
+fn head_places(alloc: Global, heads: &[PlacedHead]) -> Result<HashSet<(u64, u32)>, LoadError>
     ensures places { IfOk result (ArePlaces heads.now) }
     ensures only_memory { IsOkUnless result LoadError.Memory }
 {
@@ -187,4 +184,19 @@ pub(crate) fn head_places(
         places.insert((head.at, head.kind.number()))?;
     }
     Ok(places)
+}
+
+// The same, where they are compared with the entries of an index: without one they take no memory.
+pub(crate) fn places_for(
+    alloc: Global,
+    index: &IndexFound,
+    heads: &[PlacedHead],
+) -> Result<HashSet<(u64, u32)>, LoadError>
+    ensures places { IfOk result (ArePlacesFor index.now heads.now) }
+    ensures only_memory { IsOkUnless result LoadError.Memory }
+{
+    match index {
+        IndexFound::Present(_) => head_places(alloc, heads),
+        IndexFound::Absent | IndexFound::Cut | IndexFound::Unreadable => Ok(HashSet::new(alloc)),
+    }
 }

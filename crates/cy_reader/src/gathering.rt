@@ -5,7 +5,6 @@ ghost use Rattle.std.specs.List.{flat_map};
 ghost use Rattle.cy_msg.specs.Answer.{AnswersOr};
 ghost use Rattle.cy_wire.specs.Field.{fields_of};
 ghost use Rattle.cy_section.specs.Reading.{messages_of};
-ghost use Rattle.cy_reader.specs.Heads.{section_head};
 ghost use Rattle.cy_reader.specs.Record.{body_met, section_met, sections_met, nothing};
 ghost use Rattle.cy_reader.specs.Record.{longest_file};
 ghost use Rattle.cy_reader.specs.private.Alone.{IsAlone, AreDecoded};
@@ -16,21 +15,28 @@ ghost use Rattle.cy_reader.specs.private.Loading.{IsSound, Leads, met_of};
 use crate::LoadError;
 use crate::cutting::Part;
 use crate::decoding::{Alone, bytes_in, decode};
-use crate::heads::PlacedHead;
 use crate::joining::alone_met;
 use crate::loading::{Body, Loading, Message, body_met, plain_met};
 use crate::sections::SectionView;
 use cy_msg::Bytes;
-use cy_section::{HEAD_SIZE, SectionKind};
+use cy_section::SectionKind;
 use std::alloc::{AllocError, Global};
 use std::thread::Threads;
 
-// A group of sections that are decoded side by side ends once it has so many, the headers of chunks
-// among them, and so many bytes: work enough for all threads, and little beside what a large file
-// has. What is known of its bodies by themselves stands in memory until they are joined.
+// A group of sections that are decoded side by side ends once it has so many and so many bytes:
+// work enough for all threads, and little beside what a large file has. However few bytes it has,
+// it ends once it has very many sections. What is known of its bodies by themselves is in memory
+// until they are joined.
 const GROUP_SECTIONS: usize = 64;
 
 const GROUP_BYTES: usize = 8_388_608;
+
+const MOST_IN_GROUP: usize = 4_096;
+
+// Whether a group of so many sections and bytes ends.
+fn is_group(sections: usize, bytes: usize) -> bool {
+    sections >= MOST_IN_GROUP || (sections >= GROUP_SECTIONS && bytes >= GROUP_BYTES)
+}
 
 // A section, where its bytes lie in memory.
 fn view_of(part: &Part) -> SectionView<'_>
@@ -202,7 +208,7 @@ fn groups_of(alloc: Global, parts: Vec<Part>) -> Result<Vec<Vec<Part>>, AllocErr
     for part in parts {
         bytes = bytes.saturating_add(part.body.as_slice().len());
         group.push(part)?;
-        if group.len() >= GROUP_SECTIONS && bytes >= GROUP_BYTES {
+        if is_group(group.len(), bytes) {
             groups.push(group)?;
             group = Vec::new(alloc);
             bytes = 0;
@@ -247,26 +253,4 @@ pub(crate) fn parts_met<R: Threads + Sync>(
         expect_more(&mut loading.messages, done, all.saturating_sub(done));
     }
     Ok((bodies, loading))
-}
-
-// The heads of the header and of sections.
-pub(crate) fn heads_in(
-    alloc: Global,
-    first: PlacedHead,
-    parts: &[Part],
-) -> Result<Vec<PlacedHead>, LoadError>
-    ensures heads { IfOk result (λ v. v.items
-        ≡ first ∷ map section_head (map seen_part parts.now)) }
-    ensures only_memory { IsOkUnless result LoadError.Memory }
-{
-    let mut heads = Vec::new(alloc);
-    heads.push(first)?;
-    for part in parts {
-        heads.push(PlacedHead {
-            at: part.body_at.saturating_sub(HEAD_SIZE as u64),
-            kind: part.kind,
-            size: part.body.as_slice().len() as u64,
-        })?;
-    }
-    Ok(heads)
 }

@@ -29,6 +29,7 @@ mod play;
 mod record;
 mod salvage;
 mod sections;
+mod window;
 
 pub use channel_set::ChannelSet;
 pub use error::LoadError;

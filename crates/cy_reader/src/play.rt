@@ -197,10 +197,10 @@ fn tokens_of(
 }
 
 impl Record {
-    /// The messages that are played by a filter, where components write some channels. Messages
-    /// stand in the order of their times, and equal times in file order; each channel's are
-    /// numbered from 1. A message that passes the filter and stands on a channel that a component
-    /// writes is not played, and counted as shadowed. More than 4,194,304 to be played are
+    /// The messages that a filter lets through, in the order of their times, and equal times in
+    /// file order. The messages of each channel are numbered from 1. `written` has the channels
+    /// that components write and the tick channels: a message on one of them that passes the
+    /// filter is not played, and counted as shadowed. More than 4,194,304 to be played are
     /// `TooManyPlayed`; there is no other error but `Memory`. Every channel of the record stands in
     /// `names`.
     pub fn play_list(

@@ -12,9 +12,9 @@ ghost use Rattle.cy_reader.specs.Load.{FileAnswer, LoadAnswer};
 ghost use Rattle.cy_reader.specs.Play.{message_at, time_at};
 
 use crate::cutting::{CutFile, cut_file};
-use crate::facts::{Facts, channel_counts, count_parts, head_places, index_found};
+use crate::facts::{Facts, channel_counts, count_parts, index_found, places_for};
 use crate::front::{Front, front_of};
-use crate::gathering::{heads_in, parts_met};
+use crate::gathering::parts_met;
 use crate::header::LONGEST_FILE;
 use crate::heads::{Heads, KeptIndex, PlacedHead, heads_of, push_index};
 use crate::loading::{Loading, parts_of};
@@ -108,8 +108,12 @@ fn record_of_cut<R: Threads + Sync>(
     ensures record { AnswersOr LoadError.Memory (λ r. r) result (cut_record name.now front cut) }
     ensures not_store { IfErr result (λ e. e ≢ LoadError.Store) }
 {
-    let CutFile { parts, end } = cut;
-    let mut heads = heads_in(alloc, front.head, parts.as_slice())?;
+    let CutFile {
+        mut heads,
+        parts,
+        end,
+        ends_at: _,
+    } = cut;
     let (bodies, loading) = parts_met(rt, alloc, parts)?;
     let index = end?;
     push_index(&mut heads, index.as_ref())?;
@@ -125,11 +129,11 @@ fn record_of_cut<R: Threads + Sync>(
     })
 }
 
-/// Reads the record of a name, section by section: heads of 16 bytes, and bodies in pieces of at
-/// most 1,048,576 bytes. Nothing is reserved or read for a section that is too long or that the
-/// file ends before. It keeps the bodies of the chunks and of the index, beside 24 bytes a message
-/// and 24 bytes a section. Once all is read, long bodies are decoded side by side, on threads that
-/// wait for nobody.
+/// Reads the record of a name, section by section: small ones many at a time, and longer bodies in
+/// pieces of at most 1,048,576 bytes. Each byte is read once. Nothing is reserved for a section that
+/// is too long or that the file ends before, and at most 65,536 bytes are read ahead of a section.
+/// It keeps the bodies of the chunks and of the index, beside 24 bytes a message and 24 bytes a
+/// section. Once all is read, long bodies are decoded side by side, on threads that wait for nobody.
 pub fn load<S: Store, R: Threads + Sync>(
     rt: &R,
     alloc: Global,
@@ -139,7 +143,7 @@ pub fn load<S: Store, R: Threads + Sync>(
     ensures { LoadAnswer (S.shows store.old) (S.shows store.new) name.now result }
 {
     let front = front_of(alloc, store, name)?;
-    let cut = cut_file(alloc, store, name, front.size)?;
+    let cut = cut_file(alloc, store, name, front.size, &[front.head])?;
     record_of_cut(rt, alloc, name, front, cut)
 }
 
@@ -220,11 +224,14 @@ impl Record {
         let channels = self.loading.channels.list.len();
         let heads = self.heads.as_slice();
         let index = self.index.as_ref();
+        let counts = channel_counts(alloc, messages, channels)?;
+        let found = index_found(alloc, index)?;
+        let places = places_for(alloc, &found, heads)?;
         Ok(Facts {
             counted: count_parts(channels, messages, heads, index, self.size),
-            counts: channel_counts(alloc, messages, channels)?,
-            index: index_found(alloc, index)?,
-            places: head_places(alloc, heads)?,
+            counts,
+            index: found,
+            places,
         })
     }
 

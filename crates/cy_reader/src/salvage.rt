@@ -1,14 +1,13 @@
 // Reads what stands in a record's file before its first fault.
-ghost use Rattle.std.specs.Prelude.{◌≡◌, ◌≢◌, ◌≤◌, ◌+◌, ◌-◌, if◌then◌else◌, length, map, All};
+ghost use Rattle.std.specs.Prelude.{◌≡◌, ◌≢◌, ◌≤◌, ◌+◌, ◌-◌, if◌then◌else◌, length, slice_get, All};
 ghost use Rattle.std.specs.Prelude.{true, ◌==◌, ◌&&◌, is_some, is_none, IfOk, IfErr, IfSome};
 ghost use Rattle.std.specs.Prelude.{IsOkUnless};
 ghost use Rattle.cy_msg.specs.Answer.{Answers, AnswersOr};
-ghost use Rattle.cy_reader.specs.Heads.{end_of};
-ghost use Rattle.cy_reader.specs.Record.{file_header, header_end, longest_file};
+ghost use Rattle.cy_reader.specs.Record.{file_header, longest_file};
 ghost use Rattle.cy_reader.specs.Salvage.{own_fault, is_unreadable, if_usable, SalvageAnswer};
 ghost use Rattle.cy_reader.specs.private.Cutting.{seen_part, fault_in, AreWithin};
 ghost use Rattle.cy_reader.specs.private.Salvaging.{AreJudged, AreSound, IsJudged};
-ghost use Rattle.cy_reader.specs.private.Salvaging.{SizeAnswer, cut_salvage};
+ghost use Rattle.cy_reader.specs.private.Salvaging.{SizeAnswer, cut_salvage, place_before};
 ghost use Rattle.cy_section.specs.declared.error.SectionError.{SectionError as SectionFault};
 ghost use Rattle.std.specs.Prelude.{Option};
 
@@ -21,7 +20,8 @@ use crate::loading::{Loading, read_out};
 use crate::{LoadError, Loaded};
 use cy_msg::Bytes;
 use cy_section::{
-    HEADER_SIZE, MessageReader, SectionError, SectionKind, read_channel, read_chunk_header,
+    HEAD_SIZE, HEADER_SIZE, MessageReader, SectionError, SectionKind, read_channel,
+    read_chunk_header,
 };
 use cy_store::{Store, read_range};
 use rayon::prelude::*;
@@ -189,28 +189,24 @@ fn sound_count<R: Threads + Sync>(rt: &R, alloc: Global, parts: &[Part]) -> Resu
     Ok(parts.len())
 }
 
-// The place behind sections, which follow the header.
-fn end_of(parts: &[Part]) -> u64
-    requires { All (λ p. p.body_at + length p.body ≤ longest_file) parts.now }
-    ensures { result ≡ end_of header_end (map seen_part parts.now) }
+// The place behind the sections before one of those that are kept, or where all end.
+fn place_before(parts: &[Part], count: usize, end: u64) -> u64
+    ensures { result ≡ place_before end (slice_get parts.now count) }
 {
-    let mut end = HEADER_SIZE as u64;
-    for part in parts {
-        end = part.body_at + part.body.as_slice().len() as u64;
+    match parts.get(count) {
+        Some(part) => part.body_at.saturating_sub(HEAD_SIZE as u64),
+        None => end,
     }
-    end
 }
 
-// How many bytes of a file of this size are dropped behind sections, unless they are all.
-fn dropped_behind(parts: &[Part], size: u64, are_all: bool) -> u64
-    requires { All (λ p. p.body_at + length p.body ≤ longest_file) parts.now }
-    ensures { result
-        ≡ (if are_all then 0 else size - end_of header_end (map seen_part parts.now)) }
+// How many bytes of a file of this size are dropped from a place on, unless none are.
+fn dropped_from(place: u64, size: u64, are_all: bool) -> u64
+    ensures { result ≡ (if are_all then 0 else size - place) }
 {
     if are_all {
         return 0;
     }
-    size.saturating_sub(end_of(parts))
+    size.saturating_sub(place)
 }
 
 // Whether sections that end so are all sound.
@@ -232,12 +228,18 @@ fn salvaged_of<R: Threads + Sync>(
     ensures salvaged { AnswersOr LoadError.Memory (λ s. s) result (cut_salvage size cut) }
     ensures not_store { IfErr result (λ e. e ≢ LoadError.Store) }
 {
-    let CutFile { mut parts, end } = cut;
+    let CutFile {
+        heads,
+        mut parts,
+        end,
+        ends_at,
+    } = cut;
+    drop(heads);
     let count = sound_count(rt, alloc, &parts)?;
     let are_all = is_whole(count, &parts, &end);
     drop(end);
+    let dropped = dropped_from(place_before(&parts, count, ends_at), size, are_all);
     parts.truncate(count);
-    let dropped = dropped_behind(&parts, size, are_all);
     let (bodies, loading) = parts_met(rt, alloc, parts)?;
     Ok(Salvaged {
         bodies,
@@ -261,6 +263,6 @@ pub fn salvage_record<S: Store, R: Threads + Sync>(
     ensures { SalvageAnswer (S.shows store.old) (S.shows store.new) name.now result }
 {
     let size = usable_size(alloc, store, name)?;
-    let cut = cut_file(alloc, store, name, size)?;
+    let cut = cut_file(alloc, store, name, size, &[])?;
     salvaged_of(rt, alloc, size, cut)
 }

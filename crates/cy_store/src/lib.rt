@@ -24,7 +24,7 @@ mod whole;
 pub use error::{SinkError, StoreError};
 pub use memory::MemStore;
 pub use memory_sink::MemSink;
-pub use range::read_range;
+pub use range::{fill, read_range};
 pub use real::RealStore;
 pub use real_sink::RealSink;
 pub use sink::Sink;

@@ -24,9 +24,10 @@ fn read_piece<S: Store>(
     store.read_at(name, at, &mut rest[..size])
 }
 
-// Reads a file from a place on until the buffer is full or the file ends, and says how many bytes
-// it read. It reads at least once, so that a name that is not there fails for an empty buffer too.
-pub(crate) fn fill<S: Store>(
+/// Reads a file from a place on until the buffer is full or the file ends, in pieces of at most
+/// 1,048,576 bytes, and answers how many bytes it read. It reads at least once, so that a name that
+/// is not there fails for an empty buffer too.
+pub fn fill<S: Store>(
     store: &mut S,
     name: &str,
     at: u64,

@@ -82,6 +82,36 @@ fn recovers_what_stands_before_each_cut(rt: HostRuntime) -> Result<(), Fail> {
     Ok(())
 }
 
+// Sections of a chunk's header and chunks without a byte of their own say nothing, and stand whole.
+#[test]
+fn drops_what_stands_behind_sections_that_say_nothing(rt: HostRuntime) -> Result<(), Fail> {
+    let header = b"\x01\0\0\0\0\0\0\0\0\0\0\0\0\0\0\0".as_slice();
+    let chunk = b"\x02\0\0\0\0\0\0\0\0\0\0\0\0\0\0\0".as_slice();
+    let faulty = b"\x01\0\0\0\0\0\0\0\x01\0\0\0\0\0\0\0\x0b".as_slice();
+    let unknown = b"\x09\0\0\0\0\0\0\0\0\0\0\0\0\0\0\0".as_slice();
+    for (rest, dropped) in [
+        ([header, chunk, header], 0),
+        ([header, chunk, faulty], 17),
+        ([header, faulty, chunk], 33),
+        ([faulty, header, chunk], 49),
+        ([chunk, header, unknown], 16),
+        ([chunk, unknown, faulty], 33),
+        ([faulty, unknown, chunk], 49),
+    ] {
+        // Two messages stand in front of these sections.
+        let mut bytes = two_channels(rt.alloc())?;
+        bytes.truncate(2_182);
+        for part in rest {
+            bytes.extend_from_slice(part)?;
+        }
+        let mut store = store_of(rt.alloc(), &bytes)?;
+        let made = recover(&rt, rt.alloc(), &mut store, IN, OUT);
+        assert_eq!(rt; made, Ok(Recovered { messages: 2, dropped }), "{dropped}");
+        assert_eq!(rt; written(&store), Some(2_271), "{dropped}");
+    }
+    Ok(())
+}
+
 #[test]
 fn recovers_the_record_that_was_cut(rt: HostRuntime) -> Result<(), Fail> {
     let bytes = two_channels(rt.alloc())?;

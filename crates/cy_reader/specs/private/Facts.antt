@@ -1,5 +1,5 @@
 -- What is found of a record before its text is made.
-use Rattle.std.specs.Prelude.{◌≡◌, ℕ, ◌<◌, nat_eq, ◌&&◌, Bool, List, [], length, slice_index_or}
+use Rattle.std.specs.Prelude.{◌≡◌, ⊤, ℕ, ◌<◌, nat_eq, ◌&&◌, Bool, List, [], length, slice_index_or}
 use Rattle.std.specs.HashSet.{HashSet, contains_by}
 use Rattle.cy_section.specs.declared.types.IndexEntry.{IndexEntry}
 use Rattle.cy_reader.specs.declared.known.Known.{Known}
@@ -30,6 +30,11 @@ abbrev pub ArePlaces : {S : Type 0} → List PlacedHead → HashSet (ℕ × ℕ)
 ArePlaces heads places = (position number : ℕ)
     → has_head places position number ≡ is_head heads position number
 
+-- They are needed where there are entries of an index to compare with them.
+abbrev pub ArePlacesFor : {S : Type 0} → IndexFound → List PlacedHead → HashSet (ℕ × ℕ) S → Type 0
+ArePlacesFor (Present entries) heads places = ArePlaces heads places
+ArePlacesFor other heads places = ⊤
+
 -- The line of an entry of the index, by its number and by the places; and all of them.
 abbrev pub placed_line : {S : Type 0} → HashSet (ℕ × ℕ) S → ℕ → IndexEntry → List ℕ
 placed_line places n e = entry_line n e (has_head places e.position e.kind)
@@ -43,4 +48,4 @@ pub record AreFacts (c : Contents) (facts : Facts) : Type 0 where
   pub counted : facts.counted ≡ counted_of c
   pub counts : AreCounts (channels_of c.messages) (length c.channels) facts.counts.items
   pub index : facts.index ≡ index_found c.source.index
-  pub places : ArePlaces c.source.heads facts.places
+  pub places : ArePlacesFor facts.index c.source.heads facts.places

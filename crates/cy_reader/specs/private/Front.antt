@@ -1,5 +1,5 @@
 -- What is read of the front of a record's file, before its sections.
-use Rattle.std.specs.Prelude.{◌≡◌, ◌≤◌, ℕ, List, length, map, ◌∷◌, ◌++◌, Option, None, Result}
+use Rattle.std.specs.Prelude.{◌≡◌, ◌≤◌, ℕ, List, length, map, ◌++◌, Option, None, Result}
 use Rattle.std.specs.Prelude.{Ok, Err, IfOk, IfErr, IsErrOf}
 use Rattle.std.specs.Option.{option_map}
 use Rattle.cy_store.specs.Files.{Holds}
@@ -10,7 +10,7 @@ use Rattle.cy_reader.specs.declared.error.LoadError.TheVariants.{Store}
 use Rattle.cy_reader.specs.declared.cutting.CutFile.{CutFile}
 use Rattle.cy_reader.specs.declared.front.Front.{Front}
 use Rattle.cy_reader.specs.declared.heads.KeptIndex.{KeptIndex}
-use Rattle.cy_reader.specs.Heads.{PlacedIndex, header_head, section_head, index_head}
+use Rattle.cy_reader.specs.Heads.{PlacedIndex, header_head, index_head}
 use Rattle.cy_reader.specs.Load.{IsRefusal}
 use Rattle.cy_reader.specs.Record.{◌>>=◌, Contents, Source, file_header, header_end, longest_file}
 use Rattle.cy_reader.specs.Record.{sections_met, nothing, shown}
@@ -41,7 +41,7 @@ cut_source name f c = record {
   name = name;
   size = f.size;
   header = f.header;
-  heads = (f.head ∷ map section_head (map seen_part c.parts.items)) ++ index_head (index_in c.end);
+  heads = c.heads.items ++ index_head (index_in c.end);
   index = index_in c.end;
 }
 

@@ -1,6 +1,7 @@
 -- What is salvaged of the sections that were read.
-use Rattle.std.specs.Prelude.{◌≡◌, ◌⊎◌, ◌<◌, ◌≤◌, ℕ, Bool, List, length, map, take, Option}
-use Rattle.std.specs.Prelude.{is_some, Result, Ok, Err, IfOk, IfErr, IfSome, IsErrOf, IsSome}
+use Rattle.std.specs.Prelude.{◌≡◌, ◌⊎◌, ◌<◌, ◌≤◌, ℕ, ◌-◌, Bool, List, length, map, take, Option, Some, None}
+use Rattle.std.specs.Prelude.{is_some, slice_get, Result, Ok, Err, IfOk, IfErr, IfSome, IsErrOf}
+use Rattle.std.specs.Prelude.{IsSome}
 use Rattle.std.specs.List.{AllZip}
 use Rattle.cy_store.specs.Files.{Holds}
 use Rattle.cy_store.specs.Store.{StoreView, HasCauses}
@@ -9,8 +10,10 @@ use Rattle.cy_reader.specs.declared.error.LoadError.{LoadError}
 use Rattle.cy_reader.specs.declared.error.LoadError.TheVariants.{Store, Memory}
 use Rattle.cy_reader.specs.declared.cutting.Part.{Part}
 use Rattle.cy_reader.specs.declared.cutting.CutFile.{CutFile}
-use Rattle.cy_reader.specs.Record.{file_header, header_end, longest_file}
-use Rattle.cy_reader.specs.Salvage.{Salvage, own_fault, until_fault, if_usable, salvage_in}
+use Rattle.cy_reader.specs.Record.{◌>>=◌, file_header, header_end, longest_file, sections_met}
+use Rattle.cy_reader.specs.Record.{nothing}
+use Rattle.cy_reader.specs.Sections.{Sections}
+use Rattle.cy_reader.specs.Salvage.{Salvage, own_fault, until_fault, if_usable, dropped_at}
 use Rattle.cy_reader.specs.Salvage.{salvage_of}
 use Rattle.cy_reader.specs.private.Cutting.{seen_part, fault_in}
 
@@ -41,6 +44,20 @@ pub record SizeAnswer (old new : StoreView) (name : List ℕ) (result : Result �
     pub same : new.files ≡ old.files
     pub causes : HasCauses (IsErrOf result Store) old new name
 
+-- The place behind the sections before a part that is kept, or where all end, where there is none.
+abbrev pub place_before : ℕ → Option Part → ℕ
+place_before end None = end
+place_before end (Some p) = p.body_at - 16
+
 -- What is salvaged of a file of this size that was cut into sections.
+abbrev pub salvage_kept : ℕ → ℕ → List Part → Sections → Result Salvage LoadError
+salvage_kept size end parts sound = sections_met sound.sections None nothing >>= λ met.
+    Ok (record {
+      met = met;
+      dropped = dropped_at size (place_before end (slice_get parts (length sound.sections)))
+          sound.fault;
+    })
+
 unfoldable pub cut_salvage : ℕ → CutFile → Result Salvage LoadError
-cut_salvage size c = salvage_in size (until_fault (map seen_part c.parts.items) (fault_in c.end))
+cut_salvage size c = salvage_kept size c.ends_at c.parts.items
+    (until_fault (map seen_part c.parts.items) (fault_in c.end))

@@ -258,8 +258,81 @@ fn reads_nothing_of_a_section_that_is_too_long_or_cut(rt: HostRuntime) -> Result
         let mut store = noting(rt.alloc(), bytes.as_slice())?;
         let answer = load(&rt, rt.alloc(), &mut store, "in.rec").err();
         assert_eq!(rt; answer, Some(LoadError::Section(fault)));
-        // The header's section, and the head.
+        // The header's section, and the head: nothing is read ahead of the first one.
         assert_eq!(rt; store.lent, 2_080);
+    }
+    Ok(())
+}
+
+// So many sections of a chunk's header, which have no byte of their own.
+fn empty_sections(alloc: Global, count: usize) -> Result<Vec<u8>, Fail> {
+    let mut bytes = Vec::new(alloc);
+    for _ in 0..count {
+        bytes.extend_from_slice(b"\x01\0\0\0\0\0\0\0\0\0\0\0\0\0\0\0")?;
+    }
+    Ok(bytes)
+}
+
+// What is read ahead begins with 16 bytes and doubles up to 65,536.
+#[test]
+fn reads_many_small_sections_at_once(rt: HostRuntime) -> Result<(), Fail> {
+    let alloc = rt.alloc();
+    let mut bytes = behind_header(alloc, b"", 2_064)?;
+    bytes.extend_from_slice(empty_sections(alloc, 12_000)?.as_slice())?;
+    let mut store = noting(alloc, bytes.as_slice())?;
+    let record = load(&rt, alloc, &mut store, "in.rec")?;
+    assert_eq!(rt; record.messages(), 0);
+    assert_eq!(rt; store.longest, 65_536);
+    assert_eq!(rt; store.lent, bytes.len() as u64);
+    // The header, twelve pieces that double, and two for the other 126,480 bytes.
+    assert_eq!(rt; store.reads, 15);
+    Ok(())
+}
+
+// A body has 314 bytes for each message: 52 of them are read with the sections behind them, and 53
+// by themselves.
+#[test]
+fn agrees_with_the_reading_whole_on_bodies_of_each_length(rt: HostRuntime) -> Result<(), Fail> {
+    let alloc = rt.alloc();
+    for (empty, messages) in [
+        (0, 1),
+        (0, 52),
+        (0, 53),
+        (0, 210),
+        (1, 52),
+        (1, 53),
+        (7, 1),
+        (7, 210),
+        (300, 52),
+        (300, 53),
+        (300, 210),
+    ] {
+        let mut bytes = behind_header(alloc, b"", 2_064)?;
+        bytes.extend_from_slice(empty_sections(alloc, empty)?.as_slice())?;
+        bytes.extend_from_slice(numbered_chunk(alloc, 0, messages)?.as_slice())?;
+        bytes.extend_from_slice(empty_sections(alloc, 2)?.as_slice())?;
+        bytes.extend_from_slice(numbered_chunk(alloc, 0, 1)?.as_slice())?;
+        assert_eq!(rt; answers(&rt, alloc, bytes.as_slice())?, None, "{empty} {messages}");
+        let mut store = noting(alloc, bytes.as_slice())?;
+        let record = load(&rt, alloc, &mut store, "in.rec")?;
+        assert_eq!(rt; u64::from(record.messages()), messages + 1, "{empty} {messages}");
+        assert_eq!(rt; store.lent, bytes.len() as u64, "{empty} {messages}");
+    }
+    Ok(())
+}
+
+// A faulty chunk header stands behind sections that say nothing, and in front of a message.
+#[test]
+fn answers_the_fault_of_a_small_section(rt: HostRuntime) -> Result<(), Fail> {
+    let alloc = rt.alloc();
+    for empty in [0, 1, 40] {
+        let mut bytes = behind_header(alloc, b"", 2_064)?;
+        bytes.extend_from_slice(empty_sections(alloc, empty)?.as_slice())?;
+        let at = bytes.len() as u64 + 16;
+        bytes.extend_from_slice(b"\x01\0\0\0\0\0\0\0\x01\0\0\0\0\0\0\0\x0b")?;
+        bytes.extend_from_slice(numbered_chunk(alloc, 0, 1)?.as_slice())?;
+        let fault = LoadError::Section(SectionError::Wire { at });
+        assert_eq!(rt; answers(&rt, alloc, bytes.as_slice())?, Some(fault), "{empty}");
     }
     Ok(())
 }

@@ -5,7 +5,7 @@ use Rattle.cy_reader.proofs.record.record_of_cut.Goals as goal
 
 pub returns-in_err-bodies-clause-record : goal.returns-in_err-bodies-clause-record
 returns-in_err-bodies-clause-record g c =
-    let p = err_from_is_err_and c.from_residual-in_err-bodies.result c.from_residual-in_err-bodies.ensures.1 in
+    let p = err_from_is_err_and c.from_residual.result c.from_residual.ensures.1 in
     rw (p.1, p.2) (elim c.in_err-bodies.ensures.met [
       | inl memory ↦ inl memory
       | inr wrong ↦ inr (cut_wrong c.args.name.now c.args.front c.args.cut _ wrong)

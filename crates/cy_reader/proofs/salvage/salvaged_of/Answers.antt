@@ -1,11 +1,9 @@
-use Rattle.std.proofs.Common.{◌-◌, ◌∙◌, List, length, map, ap, subst, cond, inl, inr}
-use Rattle.std.specs.Prelude.{◌==◌, ◌&&◌, is_none}
+use Rattle.std.proofs.Common.{◌∙◌, List, length, ap, subst, inl, inr}
+use Rattle.std.specs.Prelude.{◌==◌, ◌&&◌, is_none, slice_get}
 use Rattle.std.proofs.lemmas.Result.{err_from_is_err_and}
 use Rattle.cy_reader.specs.declared.cutting.Part.{Part}
-use Rattle.cy_reader.specs.Heads.{end_of}
-use Rattle.cy_reader.specs.Record.{header_end}
-use Rattle.cy_reader.specs.private.Cutting.{seen_part, fault_in}
-use Rattle.cy_reader.specs.private.Salvaging.{AreSound}
+use Rattle.cy_reader.specs.private.Cutting.{fault_in}
+use Rattle.cy_reader.specs.private.Salvaging.{AreSound, place_before}
 use Rattle.cy_reader.proofs.Salvaging.{salvage_wrong, salvage_met}
 use Rattle.cy_reader.proofs.salvage.salvaged_of.Goals as goal
 
@@ -23,7 +21,7 @@ pub returns-clause-salvaged : goal.returns-clause-salvaged
 returns-clause-salvaged g c =
     let sound : AreSound c.args.cut.parts.items c.in_ok-count.count (fault_in c.args.cut.end) =
     subst (λ (ps : List Part). AreSound ps c.in_ok-count.count (fault_in c.args.cut.end)) c.deref.ensures.value (c.in_ok-count.ensures.sound (fault_in c.args.cut.end)) in
-    salvage_met c.args.size c.args.cut c.in_ok-count.count c.dropped_behind-dropped.result c.is_whole-are_all.result c.truncate.new.self.items sound _
+    salvage_met c.args.size c.args.cut c.in_ok-count.count c.place_before.result c.dropped_from-dropped.result c.is_whole-are_all.result c.truncate.new.self.items sound _
     c.truncate.ensures.items c.in_ok-bodies.ensures.met
     (c.is_whole-are_all.ensures ∙ ap (λ (ps : List Part). (c.in_ok-count.count == length ps) && is_none (fault_in c.args.cut.end)) c.deref-2.ensures.value)
-    (c.dropped_behind-dropped.ensures ∙ ap (λ (ps : List Part). cond c.is_whole-are_all.result 0 (c.args.size - end_of header_end (map seen_part ps))) c.deref-3.ensures.value)
+    (c.place_before.ensures ∙ ap (λ (ps : List Part). place_before c.args.cut.ends_at (slice_get ps c.in_ok-count.count)) c.deref-3.ensures.value) c.dropped_from-dropped.ensures
