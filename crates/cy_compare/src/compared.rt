@@ -141,4 +141,8 @@ impl<S: Store, K: Known> Store for Compared<'_, S, K> {
         }
         Err(StoreError::Memory)
     }
+
+    fn same(&mut self, name: &str, other: &str) -> bool {
+        name == other
+    }
 }

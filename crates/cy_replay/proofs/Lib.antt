@@ -1,6 +1,7 @@
 pub mod Coming
 pub mod Configs
 pub mod Counting
+pub mod FirstFound
 pub mod Fitting
 pub mod Joined
 pub mod Judged

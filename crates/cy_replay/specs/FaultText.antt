@@ -21,6 +21,7 @@ fault_text (fault.TooMany count) = limit_text (codes "TooMany") count
 fault_text (fault.TraceTooLarge count) = limit_text (codes "TraceTooLarge") count
 fault_text (fault.BadLine line) = codes "line " ++ decimal line ++ codes ": Bad"
 fault_text fault.Unlawful = codes "not a lawful run"
+fault_text (fault.Also name) = codes "is also " ++ name
 fault_text (fault.Differs place) = codes "differs at " ++ decimal place
 
 abbrev pub is_limit : Fault → Bool
@@ -34,6 +35,7 @@ is_limit (fault.TooMany count) = true
 is_limit (fault.TraceTooLarge count) = true
 is_limit (fault.BadLine line) = false
 is_limit fault.Unlawful = false
+is_limit (fault.Also name) = false
 is_limit (fault.Differs place) = false
 
 -- The line that tells it of its file.

@@ -1,4 +1,5 @@
 pub mod private
+pub mod Apart
 pub mod Comes
 pub mod Configuration
 pub mod FaultText

@@ -51,6 +51,11 @@ pub enum Fault {
     },
     /// No lawful run has a trace.
     Unlawful,
+    /// A file that is to be written is also one that is read or written under another name.
+    Also {
+        /// This name.
+        name: Text,
+    },
     /// A record is another than that of a run.
     Differs {
         /// The first place, from 0, at which it differs.
@@ -65,6 +70,14 @@ fn push_bad_line(to: &mut Vec<u8>, line: u32) -> Result<(), AllocError>
 {
     push_number(to, "line ", u64::from(line))?;
     to.extend_from_slice(b": Bad")
+}
+
+// The text that a file is also another one, at the end of others.
+fn push_also(to: &mut Vec<u8>, name: &str) -> Result<(), AllocError>
+    ensures { OnOk result (to.new.items ≡ to.old.items ++ (codes "is also " ++ name.now)) }
+{
+    to.extend_from_slice(b"is also ")?;
+    to.extend_from_slice(name.as_bytes())
 }
 
 impl Fault {
@@ -83,6 +96,7 @@ impl Fault {
             Fault::TraceTooLarge { count } => push_limit(to, "TraceTooLarge", *count),
             Fault::BadLine { line } => push_bad_line(to, *line),
             Fault::Unlawful => to.extend_from_slice(b"not a lawful run"),
+            Fault::Also { name } => push_also(to, name.as_str()),
             Fault::Differs { place } => push_number(to, "differs at ", *place),
         }
     }
@@ -102,6 +116,7 @@ impl Fault {
             Fault::TraceTooLarge { .. } => true,
             Fault::BadLine { .. } => false,
             Fault::Unlawful => false,
+            Fault::Also { .. } => false,
             Fault::Differs { .. } => false,
         }
     }

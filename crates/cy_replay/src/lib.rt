@@ -4,10 +4,11 @@
 //! `specs/Configuration` what the configuration files come to, `specs/Passing` what stands in their
 //! place where one component passes messages on, `specs/Wiring` what wiring components does,
 //! `specs/Stops` what stop it has, `specs/Comes` what a call answers that reads files,
-//! `specs/FaultText` how a file that is refused is told. `specs/TraceFile` says which texts of
-//! traces are read.
+//! `specs/FaultText` how a file that is refused is told. `specs/Apart` says that a file which is
+//! written is none of those that are read, `specs/TraceFile` which texts of traces are read.
 #![tactic(auto)]
 
+mod apart;
 mod configuration;
 mod counts;
 mod error;
@@ -20,6 +21,7 @@ mod text;
 mod trace_file;
 mod wiring;
 
+pub use apart::{STANDARD_OUTPUT, files_read, test_apart};
 pub use configuration::Configuration;
 pub use error::{Fault, Refusal, SetupError, failed, refused};
 pub use listing::read_record;

@@ -1,6 +1,8 @@
 -- What a store and a sink show of themselves, and the causes of their faults.
 use Rattle.std.specs.Prelude.{ℕ, ◌≡◌, ◌≤◌, ◌<◌, ◌+◌, ◌-◌, ◌^◌, ◌⊎◌, ◌++◌, ⊤, min, List, length}
-use Rattle.std.specs.Prelude.{take, drop, Option, None, Result, IfOk, OnOk, OnErr, IsErrOf}
+use Rattle.std.specs.Prelude.{take, drop, Option, None, Result, IfOk, IfSome, OnOk, OnErr, IsErrOf}
+use Rattle.std.specs.Prelude.{Bool}
+use Rattle.std.specs.Str.{bytes_eq}
 use Rattle.std.specs.Option.{option_map}
 use Rattle.cy_store.specs.Files.{Files, Holds, Lacks}
 use Rattle.cy_store.specs.Write.{Create, Put, after_write, LeavesIn}
@@ -118,6 +120,12 @@ pub record PutAnswer {T : Type 0} (old new : StoreView) (name : List ℕ) (at : 
   pub torn : IsErrOf result store_error.Failed → LeavesIn (Put name at bytes) old.files new.files
   pub memory : IsErrOf result store_error.Memory → new.files ≡ old.files
   pub cause : HasCause old new name result
+
+-- What `same` answers: of a store that tells its files, whether the names are equal. The store is as
+-- it was.
+pub record SameAnswer (old new : StoreView) (name other : List ℕ) (result : Bool) : Type 0 where
+  pub same : new ≡ old
+  pub told : IfSome old.files (λ _. result ≡ bytes_eq name other)
 
 -- What `write` leaves: all bytes behind those that were written; after Failed a prefix of them; and
 -- without memory none.

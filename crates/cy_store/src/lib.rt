@@ -11,6 +11,7 @@
 //! no content, since no clause knows what the machine holds.
 #![tactic(auto)]
 
+mod alike;
 mod error;
 mod memory;
 mod memory_sink;

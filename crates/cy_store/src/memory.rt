@@ -6,6 +6,7 @@ ghost use Rattle.std.specs.FinMap.{get, insert};
 ghost use Rattle.cy_store.specs.Files.{Holds};
 ghost use Rattle.cy_store.specs.Write.{Create, Put, after_write, written_at, LeavesIn};
 ghost use Rattle.cy_store.specs.Store.{SizeAnswer, ReadAnswer, CreateAnswer, PutAnswer};
+ghost use Rattle.cy_store.specs.Store.{SameAnswer};
 ghost use Rattle.cy_store.specs.Memory.{files_of, new_memory, shows_of, with_fault, with_miss};
 ghost use Rattle.cy_store.specs.Memory.{with_call, with_put, plan_of_call, plan_of_put, put_over};
 ghost use Rattle.cy_store.specs.Memory.{Works, turn_of_reading, turn_of_creation, turn_of_put};
@@ -286,5 +287,14 @@ impl Store for MemStore {
         } else {
             Err(self.miss())
         }
+    }
+
+    fn same(&mut self, name: &str, other: &str) -> bool
+        ensures answer { SameAnswer (shows_of self.old) (shows_of self.new) name.now other.now
+            result }
+
+        ensures after { self.new ≡ self.old }
+    {
+        name == other
     }
 }

@@ -3,13 +3,15 @@ ghost use Rattle.std.specs.Prelude.{◌≡◌, ◌≢◌, ◌≤◌, ◌<◌, �
 ghost use Rattle.std.specs.Prelude.{OnOk, OnErr, IsErrOf};
 ghost use Rattle.std.specs.Option.{option_map};
 ghost use Rattle.std.specs.IoError.{error_kind};
-ghost use Rattle.std.specs.Io.KnownBytes.{Consumes, IsAtEnd};
+ghost use Rattle.std.specs.Io.KnownBytes.{Appends, Consumes, IsAtEnd};
 ghost use Rattle.cy_store.specs.Files.{Holds};
 ghost use Rattle.cy_store.specs.Write.{Create, Put, after_write, LeavesIn};
 ghost use Rattle.cy_store.specs.Store.{HasCause, HasFault};
 ghost use Rattle.cy_store.specs.Real.{new_counts, count_fault, count_miss, untold_store};
 
+use crate::alike::is_one_file;
 use crate::{Store, StoreError};
+use std::alloc::AllocGlobal;
 use std::fs::{File, Files, OpenFile, OpenOptions};
 use std::io;
 use std::io::{ErrorKind, Read, Seek, SeekFrom, Write};
@@ -129,14 +131,22 @@ fn read_from<R: Files>(rt: &R, path: &str, at: u64, buf: &mut [u8]) -> io::Resul
     fill(&mut file, buf)
 }
 
+// Writes all bytes behind what a writer holds. A write that was interrupted is made again, and one of
+// no byte is an error.
+fn put_all<W: Write>(writer: &mut W, bytes: &[u8]) -> io::Result<()>
+    ensures { OnOk result (Appends (W.contents writer.old) (W.contents writer.new) bytes.now) }
+{
+    writer.write_all(bytes)
+}
+
 // Writes all bytes into the file of a path, which is there, at a place.
 fn write_to<R: Files>(rt: &R, path: &str, at: u64, bytes: &[u8]) -> io::Result<()> {
     let mut file = OpenOptions::new().write(true).open(rt, path)?;
     file.seek(SeekFrom::Start(at))?;
-    file.write_all(bytes)
+    put_all(&mut file, bytes)
 }
 
-impl<R: Files> Store for RealStore<'_, R> {
+impl<R: Files + AllocGlobal> Store for RealStore<'_, R> {
     ghost shows = { untold_store };
 
     fn size(&mut self, name: &str) -> Result<u64, StoreError> {
@@ -165,5 +175,9 @@ impl<R: Files> Store for RealStore<'_, R> {
             Ok(()) => Ok(()),
             Err(e) => Err(self.fault_or_miss(e)),
         }
+    }
+
+    fn same(&mut self, name: &str, other: &str) -> bool {
+        is_one_file(self.rt, name, other)
     }
 }

@@ -2,6 +2,7 @@
 ghost use Rattle.std.specs.Prelude.{◌≤◌, length, IfSome};
 ghost use Rattle.std.specs.FinMap.{get};
 ghost use Rattle.cy_store.specs.Store.{StoreView, SizeAnswer, ReadAnswer, CreateAnswer, PutAnswer};
+ghost use Rattle.cy_store.specs.Store.{SameAnswer};
 
 use crate::StoreError;
 
@@ -35,4 +36,9 @@ pub trait Store {
         requires { IfSome (shows self.old).files (λ m. IfSome (get m name.now) (λ before. at
             ≤ length before)) }
         ensures { PutAnswer (shows self.old) (shows self.new) name.now at bytes.now result };
+
+    /// Whether two names are known to be those of one file, as a link and its target are. A store
+    /// that tells its files says so exactly of equal names. Nothing is read, changed or counted.
+    fn same(&mut self, name: &str, other: &str) -> bool
+        ensures { SameAnswer (shows self.old) (shows self.new) name.now other.now result };
 }

@@ -1,6 +1,7 @@
 //! What no clause of `cyber_cli` says: that its calls succeed where nothing fails, and that the
 //! bytes are those of other writers.
 
+mod alike;
 mod checks;
 mod faults;
 mod info;

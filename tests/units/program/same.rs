@@ -45,6 +45,10 @@ impl Store for Noting {
     fn put_at(&mut self, _name: &str, _at: u64, _bytes: &[u8]) -> Result<(), StoreError> {
         Err(StoreError::Failed)
     }
+
+    fn same(&mut self, name: &str, other: &str) -> bool {
+        self.inner.same(name, other)
+    }
 }
 
 // A store with the record of a tape over a record.

@@ -41,6 +41,10 @@ impl Store for Noting {
     fn put_at(&mut self, _name: &str, _at: u64, _bytes: &[u8]) -> Result<(), StoreError> {
         Err(StoreError::Failed)
     }
+
+    fn same(&mut self, name: &str, other: &str) -> bool {
+        self.inner.same(name, other)
+    }
 }
 
 // A store that notes, with one file.

@@ -34,6 +34,10 @@ impl Store for Untold {
         }
         self.inner.put_at(name, at, bytes)
     }
+
+    fn same(&mut self, name: &str, other: &str) -> bool {
+        self.inner.same(name, other)
+    }
 }
 
 // A file that ends before the size that was told is read as far as it goes.
