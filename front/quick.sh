@@ -1,0 +1,198 @@
+# shellcheck shell=bash
+# The quick look: runs arguments by `rt try`, which compiles the sources with checks, proves nothing and keeps no program. It takes a minute
+# or two. The program runs in a folder of its own there: files that it reads are copied into it under their names, and what it writes has
+# absolute names.
+
+# Ends, since the quick look can't run the arguments.
+refuse_quick_look() { # the reason why it would be needed, and why it isn't done
+  {
+    echo "cyber: $1, and the quick look can't run this: $2"
+    advise_to_build
+  } >&2
+  exit "$NO_PROGRAM"
+}
+
+advise_to_build() {
+  echo '  ./cyber --build proves and builds the program, which takes about half an hour the first time.'
+}
+
+# Ends as the program would where its line is plain before it runs.
+answer_at_once() { # the status, the line, and the arguments
+  printf '%s\n' "$2" >&2 || exit 4
+  advise "$@"
+  exit "$1"
+}
+
+# The options and places that name files which the command reads, in the order in which it does, and those that it writes.
+files_of_command() {
+  reads=()
+  writes=()
+  case $command in
+    play) reads=(dag sched record) && writes=(out trace) ;;
+    verify) reads=(dag record trace out) ;;
+    check) reads=(dag sched) ;;
+    pass) reads=(RECORD) && writes=(OUT TRACE) ;;
+    info) reads=(FILE) ;;
+    recover | split) reads=(IN) && writes=(OUT) ;;
+  esac
+}
+
+# Whether a file can be copied into the folder of `rt try` under its own name.
+has_plain_name() { # the name
+  [[ $1 != /* && $1 != *=* && "/$1/" != */../* && ! $1 =~ ^(\./+)*(program|stdin|stdout|stderr)(/|$) ]]
+}
+
+# Has the program read a file under a name.
+give() { # the name
+  if [[ $1 != /* && -f $1 ]]; then
+    data+=(--data "$1=$PWD/$1")
+  fi
+}
+
+# The bytes of the files that the command reads; a reason in `odd` where one of them is no regular file.
+bytes_of() { # the names
+  local name size all=0
+  for name in "$@"; do
+    [ -e "$name" ] || continue
+    [ -f "$name" ] || { odd="$(shown "$name") is no regular file" && continue; }
+    size=$(stat -L -c %s -- "$name") || continue
+    all=$((all + size))
+  done
+  bytes=$all
+}
+
+# Puts the arguments into `words` as `rt try` gets them, with absolute names for what is written and for what can't be copied under its own
+# name. `given` has the names as they were given, by those absolute names.
+make_words() { # the arguments
+  local word key
+  declare -gA given=()
+  words=()
+  for word in "$@"; do
+    for key in "${reads[@]}" "${writes[@]}"; do
+      if [[ -n ${value_of[$key]+given} && $word == "${value_of[$key]}" || $word == "--$key=${value_of[$key]-}" ]]; then
+        word=$(without_end "$word" "${value_of[$key]}")$(name_for_try "$key" "${value_of[$key]}")
+        given[${word#"--$key="}]=${value_of[$key]}
+        break
+      fi
+    done
+    words+=("$word")
+  done
+}
+
+# A text without another one at its end.
+without_end() { # the two
+  printf '%s' "${1:0:${#1}-${#2}}"
+}
+
+# The name that `rt try` gets for a file.
+name_for_try() { # the option or place that names it, and the name
+  if [[ $2 == /* ]] || [[ " ${reads[*]} " == *" $1 "* ]] && has_plain_name "$2"; then
+    printf '%s' "$2"
+  else
+    # No other name in the arguments is spelled like this.
+    printf '%s/./%s' "$PWD" "$2"
+  fi
+}
+
+# Copies a text of the program, with each name that a line begins with as it was given.
+print_as_given() { # the file with the text, and what stands before a name in it
+  local line name before
+  while IFS= read -r line || [ -n "$line" ]; do
+    for name in "${!given[@]}"; do
+      for before in "${@:2}"; do
+        if [[ $line == "$before$name"[:\ ]* ]]; then
+          line=$before${given[$name]}${line#"$before$name"}
+          break 2
+        fi
+      done
+    done
+    printf '%s\n' "$line" || exit 4
+  done <"$1"
+}
+
+# Whether the arguments are within what a quick look does; ends where they aren't.
+looks_small() { # the reason why it would be needed
+  local names_read=() key odd='' bytes most=$MOST_BYTES
+  # What a play wrote is longer than what it read, and quickly verified.
+  [[ $command != verify ]] || most=$((4 * MOST_BYTES))
+  for key in "${reads[@]}"; do
+    [ -z "${value_of[$key]-}" ] || names_read+=("${value_of[$key]}")
+  done
+  bytes_of "${names_read[@]}" "${files[@]}"
+  [ -z "$odd" ] || refuse_quick_look "$1" "$odd"
+  [ "$bytes" -le "$most" ] ||
+    refuse_quick_look "$1" "it reads at most $most bytes, and these files have $bytes"
+  [[ $command != make ]] || is_below "${value_of[N]}" $((MOST_MADE + 1)) ||
+    refuse_quick_look "$1" "it makes at most $MOST_MADE messages"
+  [[ $command != make || ${value_of[PREFIX]} == /* || $PWD/${value_of[PREFIX]} != *[!A-Za-z0-9._/+@-]* ]] ||
+    refuse_quick_look "$1" 'it makes files under names of letters, digits and . _ - + @ / alone'
+  for key in "${files[@]}"; do
+    [[ ! -e $key || $key == /* ]] || has_plain_name "$key" ||
+      refuse_quick_look "$1" "it can't copy the file $(shown "$key") of the DAG file, whose name leads out of the working folder"
+  done
+}
+
+# Runs the arguments by `rt try`, and ends with the status of the program.
+quick_look() { # why the program itself can't run, and the arguments
+  local reason=$1 words=() data=() reads writes names=() classes=() files=() status key said first
+  shift
+  find_faults "$@"
+  [ ${#faults[@]} -eq 0 ] || answer_at_once 2 'cyber: the words are not of a known form' "$@"
+  files_of_command
+  first=${reads[0]+${value_of[${reads[0]}]}}
+  [ -z "$first" ] || [ -e "$first" ] || answer_at_once 3 "cyber: $first: the store failed" "$@"
+  [[ -z ${value_of[dag]-} ]] || look_at_dag "${value_of[dag]}"
+  looks_small "$reason"
+  needs_kit "$reason"
+  make_words "$@"
+  for key in "${reads[@]}"; do
+    [ -z "${value_of[$key]-}" ] || ! has_plain_name "${value_of[$key]}" || give "${value_of[$key]}"
+  done
+  for key in "${files[@]}"; do
+    give "$key"
+  done
+  [[ $command != make || ${value_of[PREFIX]} == /* ]] || words[2]=$PWD/${value_of[PREFIX]}
+  echo "cyber: $reason: this is a quick look. The sources are compiled unproved, with checks, which takes a minute or two." >&2
+  room=$(mktemp -d) || exit "$NO_PROGRAM"
+  trap 'rm -rf "$room"' EXIT
+  (cd "$top/crates/cyber" && exec rt try "${data[@]}" -- "${words[@]}") >"$room/out" 2>"$room/err" </dev/null
+  status=$(take_status) || no_answer
+  finish_make
+  print_as_given "$room/out" 'file ' 'unknown '
+  said=$(print_as_given "$room/said" 'cyber: ')
+  [ -z "$said" ] || printf '%s\n' "$said" >&2
+  [ "$status" -eq 0 ] || advise "$status" "$said" "$@"
+  {
+    echo 'cyber: this was the unproved program, with checks.'
+    advise_to_build
+  } >&2
+  exit "$status"
+}
+
+# Prints the status of the program, and leaves what it said on standard error; ends with 1 where `rt try` got no answer. What `rt try` says
+# itself are the last three lines.
+take_status() {
+  local count last
+  last=$(tail -n 1 "$room/err")
+  [[ $last =~ ^run=ended\ status=([0-9]+)\ .*proved=no$ ]] || return 1
+  count=$(tail -n 3 "$room/err" | grep -Ec '^(checked: ended status=|races: |run=ended status=)')
+  head -n -"$count" "$room/err" >"$room/said"
+  echo "${BASH_REMATCH[1]}"
+}
+
+no_answer() {
+  {
+    echo 'cyber: the quick look came to no answer. rt try said:'
+    tail -n 20 "$room/err" | sed 's/^/  /'
+    advise_to_build
+  } >&2
+  exit "$NO_PROGRAM"
+}
+
+# The DAG file that `make` wrote has absolute names, where the program in its place writes the prefix as it is given.
+finish_make() {
+  local dag=$PWD/${value_of[PREFIX]-}.dag
+  if [[ $command == make && ${value_of[PREFIX]} != /* && $status -ne 3 && -f $dag ]]; then
+    sed -i "s|\"$PWD/|\"|" "$dag"
+  fi
+}
