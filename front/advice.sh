@@ -69,8 +69,8 @@ role_of() { # that name
   esac
 }
 
-# Puts the file that a line is on, its role and what is said of it into `file`, `role` and `fault`. The roles are the names of files among
-# the arguments, `component file` and, for what `make` writes, `made`.
+# Puts the file that a line is on, its role and what is said of it into `file`, `role` and `fault`. The roles are those of the arguments,
+# `component file` and, for what `make` writes, `made`; a DAG file may be given as the scheduler file, too.
 find_file() { # the line behind the program's name
   local name index
   file=
@@ -78,8 +78,12 @@ find_file() { # the line behind the program's name
   fault=$1
   number=
   for name in "${!value_of[@]}"; do
-    [[ -z $(role_of "$name") || ${#value_of[$name]} -lt ${#file} || $1 != "${value_of[$name]}: "* ]] ||
-      { file=${value_of[$name]} && role=$(role_of "$name"); }
+    if [[ -n $(role_of "$name") && ${#value_of[$name]} -gt ${#file} && $1 == "${value_of[$name]}: "* ]]; then
+      file=${value_of[$name]}
+    fi
+  done
+  for name in "${!value_of[@]}"; do
+    [[ -z $file || ${value_of[$name]} != "$file" ]] || role+=${role:+, }$(role_of "$name")
   done
   has_dag=no
   if [[ -n ${value_of[dag]-} ]] && look_at_dag "${value_of[dag]}"; then
@@ -107,7 +111,7 @@ find_file() { # the line behind the program's name
 is_written() {
   case $command in
     verify | check | info) return 1 ;;
-    *) [[ $role == 'written record' || $role == trace || $role == made ]] ;;
+    *) [[ $role == *'written record'* || $role == *trace* || $role == made ]] ;;
   esac
 }
 
@@ -158,8 +162,9 @@ find_refusal() {
 has_role() { # the role of a row
   case $1 in
     '' | any) return 0 ;;
-    'configuration file') [[ $role == 'DAG file' || $role == 'component file' || $role == 'scheduler file' ]] ;;
-    *) [[ $role == "$1" ]] ;;
+    'configuration file') [[ $role == *'DAG file'* || $role == 'component file' || $role == *'scheduler file'* ]] ;;
+    record) [[ ", $role" == *', record'* ]] ;;
+    *) [[ $role == *"$1"* ]] ;;
   esac
 }
 
@@ -213,7 +218,8 @@ filled() { # the sentence
     fi
   done
   text=${text# }
-  printf '%s' "${text^}"
+  [[ $text != component* ]] || text=${text^}
+  printf '%s' "$text"
 }
 
 # What a look at the file adds, or nothing.

@@ -125,30 +125,24 @@ become_program() { # the arguments
 
 # Runs the program. Its standard error passes through here, so that the line is known when it ends; the other streams are its own.
 run_program() { # the arguments
-  local said='' piece status out='' pipe is_printed=yes
+  local said='' piece status both pipe is_printed=yes
   child=
   signal=
   # A write past a limit of file size, or to a pipe whose reader has gone, is to fail, so that the program ends with its status. Unless these
   # signals are ignored, which the program inherits, the system ends it there.
   trap '' XFSZ PIPE
-  # Nobody can read advice on a closed standard error.
-  { exec {pipe}>&2; } || become_program "$@"
-  exec {pipe}>&-
-  { exec {out}>&1; } 2>/dev/null || out=
   trap 'hand_on HUP' HUP
   trap 'hand_on INT' INT
   trap 'hand_on QUIT' QUIT
   trap 'hand_on TERM' TERM
-  exec {pipe}< <(
-    if [ -n "$out" ]; then
-      exec 2>&1 1>&"$out" {out}>&-
-    else
-      exec 2>&1 1>&-
-    fi
-    become_program "$@"
-  )
+  # A pipe, open at both ends.
+  exec {both}<> <(:)
+  # What runs behind `&` gets no standard input unless that is said.
+  become_program "$@" <&0 2>&"$both" {both}>&- &
   child=$!
   [ -z "$signal" ] || hand_on "$signal"
+  # Only the program has the end for writing now, so reading comes to an end when it does.
+  exec {pipe}</dev/fd/"$both" {both}>&-
   while IFS= read -r -d '' -u "$pipe" piece; do
     said+=$piece
     printf '%s\0' "$piece" >&2 || is_printed=no
@@ -161,6 +155,7 @@ run_program() { # the arguments
     wait "$child"
     status=$?
   done
+  [[ -z $signal ]] || status=$((128 + $(kill -l "$signal")))
   [ "$status" -le 128 ] || end_by_signal "$status"
   # As the program has it: a line that can't be printed is status 4.
   [[ $is_printed == yes || $status -eq 0 ]] || exit 4

@@ -107,7 +107,7 @@ fault_of_target() { # the name
   local target
   if [ -L "$1" ] && [ ! -e "$1" ]; then
     target=$(readlink -- "$1") || return 0
-    [[ $target == /* ]] || target=$(folder_of "$1")$target
+    [[ $target == /* || $1 != */* ]] || target=${1%/*}/$target
     target=$(fault_of_folders "$target")
     echo "${target:-$(fault_of_link "$1")}"
   fi

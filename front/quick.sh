@@ -86,7 +86,9 @@ without_end() { # the two
 
 # The name that `rt try` gets for a file.
 name_for_try() { # the option or place that names it, and the name
-  if [[ $2 == /* ]] || [[ " ${reads[*]} " == *" $1 "* ]] && has_plain_name "$2"; then
+  if [[ $2 == /* ]]; then
+    printf '%s' "$2"
+  elif [[ " ${reads[*]} " == *" $1 "* ]] && has_plain_name "$2"; then
     printf '%s' "$2"
   else
     # No other name in the arguments is spelled like this.

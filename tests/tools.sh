@@ -1,6 +1,6 @@
 #!/usr/bin/env bash
-# Tests what stands around the program: tools/, release/ and batch/. Usage: tests/tools.sh [--install] [SECTION...], by default all of
-# timeline, pictures, messages, why_not, release and batch.
+# Tests what stands around the program: front/, tools/, release/ and batch/. Usage: tests/tools.sh [--install] [SECTION...], by default all of
+# front, timeline, pictures, messages, why_not, release and batch.
 # What a section needs beside Python's standard library is taken from the machine. With --install it is installed else: by apt-get where
 # root asks for it on a Debian, or by pip into a virtual environment in $TOOLS_ENVIRONMENT (by default in the user's cache). Where it is
 # not to be had the section is skipped, which is said. Without --install nothing is installed.
@@ -358,6 +358,8 @@ $d' --stop control@8
   try 0 python3 "$top/tools/why_not.py" --help
 }
 
+. "$top/tests/tools/front.sh"
+
 release() {
   if [ ! -x "$program" ]; then
     skip release "no program at $program"
@@ -643,7 +645,7 @@ if [ "${1:-}" = --install ]; then
   install=yes
   shift
 fi
-[ $# -gt 0 ] || set -- timeline pictures messages why_not release batch
+[ $# -gt 0 ] || set -- front timeline pictures messages why_not release batch
 for section in "$@"; do
   "$section"
 done
