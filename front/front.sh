@@ -135,7 +135,8 @@ run_program() { # the arguments
   trap 'hand_on INT' INT
   trap 'hand_on QUIT' QUIT
   trap 'hand_on TERM' TERM
-  # A pipe, open at both ends.
+  # A pipe, open at both ends. Where there is no /dev/fd, as in a bare root, the program runs without advice.
+  [ -d /dev/fd ] || become_program "$@"
   exec {both}<> <(:)
   # What runs behind `&` gets no standard input unless that is said.
   become_program "$@" <&0 2>&"$both" {both}>&- &

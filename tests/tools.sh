@@ -276,6 +276,7 @@ copy_libraries() { # the program, and the root
 
 # Installs the package into an empty root, which has nothing but what dpkg needs, and says how its program is run there.
 install_package() { # the package
+  local file
   mkdir -p empty/var/lib/dpkg/info empty/var/lib/dpkg/updates
   touch empty/var/lib/dpkg/status
   if [ "$(id -u)" -eq 0 ] && chroot / true 2>/dev/null && ldd "$program" >/dev/null 2>&1; then
@@ -284,7 +285,11 @@ install_package() { # the package
     try 0 dpkg --root="$PWD/empty" --verify zektrob
     [ ! -s out ]
     count $? "$name: files are not as packed: $(cat out)"
-    copy_libraries "$program" empty
+    # The front is a script: these three are on each Debian.
+    for file in "$program" /bin/bash /usr/bin/env /usr/bin/readlink; do
+      copy_libraries "$file" empty
+      [ "$file" = "$program" ] || install -D "$file" "empty$file"
+    done
     call=(/usr/sbin/chroot "$PWD/empty" /usr/bin/cyber)
   else
     try 0 dpkg-deb -x "$1" empty
@@ -373,8 +378,18 @@ release() {
   try 0 "$top/release/make.sh" --out "$PWD/made" --gate gate.log "$program"
   mkdir tar
   tar -xzf made/*.tar.gz -C tar --strip-components 1
-  cmp -s tar/bin/cyber "$program"
+  cmp -s tar/lib/zektrob/crates/cyber/out/cyber "$program"
   count $? "$name: the program is another one"
+  [[ $(readlink tar/bin/cyber) == ../lib/zektrob/cyber && -x tar/lib/zektrob/cyber ]]
+  count $? "$name: the command is no link to the front"
+  [ ! -e tar/lib/zektrob/front/repository.sh ] && [ ! -e tar/lib/zektrob/crates.txt ]
+  count $? "$name: it has what builds the program"
+  cmp -s tar/lib/zektrob/tools/why_not.py "$top/tools/why_not.py" && [ -x tar/lib/zektrob/tools/why_not.py ] && [ -f tar/lib/zektrob/batch/Snakefile ]
+  count $? "$name: the tools or the batch are missing"
+  try 0 tar/bin/cyber --version
+  says out "cyber 0~[0-9]{8}\.[0-9a-f]{8}, commit $(git -C "$top" rev-parse HEAD)( with changes.*)?, [0-9-]{10}, proved with logic 0123456789abcdef"
+  try 0 python3 tar/lib/zektrob/tools/messages.py tar/share/doc/zektrob/examples/pass/one.rec
+  says out '/in 1 100 7'
   says tar/share/doc/zektrob/PROVED "commit $(git -C "$top" rev-parse HEAD)( with changes.*)?"
   says tar/share/doc/zektrob/PROVED 'logic 0123456789abcdef'
   says tar/share/doc/zektrob/PROVED 'proofs rt: ok; every proof was done in this run'
@@ -393,6 +408,22 @@ release() {
   tours_the_package
 }
 
+# Unpacks the package into a folder that others may read, as an image is made: the folder stays so, and the command runs there.
+unpack_package() { # the package
+  mkdir -m 755 unpacked
+  try 0 dpkg -x "$1" unpacked
+  [ "$(stat -c %a unpacked)" = 755 ]
+  count $? "$name: the folder has the mode $(stat -c %a unpacked)"
+  dpkg-deb -c "$1" >contents
+  says contents 'drwxr-xr-x root/root .* \./'
+  cp -r unpacked/usr/share/doc/zektrob/examples unpacked/
+  try 0 python3 "$top/tests/tools/tour.py" unpacked/examples/README.md unpacked "$PWD/unpacked/usr/bin/cyber"
+  try 2 unpacked/usr/bin/cyber paly
+  says err "  There is no command 'paly'. Did you mean play\?"
+  try 3 unpacked/usr/bin/cyber info none
+  says err "  Reading 'none' failed. There is no such file..*"
+}
+
 tours_the_package() {
   begin 'the tour of the examples runs where the package alone is installed'
   if ! command -v dpkg-deb >/dev/null; then
@@ -400,6 +431,7 @@ tours_the_package() {
     return
   fi
   "$top/release/make.sh" --out "$PWD" "$program" >/dev/null
+  unpack_package ./*.deb
   install_package ./*.deb
   try 0 python3 "$top/tests/tools/tour.py" empty/examples/README.md empty "${call[@]}"
   says out '[0-9]+ lines typed'
@@ -463,7 +495,7 @@ completes() { # the folder with the completions
   count $? "$name: bash completes other options: $(cat difference)"
   # shellcheck disable=SC2016
   bash -c '. "$1"; COMP_WORDS=(cyber ""); COMP_CWORD=1; _cyber; echo "${COMPREPLY[*]}"' - "$1/bash-completion/completions/cyber" >commands
-  says commands 'play verify pass check info make recover split'
+  says commands 'play verify pass check info make recover split help'
   grep -o -- "'--[a-z]*" "$1/zsh/vendor-completions/_cyber" | tr -d "'" | sort -u | diff - <(echo "$options") >difference
   count $? "$name: zsh completes other options: $(cat difference)"
   if command -v zsh >/dev/null; then
