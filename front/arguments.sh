@@ -1,5 +1,5 @@
 # shellcheck shell=bash
-# What is wrong with arguments, as docs/FORMATS.md, "Words", has it. `find_faults` comes to a fault just where the program ends with status 2.
+# What is wrong with arguments, as docs/FORMATS.md lists them. `find_faults` comes to a fault just where the program ends with status 2.
 
 # What a command takes: names at their places, options with a value, flags, and which options it needs.
 known_of() { # the command

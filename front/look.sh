@@ -213,18 +213,19 @@ begins_with() { # the file, and the digits
 }
 
 # Looks at a DAG file, as plainly as a reader does: its components, in the order in which the program numbers them, with their names, classes
-# and files. Ends with 1 where the file is too long for that, or has an odd form.
+# and files. Ends with 1 where the file is too long for that, or isn't closed.
 LONGEST_DAG=65536
+TOKENS="#.*|\"([^\"\\\\]|\\\\.)*\"|'([^'\\\\]|\\\\.)*'|[A-Za-z_][A-Za-z_0-9]*|[][{}<>]"
 look_at_dag() { # the file
-  local line depth=0 field='' text='' is_text=no timer_names=() timer_classes=() timer_files=()
+  local token depth=0 field='' text='' is_text=no timer_names=() timer_classes=() timer_files=()
   local -a path=() lists=()
   names=()
   classes=()
   files=()
   [[ -f $1 && -r $1 && $(stat -L -c %s -- "$1") -le $LONGEST_DAG ]] || return 1
-  while IFS= read -r line || [ -n "$line" ]; do
-    take_line || return 1
-  done <"$1"
+  while IFS= read -r token; do
+    take_token
+  done < <(LC_ALL=C grep -aoE -e "$TOKENS" -- "$1")
   end_of_text
   names+=("${timer_names[@]}")
   classes+=("${timer_classes[@]}")
@@ -232,29 +233,22 @@ look_at_dag() { # the file
   [ "$depth" -eq 0 ]
 }
 
-# Goes through the tokens of one line of a DAG file.
-take_line() {
-  local name='^[[:space:],;]*([A-Za-z_][A-Za-z_0-9]*)(.*)$'
-  local string='^[[:space:],;]*("(([^"\\]|\\.)*)"|'\''(([^'\''\\]|\\.)*)'\'')(.*)$'
-  local mark='^[[:space:],;]*([][{}<>:]|[-+.0-9][-+.0-9A-Za-z_]*)(.*)$'
-  while [[ ! $line =~ ^[[:space:],\;]*(#.*)?$ ]]; do
-    if [[ $line =~ $string ]]; then
-      text+=${BASH_REMATCH[2]}${BASH_REMATCH[4]}
+# Takes one token of a DAG file.
+take_token() {
+  case $token in
+    '#'*) ;;
+    [\"\']*)
+      text+=${token:1:-1}
       is_text=yes
-      line=${BASH_REMATCH[6]}
-      continue
-    fi
-    end_of_text
-    if [[ $line =~ $name ]]; then
-      field=${BASH_REMATCH[1]}
-      line=${BASH_REMATCH[2]}
-    elif [[ $line =~ $mark ]]; then
-      line=${BASH_REMATCH[2]}
-      take_mark "${BASH_REMATCH[1]}"
-    else
-      return 1
-    fi
-  done
+      ;;
+    *)
+      end_of_text
+      case $token in
+        [A-Za-z_]*) field=$token ;;
+        *) take_mark "$token" ;;
+      esac
+      ;;
+  esac
 }
 
 take_mark() { # the mark

@@ -1,7 +1,7 @@
 #!/usr/bin/env python3
 """Looks that front/refusals.txt is the table of docs/FORMATS.md, and that it has a row for each refusal that the crates can print.
 
-What the crates can print is taken from crates/*/specs/FaultText.antt and from docs/FORMATS.md, "Lines". Prints what is missing, and ends with
+What the crates can print is taken from crates/*/specs/FaultText.antt. Prints what is missing, and ends with
 status 1 where something is.
 """
 import pathlib
@@ -10,7 +10,7 @@ import sys
 
 TOP = pathlib.Path(__file__).resolve().parent.parent.parent
 HEADING = "## What a refusal means\n"
-# Texts without a file before them, and the statuses of the others: docs/FORMATS.md, "Lines".
+# Texts without a file before them, with their statuses.
 WITHOUT_FILE = {"the words are not of a known form": "2", "the output failed": "4", "out of memory": "6"}
 LIMITS = re.compile(r"limit |.*: TooDeep$|.*: TooLong N$")
 
