@@ -53,6 +53,12 @@ warn_of_other_kit() {
     echo "cyber: the kit here is ${here:-of no known version}; the sources were proved with $wanted" >&2
 }
 
+# A build that is stopped leaves nothing behind.
+stop_build() {
+  [ -z "${build_id-}" ] || { kill -s TERM "$build_id" 2>/dev/null && wait "$build_id" 2>/dev/null; } || true
+  rm -rf "$copy"
+}
+
 # Proves and builds in a copy, with as many crates side by side as there are processors and memory. The copy has no must-fail edits, which
 # the gate tries besides; what is proved here the gate takes from here.
 build() {
@@ -62,15 +68,18 @@ build() {
   SECONDS=0
   copy=$(mktemp -d)
   : >"$copy/begun"
-  trap 'rm -rf "$copy"' EXIT
+  trap 'stop_build' EXIT
+  trap 'exit 130' INT
+  trap 'exit 143' TERM HUP
   crates_needed >"$copy/crates.txt"
   { echo HANDLES && sed 's/[ :].*//; s|^|crates/|' "$copy/crates.txt"; } |
     tar -C "$top" --exclude=out --exclude=must-fail -T - -cf - | tar -C "$copy" -xf -
   git init -q "$copy"
+  : >"$log"
   (cd "$copy" && exec rt ci) >"$log" 2>&1 </dev/null &
-  local build=$!
-  tell_progress "$build"
-  if ! wait "$build"; then
+  build_id=$!
+  tell_progress "$build_id"
+  if ! wait "$build_id"; then
     tail -n 20 "$log" >&2
     echo "cyber: the build failed; all it said is in $log" >&2
     exit "$NO_PROGRAM"

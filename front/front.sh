@@ -117,6 +117,23 @@ hand_on() { # the signal
   [ -z "$child" ] || kill -s TERM "$child" 2>/dev/null
 }
 
+trap_signals() {
+  trap 'hand_on HUP' HUP
+  trap 'hand_on INT' INT
+  trap 'hand_on QUIT' QUIT
+  trap 'hand_on TERM' TERM
+}
+
+# Waits until the program has ended, and leaves its status in `status`. A signal ends a wait, and not yet the program.
+await_child() {
+  wait "$child"
+  status=$?
+  while kill -0 "$child" 2>/dev/null; do
+    wait "$child"
+    status=$?
+  done
+}
+
 # Replaces this shell by the program.
 become_program() { # the arguments
   # A run reserves all its room at once. In one piece of large pages the kernel hands it out in the fewest steps.
@@ -131,10 +148,7 @@ run_program() { # the arguments
   # A write past a limit of file size, or to a pipe whose reader has gone, is to fail, so that the program ends with its status. Unless these
   # signals are ignored, which the program inherits, the system ends it there.
   trap '' XFSZ PIPE
-  trap 'hand_on HUP' HUP
-  trap 'hand_on INT' INT
-  trap 'hand_on QUIT' QUIT
-  trap 'hand_on TERM' TERM
+  trap_signals
   # A pipe, open at both ends. Where there is no /dev/fd, as in a bare root, the program runs without advice.
   [ -d /dev/fd ] || become_program "$@"
   exec {both}<> <(:)
@@ -150,12 +164,7 @@ run_program() { # the arguments
   done
   said+=$piece
   [ -z "$piece" ] || printf '%s' "$piece" >&2 || is_printed=no
-  wait "$child"
-  status=$?
-  while kill -0 "$child" 2>/dev/null; do
-    wait "$child"
-    status=$?
-  done
+  await_child
   [[ -z $signal ]] || status=$((128 + $(kill -l "$signal")))
   [ "$status" -le 128 ] || end_by_signal "$status"
   # As the program has it: a line that can't be printed is status 4.

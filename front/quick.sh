@@ -134,40 +134,56 @@ looks_small() { # the reason why it would be needed
   done
 }
 
+# Ends where it is plain without the program what it would answer: the arguments are wrong, or the first file that it would read isn't there.
+answer_plainly() { # the arguments
+  local first
+  [ ${#faults[@]} -eq 0 ] || answer_at_once 2 'cyber: the words are not of a known form' "$@"
+  [ ${#reads[@]} -gt 0 ] || return 0
+  first=${value_of[${reads[0]}]}
+  [ -e "$first" ] || answer_at_once 3 "cyber: $first: the store failed" "$@"
+}
+
+# Runs `words` by `rt try` with the files of `data`, and leaves what they print in the folder `room`.
+run_by_kit() {
+  child=
+  signal=
+  trap_signals
+  (cd "$top/crates/cyber" && exec rt try "${data[@]}" -- "${words[@]}") >"$room/out" 2>"$room/err" </dev/null &
+  child=$!
+  await_child
+  [ -z "$signal" ] || { rm -rf "$room" && end_by_signal $((128 + $(kill -l "$signal"))); }
+}
+
 # Runs the arguments by `rt try`, and ends with the status of the program.
 quick_look() { # why the program itself can't run, and the arguments
-  local reason=$1 words=() data=() reads writes names=() classes=() files=() status key said first
+  local reason=$1 words=() data=() reads=() writes=() files=() status key said
   shift
   find_faults "$@"
-  [ ${#faults[@]} -eq 0 ] || answer_at_once 2 'cyber: the words are not of a known form' "$@"
   files_of_command
-  first=${reads[0]+${value_of[${reads[0]}]}}
-  [ -z "$first" ] || [ -e "$first" ] || answer_at_once 3 "cyber: $first: the store failed" "$@"
+  answer_plainly "$@"
   [[ -z ${value_of[dag]-} ]] || look_at_dag "${value_of[dag]}"
   looks_small "$reason"
   needs_kit "$reason"
   make_words "$@"
+  [[ $command != make || ${value_of[PREFIX]} == /* ]] || words[2]=$PWD/${value_of[PREFIX]}
   for key in "${reads[@]}"; do
     [ -z "${value_of[$key]-}" ] || ! has_plain_name "${value_of[$key]}" || give "${value_of[$key]}"
   done
   for key in "${files[@]}"; do
     give "$key"
   done
-  [[ $command != make || ${value_of[PREFIX]} == /* ]] || words[2]=$PWD/${value_of[PREFIX]}
   echo "cyber: $reason: this is a quick look. The sources are compiled unproved, with checks, which takes a minute or two." >&2
   room=$(mktemp -d) || exit "$NO_PROGRAM"
   trap 'rm -rf "$room"' EXIT
-  (cd "$top/crates/cyber" && exec rt try "${data[@]}" -- "${words[@]}") >"$room/out" 2>"$room/err" </dev/null
+  run_by_kit
   status=$(take_status) || no_answer
   finish_make
   print_as_given "$room/out" 'file ' 'unknown '
   said=$(print_as_given "$room/said" 'cyber: ')
   [ -z "$said" ] || printf '%s\n' "$said" >&2
   [ "$status" -eq 0 ] || advise "$status" "$said" "$@"
-  {
-    echo 'cyber: this was the unproved program, with checks.'
-    advise_to_build
-  } >&2
+  echo 'cyber: this was the unproved program, with checks.' >&2
+  advise_to_build >&2
   exit "$status"
 }
 

@@ -130,10 +130,7 @@ hands_signals_on() {
     rm -f running
     RUN='echo $$ >running; exec sleep 30' env --default-signal="$signal" "$front/cyber" info x >out 2>err &
     front_id=$!
-    for _ in {1..100}; do
-      [ ! -s running ] || break
-      sleep 0.02
-    done
+    await_text running
     kill -s "$signal" "$front_id"
     wait "$front_id" 2>/dev/null
     [ $? -eq $((128 + $(kill -l "$signal"))) ] && ! kill -0 "$(cat running)" 2>/dev/null
@@ -250,6 +247,10 @@ write_kit() { # its folder
   mkdir -p "$1"
   cat >"$1/rt" <<'KIT'
 #!/usr/bin/env bash
+if [[ $1 != version && -n ${SLEEPS-} ]]; then
+  echo $$ >"$SLEEPS"
+  exec sleep 30
+fi
 case $1 in
   version) echo 'rattle-kit-0 logic 0000000000000000' ;;
   ci)
@@ -351,6 +352,27 @@ try_and_say() { # the status, the first line, and the arguments
   says err '  ./cyber --build proves and builds the program, .*'
 }
 
+# A signal to the front ends what the kit is at.
+stops_the_kit() { # the arguments
+  local front_id
+  rm -f running
+  SLEEPS=$PWD/running PATH=$PWD/kit:$PATH repository/cyber "$@" >out 2>err &
+  front_id=$!
+  await_text running
+  kill -s TERM "$front_id"
+  wait "$front_id" 2>/dev/null
+  [ $? -eq 143 ] && ! kill -0 "$(cat running)" 2>/dev/null
+  count $? "$name: after SIGTERM the kit goes on, or the front ended otherwise"
+}
+
+# Waits until a file has a text, for some seconds at most.
+await_text() { # the file
+  for _ in {1..200}; do
+    [ ! -s "$1" ] || return
+    sleep 0.02
+  done
+}
+
 builds_and_is_stale() {
   begin 'the program is built when that is asked for, and not run when its sources are newer'
   copy_repository repository
@@ -362,6 +384,10 @@ builds_and_is_stale() {
   says err 'cyber: the build failed; all it said is in repository/.build.log'
   [ ! -e repository/crates/cyber/out/cyber ]
   count $? "$name: a program is there whose build failed"
+  stops_the_kit --build
+  stops_the_kit info in.rec
+  [ ! -e repository/crates/cyber/out/cyber ]
+  count $? "$name: a program is there whose build was stopped"
   looks 0 'cyber: proving and building the program, which takes half an hour or more the first time' --build
   says err 'cyber: the kit here is rattle-kit-0 logic 0*; the sources were proved with rattle-kit-.*'
   says err 'cyber: [0-9]+ of [0-9]+ crates proved, [0-9]+ % of the work; 0:[0-9]+ so far'
