@@ -4,13 +4,13 @@
 CLASSES=(PassComponent FilterComponent SumComponent CountComponent MaxComponent WindowComponent ChangeComponent SelectComponent
   HoldComponent TakeComponent)
 
-# Prints a paragraph, with two spaces before each line and at most 120 columns.
+# Prints a paragraph, with two spaces before each line and at most 100 columns.
 say() { # the sentences
   local line='' word rest=$1
   while [ -n "$rest" ]; do
     word=${rest%% *}
     [[ $rest == *' '* ]] && rest=${rest#* } || rest=
-    if [[ -n $line && $((${#line} + ${#word})) -gt 117 ]]; then
+    if [[ -n $line && $((${#line} + ${#word})) -gt 97 ]]; then
       printf '  %s\n' "$line"
       line=
     fi

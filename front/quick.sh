@@ -61,27 +61,48 @@ bytes_of() { # the names
   bytes=$all
 }
 
+# The option or place whose value a word is, with what stands in front of the value in that word, or nothing.
+place_of() { # the number of the word, the word, and the one before it
+  local name=${2#--}
+  front_of=
+  key=
+  if [ "$1" -ge 1 ] && [ "$1" -le ${#places[@]} ]; then
+    key=${places[$1 - 1]}
+  elif [[ $2 == --*=* ]]; then
+    key=${name%%=*}
+    front_of=--$key=
+  elif [[ $2 != --* && $3 == --* ]]; then
+    key=${3#--}
+  fi
+}
+
 # Puts the arguments into `words` as `rt try` gets them, with absolute names for what is written and for what can't be copied under its own
 # name. `given` has the names as they were given, by those absolute names.
 make_words() { # the arguments
-  local word key
+  local key front_of word number=0 before='' name
   declare -gA given=()
   words=()
   for word in "$@"; do
-    for key in "${reads[@]}" "${writes[@]}"; do
-      if [[ -n ${value_of[$key]+given} && $word == "${value_of[$key]}" || $word == "--$key=${value_of[$key]-}" ]]; then
-        word=$(without_end "$word" "${value_of[$key]}")$(name_for_try "$key" "${value_of[$key]}")
-        given[${word#"--$key="}]=${value_of[$key]}
-        break
-      fi
-    done
+    place_of "$number" "$word" "$before"
+    before=$word
+    number=$((number + 1))
+    if [[ -n $key && " ${reads[*]} ${writes[*]} " == *" $key "* ]]; then
+      name=$(name_for_try "$key" "${value_of[$key]}")
+      given[$name]=${value_of[$key]}
+      word=$front_of$name
+    fi
     words+=("$word")
   done
+  [[ $command != make || ${value_of[PREFIX]} == /* ]] || make_absolute_prefix
 }
 
-# A text without another one at its end.
-without_end() { # the two
-  printf '%s' "${1:0:${#1}-${#2}}"
+# The files of `make` get absolute names.
+make_absolute_prefix() {
+  local end
+  words[2]=$PWD/${value_of[PREFIX]}
+  for end in .adder.conf .band.conf .last8.conf .late.conf .dag .record .out .trace; do
+    given[${words[2]}$end]=${value_of[PREFIX]}$end
+  done
 }
 
 # The name that `rt try` gets for a file.
@@ -143,7 +164,7 @@ answer_plainly() { # the arguments
   [ -e "$first" ] || answer_at_once 3 "cyber: $first: the store failed" "$@"
 }
 
-# Runs `words` by `rt try` with the files of `data`, and leaves what they print in the folder `room`.
+# Runs `words` by `rt try` with the files of `data`, and leaves what comes of it in the folder `room`.
 run_by_kit() {
   child=
   signal=
@@ -165,7 +186,6 @@ quick_look() { # why the program itself can't run, and the arguments
   looks_small "$reason"
   needs_kit "$reason"
   make_words "$@"
-  [[ $command != make || ${value_of[PREFIX]} == /* ]] || words[2]=$PWD/${value_of[PREFIX]}
   for key in "${reads[@]}"; do
     [ -z "${value_of[$key]-}" ] || ! has_plain_name "${value_of[$key]}" || give "${value_of[$key]}"
   done

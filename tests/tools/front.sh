@@ -1,6 +1,6 @@
 # shellcheck shell=bash disable=SC2154
-# A part of tests/tools.sh, which reads it: the front before the program. Most of it is tried with a program that stands in for the proved one
-# and says what a row has it say. Where the proved program is there, the rows are tried with it too.
+# A part of tests/tools.sh, which reads it: the front before the program. Most of it is tried with a program that stands in for the proved
+# one and says what a row has it say. Where the proved program is there, the rows are tried with it too.
 
 USAGE='cyber: the words are not of a known form'
 # Arguments that are right.
@@ -51,7 +51,7 @@ helps() {
   begin 'help and the version are answered at once'
   for words in --help -h help; do
     try 0 "$front/cyber" $words
-    begins out 'cyber replays recorded messages through the components of a DAG file, and writes a record of all messages and a trace of all calls.'
+    begins out 'cyber replays recorded messages through the components of a DAG file.'
     [ ! -s err ] && [ ! -e arguments ]
     count $? "$name: $words runs the program or prints on standard error"
   done
@@ -309,6 +309,11 @@ looks_quickly() {
   LINE="cyber: $PWD/./out.rec: the store failed" STATUS=3 looks 3 "$QUICK" recover in.rec out.rec
   says err 'cyber: out.rec: the store failed'
   explains "Writing 'out.rec' failed."
+  looks 0 "$QUICK" pass in.rec out trace /in out
+  [ "$(tail -n 5 arguments | tr '\n' ' ')" = "in.rec $PWD/./out $PWD/./trace /in out " ]
+  count $? "$name: pass is given $(tail -n 5 arguments | tr '\n' ' ')"
+  LINE="cyber: $PWD/none/m.dag: the store failed" STATUS=3 looks 3 "$QUICK" make 4 none/m
+  says err 'cyber: none/m.dag: the store failed'
   OUTPUT="file $PWD/./../$(basename "$PWD")/in.rec bytes 5\n" looks 0 "$QUICK" info "../$(basename "$PWD")/in.rec"
   says out "file ../$(basename "$PWD")/in.rec bytes 5"
   printf 'config_file_path: "%s/m.dag"\n' "$PWD" >m.dag
