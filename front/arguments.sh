@@ -167,9 +167,20 @@ fault_of_place() { # the place, and the word
   elif [[ $2 == --?* && ${#valued[@]} -eq 0 ]]; then
     echo "$command takes no options, and $(shown "$2") looks like one. Its arguments are ${places[*]}."
   elif [[ $2 == -* ]]; then
-    echo "$1 can't begin with a hyphen: $(shown "$2"). A file of that name is $(shown "./$2")."
+    fault_of_hyphen "$1" "$2"
   elif [[ $1 == N ]] && ! is_made "$2"; then
     echo "N has to be a whole number from 1 to 1048576, and $(shown "$2") is none."
+  fi
+}
+
+# What is wrong with a name that begins with a hyphen.
+fault_of_hyphen() { # what has it, and the name
+  if [ "$2" = - ]; then
+    echo "$1 can't be '-': files have names here, and standard input is /dev/stdin if it is a file."
+  elif [[ $1 == FROM || $1 == TO || $1 == *--channels || $1 == *--drop || $1 == *--stop ]]; then
+    echo "$1 can't begin with a hyphen: $(shown "$2")."
+  else
+    echo "$1 can't begin with a hyphen: $(shown "$2"). A file of that name is $(shown "./$2")."
   fi
 }
 
@@ -216,7 +227,7 @@ fault_of_value() { # the option, and the value
   elif [[ ($1 == begin || $1 == end) && $2 == -* ]]; then
     fault_of_number "--$1" "$2"
   elif [[ $2 == -* ]]; then
-    echo "The value of --$1 can't begin with a hyphen: $(shown "$2"). A file of that name is $(shown "./$2")."
+    fault_of_hyphen "The value of --$1" "$2"
   elif [[ $1 == begin || $1 == end ]]; then
     fault_of_number "--$1" "$2"
   elif [[ ($1 == channels || $1 == drop) && ,$2, == *,,* ]]; then
