@@ -158,7 +158,7 @@ run_program() { # the arguments
   [ -z "$signal" ] || hand_on "$signal"
   # Only the program has the end for writing now, so reading comes to an end when it does.
   exec {pipe}</dev/fd/"$both" {both}>&-
-  while IFS= read -r -d '' -u "$pipe" piece; do
+  while IFS= LC_ALL=C read -r -d '' -u "$pipe" piece; do
     said+=$piece
     printf '%s\0' "$piece" >&2 || is_printed=no
   done

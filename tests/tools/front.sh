@@ -95,6 +95,9 @@ passes_through() {
   LINE='cyber: a\0b: y' STATUS=3 try 3 "$front/cyber" info x 2>/dev/null
   printf 'cyber: a\0b: y\n' | cmp -s - <(head -n 1 err)
   count $? "$name: a line with a zero byte is changed"
+  LINE='cyber: a\xc3\0\xff: y' STATUS=3 try 3 "$front/cyber" info x 2>/dev/null
+  printf 'cyber: a\xc3\0\xff: y\n' | cmp -s - <(head -n 1 err)
+  count $? "$name: a line that is no text is changed"
   RUN='cat' fronted 0 '' info x <<<'from standard input'
   says out 'from standard input'
   mkdir elsewhere

@@ -27,12 +27,13 @@ RIGHT = {
     "split": ["r", "o"],
 }
 NO_TEXTS = [b"\xff", b"\xc0\x80", b"\xed\xa0\x80", b"\xf4\x90\x80\x80", b"a\xc3"]
+# In another locale a byte that begins a character takes the zero byte behind it along.
 FIND = """
 top=$1
 . "$top/front/front.sh"
 . "$top/front/arguments.sh"
 words=()
-while IFS= read -r -d '' word; do
+while IFS= LC_ALL=C read -r -d '' word; do
   if [ "$word" = "$2" ]; then
     find_faults "${words[@]}"
     echo "${#faults[@]}"
