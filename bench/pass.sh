@@ -7,6 +7,7 @@ trap 'rm -rf "$work"' EXIT
 . "$top/bench/measure.sh"
 
 python3 "$top/bench/largest.py" "$work/in.rec"
+"$top/cyber" --build
 "$top/cyber" pass "$work/in.rec" "$work/out.rec" "$work/out.trace" a b
 
 bytes=$(($(stat -c %s "$work/in.rec") + $(stat -c %s "$work/out.rec") + $(stat -c %s "$work/out.trace")))

@@ -6,6 +6,7 @@ work=$(mktemp -d)
 trap 'rm -rf "$work"' EXIT
 . "$top/bench/measure.sh"
 
+"$top/cyber" --build
 "$top/cyber" make 1000000 "$work/m"
 words=(play --serial --dag "$work/m.dag" --record "$work/m.record" --out "$work/out.record" --trace "$work/out.trace")
 "$top/cyber" "${words[@]}"

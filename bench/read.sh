@@ -11,6 +11,7 @@ trap 'rm -rf "$work"' EXIT
 
 # The names are short, since `info` prints the one that it is given.
 cd "$work"
+"$top/cyber" --build
 "$top/cyber" make 1000000 m
 "$top/cyber" info m.record
 python3 "$top/bench/large_record.py" large.record "${1:-64}"

@@ -19,6 +19,7 @@ echo 'out: "/beats"' >beat.conf
 echo "module_config { $component }" >without.dag
 echo "module_config { $component $timer }" >with.dag
 
+"$top/cyber" --build
 for kind in without with; do
   words=(play --serial --dag "$kind.dag" --record minutes.record --out "$kind.out" --trace "$kind.trace")
   "$top/cyber" "${words[@]}"

@@ -9,6 +9,7 @@ trap 'rm -rf "$work"' EXIT
 . "$top/bench/measure.sh"
 
 cd "$work"
+"$top/cyber" --build
 "$top/cyber" make "${1:-1000000}" m
 rm m.record m.trace
 # The program itself, since the launcher first looks whether it is up to date.

@@ -8,6 +8,7 @@ trap 'rm -rf "$work"' EXIT
 . "$top/bench/measure.sh"
 
 count=${1:-1000000}
+"$top/cyber" --build
 "$top/cyber" make "$count" "$work/m"
 python3 - "$top/crates/cyber/out/cyber" "$work" <<'P'
 import os, subprocess, sys, time

@@ -3,13 +3,19 @@ _cyber() {
   local word=${COMP_WORDS[COMP_CWORD]} before=${COMP_WORDS[COMP_CWORD - 1]} options=
   COMPREPLY=()
   if [ "$COMP_CWORD" -eq 1 ]; then
-    mapfile -t COMPREPLY < <(compgen -W 'play verify pass check info make recover split' -- "$word")
+    local commands='play verify pass check info make recover split help'
+    [[ $word != -* ]] || commands='--help --version'
+    mapfile -t COMPREPLY < <(compgen -W "$commands" -- "$word")
     return
   fi
   case ${COMP_WORDS[1]} in
     play) options='--serial --dag --record --out --trace --sched --channels --drop --begin --end --stop' ;;
     verify) options='--dag --record --out --trace --channels --drop --begin --end --stop' ;;
     check) options='--dag --sched' ;;
+    help)
+      [ "$COMP_CWORD" -gt 2 ] || mapfile -t COMPREPLY < <(compgen -W 'play verify pass check info make recover split' -- "$word")
+      return
+      ;;
     split) [ "$COMP_CWORD" -le 3 ] || options='--channels --drop --begin --end' ;;
   esac
   case $before in

@@ -10,6 +10,7 @@ commands=(
   'make:make the files of a play and play them'
   'recover:make a whole record of what stands before the first fault of a file'
   'split:write a record of some messages of another one'
+  'help:say how a command is called'
 )
 if (( CURRENT == 2 )); then
   _describe command commands
@@ -19,6 +20,7 @@ local command=$words[2]
 shift words
 (( CURRENT-- ))
 case $command in
+  help) _arguments '1:command:(play verify pass check info make recover split)' ;;
   play)
     _arguments '--serial[on one thread]' '--dag=[the DAG file]:file:_files' '--record=[the record that is played]:file:_files' \
       '--out=[the record that is written]:file:_files' '--trace=[the trace that is written]:file:_files' \

@@ -1,6 +1,6 @@
 #!/usr/bin/env bash
-# Packs the proved program: a tarball and, where there is dpkg-deb, a Debian package, with the manual page, the completions of two shells,
-# the examples and the file PROVED. Usage: release/make.sh [--out DIR] [--gate LOG] [PROGRAM]
+# Packs the proved program: a tarball and, where there is dpkg-deb, a Debian package, with the front before it, the tools and the batch, the
+# manual page, the completions of two shells, the examples and the file PROVED. Usage: release/make.sh [--out DIR] [--gate LOG] [PROGRAM]
 # PROGRAM is by default what the gate left in this repository, DIR is release/out, and LOG what the gate printed: a gate that passed, of
 # the commit that is checked out and of this program.
 set -euo pipefail
@@ -52,14 +52,29 @@ version=0~$(date -u -d "@$date" +%Y%m%d).${commit:0:8}
 machine=$(uname -m)
 stage=$(mktemp -d)
 trap 'rm -rf "$stage"' EXIT
+# It is the root of the package, whose mode a package hands on to the folder into which it is unpacked.
+chmod 755 "$stage"
 doc=$stage/usr/share/doc/$name
+lib=$stage/usr/lib/$name
+
+# The sum of the toolchain's logic that the log of the gate names, or nothing.
+logic_of_gate() {
+  [ -z "$gate" ] || sed -n 's/.*logic=proved .*sum=\([0-9a-f]*\).*/\1/p' "$gate" | sort -u
+}
+
+# What `cyber --version` prints.
+write_version() {
+  local logic
+  logic=$(logic_of_gate)
+  echo "cyber $version, commit $commit, $(date -u -d "@$date" +%F), ${logic:+proved with logic }${logic:-proved with a logic that is not known here}"
+}
 
 # What was built from what, by which toolchain, and what the gate said; only what is at hand is claimed.
 write_proved() {
   local unknown='not known: no log of the gate was given' logic
   logic=$unknown
   if [ -n "$gate" ]; then
-    logic=$(sed -n 's/.*logic=proved .*sum=\([0-9a-f]*\).*/\1/p' "$gate" | sort -u)
+    logic=$(logic_of_gate)
   fi
   echo "commit ${commit/with changes/with changes that are not committed}"
   echo "logic ${logic:-not named in the log of the gate, for which all proofs were kept}"
@@ -70,16 +85,30 @@ write_proved() {
   (cd "$stage/usr" && find . -type f ! -name PROVED -printf '%P\n' | LC_ALL=C sort | xargs -d '\n' sha256sum)
 }
 
+# Copies files of the repository, each under its name there, into a folder.
+copy_files() { # the folder, and the names
+  local folder=$1 file mode
+  shift
+  git -C "$top" ls-files -- "$@" | while read -r file; do
+    mode=644
+    [ ! -x "$top/$file" ] || mode=755
+    install -D -m "$mode" "$top/$file" "$folder/$file"
+  done
+}
+
+# What runs is in one folder, laid out as the repository is, so that each script finds there what it finds in the repository.
 fill_stage() {
   mkdir -p "$stage/usr/bin" "$stage/usr/share/man/man1" "$stage/usr/share/bash-completion/completions" \
     "$stage/usr/share/zsh/vendor-completions" "$doc"
-  install -m 755 "$program" "$stage/usr/bin/cyber"
+  install -D -m 755 "$program" "$lib/crates/cyber/out/cyber"
+  copy_files "$lib" cyber front tools batch
+  rm "$lib/front/repository.sh" "$lib/front/build.sh" "$lib/front/quick.sh" "$lib/front/kit.txt"
+  write_version >"$lib/front/version.txt"
+  ln -s "../lib/$name/cyber" "$stage/usr/bin/cyber"
   python3 "$top/release/manual.py" "$top/docs/COMMANDS.md" "$version" "$date" | gzip -9n >"$stage/usr/share/man/man1/cyber.1.gz"
   install -m 644 "$top/release/cyber.bash" "$stage/usr/share/bash-completion/completions/cyber"
   install -m 644 "$top/release/cyber.zsh" "$stage/usr/share/zsh/vendor-completions/_cyber"
-  (cd "$top" && git ls-files examples docs README.md release/README.md bench/README.md) | while read -r file; do
-    install -D -m 644 "$top/$file" "$doc/$file"
-  done
+  copy_files "$doc" examples docs README.md release/README.md bench/README.md tools/README.md
   write_proved >"$doc/PROVED"
   find "$stage/usr" -exec touch -h -d "@$date" {} +
 }
@@ -112,7 +141,9 @@ Section: science
 Priority: optional
 Installed-Size: $(du -sk "$stage/usr" | cut -f 1)
 ${least:+Depends: libc6 (>= $least)
-}Description: proved component runtime that replays recorded messages
+}Recommends: python3
+Suggests: python3-protobuf, python3-matplotlib, python3-jinja2, snakemake
+Description: proved component runtime that replays recorded messages
  The program cyber plays records of Apollo Cyber RT through components and
  writes a record of all messages and a trace of all calls. What it promises
  of a replay is proved; the file PROVED says of what commit and by what.

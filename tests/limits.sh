@@ -23,9 +23,8 @@ LAWFUL='lawful: played 1000, shadowed 0, calls 1000, written 2000'
 
 # The launcher beside this program, in a folder of its own, where nothing is newer than the program, so that it builds nothing.
 launcher_of_program() {
-  mkdir -p "$work/launched/crates/cyber/out" "$work/launched/docs"
-  cp "$top/cyber" "$top/crates.txt" "$top/HANDLES" "$work/launched/"
-  cp "$top/docs/COMMANDS.md" "$work/launched/docs/"
+  mkdir -p "$work/launched/crates/cyber/out"
+  cp -r "$top/cyber" "$top/front" "$top/crates.txt" "$top/HANDLES" "$work/launched/"
   cp "$program" "$work/launched/crates/cyber/out/cyber"
   launcher=$work/launched/cyber
 }
@@ -59,6 +58,8 @@ meets() { # who is run, what it meets, a command that sets it up, the words, the
   # shellcheck disable=SC2086
   (ulimit -v 1048576 && cd files && eval "$3" && exec "${command[@]}" $4) >>out 2>>err
   status=$?
+  # What the launcher explains below the program's line is tried by tests/tools.sh.
+  [ "$1" != launched ] || sed -i '2,$d' err
   if [ "$5" -eq 0 ]; then
     ends 0 "$6" ''
   else
@@ -357,6 +358,6 @@ memory_runs_out "$VERIFY" "$LAWFUL" 3000 50 4200
 memory_runs_out "$RECOVER" "$RECOVERED" 3000 50 4200
 memory_runs_out "$SPLIT" "$PARTED" 3000 50 4200
 # What the launcher asks the C library for.
-GLIBC_TUNABLES=$(sed -n 's/.*GLIBC_TUNABLES:-\(.*\)}$/\1/p' "$top/cyber") memory_runs_out "$PLAY" "$DONE" 20000 20000 160000
+GLIBC_TUNABLES=$(sed -n 's/.*GLIBC_TUNABLES:-\([^}]*\)}.*/\1/p' "$top/front/front.sh") memory_runs_out "$PLAY" "$DONE" 20000 20000 160000
 
 sum_up

@@ -1,6 +1,6 @@
 #!/usr/bin/env bash
-# Tests what stands around the program: the gate itself, tools/, release/ and batch/. Usage: tests/tools.sh [--install] [SECTION...], by
-# default all of gate, timeline, pictures, messages, why_not, release and batch.
+# Tests what stands around the program: the gate itself, front/, tools/, release/ and batch/. Usage: tests/tools.sh [--install] [SECTION...],
+# by default all of front, gate, timeline, pictures, messages, why_not, release and batch.
 # What a section needs beside Python's standard library is taken from the machine. With --install it is installed else: by apt-get where
 # root asks for it on a Debian, or by pip into a virtual environment in $TOOLS_ENVIRONMENT (by default in the user's cache). Where it is
 # not to be had the section is skipped, which is said. Without --install nothing is installed.
@@ -129,7 +129,7 @@ gate() {
   echo 'raise SystemExit(1)' >tests/promises.py
   PATH=$PWD/bin:$PATH try 1 .ci/run
   printf 'failed: %s: status %s\n' 'rt ci' 1 tests/units.sh 1 tests/program.sh 1 \
-    'tests/tools.sh --install gate timeline messages why_not release' 0 'python3 tests/promises.py' 1 >want
+    'tests/tools.sh --install front gate timeline messages why_not release' 0 'python3 tests/promises.py' 1 >want
   echo 'gate: 56 passed, 6 failed' >>want
   tail -n 6 out | cmp -s - want
   count $? "$name: it ends with $(tail -n 6 out)"
@@ -493,6 +493,7 @@ copy_libraries() { # the program, and the root
 
 # Installs the package into an empty root, which has nothing but what dpkg needs, and says how its program is run there.
 install_package() { # the package
+  local file
   mkdir -p empty/var/lib/dpkg/info empty/var/lib/dpkg/updates
   touch empty/var/lib/dpkg/status
   if [ "$(id -u)" -eq 0 ] && chroot / true 2>/dev/null && ldd "$program" >/dev/null 2>&1; then
@@ -501,7 +502,11 @@ install_package() { # the package
     try 0 dpkg --root="$PWD/empty" --verify zektrob
     [ ! -s out ]
     count $? "$name: files are not as packed: $(cat out)"
-    copy_libraries "$program" empty
+    # The front is a script: these three are on each Debian.
+    for file in "$program" /bin/bash /usr/bin/env /usr/bin/readlink; do
+      copy_libraries "$file" empty
+      [ "$file" = "$program" ] || install -D "$file" "empty$file"
+    done
     call=(/usr/sbin/chroot "$PWD/empty" /usr/bin/cyber)
   else
     try 0 dpkg-deb -x "$1" empty
@@ -586,6 +591,8 @@ $d' --stop control@8
   try 0 python3 "$top/tools/why_not.py" --help
 }
 
+. "$top/tests/tools/front.sh"
+
 release() {
   if [ ! -x "$program" ]; then
     skip release "no program at $program"
@@ -599,8 +606,18 @@ release() {
   try 0 "$top/release/make.sh" --out "$PWD/made" --gate gate.log "$program"
   mkdir tar
   tar -xzf made/*.tar.gz -C tar --strip-components 1
-  cmp -s tar/bin/cyber "$program"
+  cmp -s tar/lib/zektrob/crates/cyber/out/cyber "$program"
   count $? "$name: the program is another one"
+  [[ $(readlink tar/bin/cyber) == ../lib/zektrob/cyber && -x tar/lib/zektrob/cyber ]]
+  count $? "$name: the command is no link to the front"
+  [ ! -e tar/lib/zektrob/front/repository.sh ] && [ ! -e tar/lib/zektrob/crates.txt ]
+  count $? "$name: it has what builds the program"
+  cmp -s tar/lib/zektrob/tools/why_not.py "$top/tools/why_not.py" && [ -x tar/lib/zektrob/tools/why_not.py ] && [ -f tar/lib/zektrob/batch/Snakefile ]
+  count $? "$name: the tools or the batch are missing"
+  try 0 tar/bin/cyber --version
+  says out "cyber 0~[0-9]{8}\.[0-9a-f]{8}, commit $(git -C "$top" rev-parse HEAD)( with changes.*)?, [0-9-]{10}, proved with logic 0123456789abcdef"
+  try 0 python3 tar/lib/zektrob/tools/messages.py tar/share/doc/zektrob/examples/pass/one.rec
+  says out '/in 1 100 7'
   says tar/share/doc/zektrob/PROVED "commit $(git -C "$top" rev-parse HEAD)( with changes.*)?"
   says tar/share/doc/zektrob/PROVED 'logic 0123456789abcdef'
   says tar/share/doc/zektrob/PROVED 'proofs rt: ok; every proof was done in this run'
@@ -619,6 +636,22 @@ release() {
   tours_the_package
 }
 
+# Unpacks the package into a folder that others may read, as an image is made: the folder stays so, and the command runs there.
+unpack_package() { # the package
+  mkdir -m 755 unpacked
+  try 0 dpkg -x "$1" unpacked
+  [ "$(stat -c %a unpacked)" = 755 ]
+  count $? "$name: the folder has the mode $(stat -c %a unpacked)"
+  dpkg-deb -c "$1" >contents
+  says contents 'drwxr-xr-x root/root .* \./'
+  cp -r unpacked/usr/share/doc/zektrob/examples unpacked/
+  try 0 python3 "$top/tests/tools/tour.py" unpacked/examples/README.md unpacked "$PWD/unpacked/usr/bin/cyber"
+  try 2 unpacked/usr/bin/cyber paly
+  says err "  There is no command 'paly'. Did you mean play\?"
+  try 3 unpacked/usr/bin/cyber info none
+  says err "  Reading 'none' failed. There is no such file..*"
+}
+
 tours_the_package() {
   begin 'the tour of the examples runs where the package alone is installed'
   if ! command -v dpkg-deb >/dev/null; then
@@ -626,6 +659,7 @@ tours_the_package() {
     return
   fi
   "$top/release/make.sh" --out "$PWD" "$program" >/dev/null
+  unpack_package ./*.deb
   install_package ./*.deb
   try 0 python3 "$top/tests/tools/tour.py" empty/examples/README.md empty "${call[@]}"
   says out '[0-9]+ lines typed'
@@ -691,7 +725,7 @@ completes() { # the folder with the completions
   count $? "$name: bash completes other options: $(cat difference)"
   # shellcheck disable=SC2016
   bash -c '. "$1"; COMP_WORDS=(cyber ""); COMP_CWORD=1; _cyber; echo "${COMPREPLY[*]}"' - "$1/bash-completion/completions/cyber" >commands
-  says commands 'play verify pass check info make recover split'
+  says commands 'play verify pass check info make recover split help'
   grep -o -- "'--[a-z]*" "$1/zsh/vendor-completions/_cyber" | tr -d "'" | sort -u | diff - <(echo "$options") >difference
   count $? "$name: zsh completes other options: $(cat difference)"
   if command -v zsh >/dev/null; then
@@ -945,7 +979,7 @@ if [ "${1:-}" = --install ]; then
   install=yes
   shift
 fi
-[ $# -gt 0 ] || set -- gate timeline pictures messages why_not release batch
+[ $# -gt 0 ] || set -- front gate timeline pictures messages why_not release batch
 for section in "$@"; do
   "$section"
 done

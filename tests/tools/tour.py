@@ -5,7 +5,7 @@
 
 The lines of PAGE that call `./cyber` are run in FOLDER, with COMMAND in place of `./cyber`, and so are those of `sed` and `head` that write a
 file; a backslash continues a line. What a line of `./cyber` prints has to stand on the page: one line in backquotes, more of them indented. A line
-on standard error goes with a status other than 0. Of a play on threads the numbers of calls and of written messages may be others, but
+on standard error goes with a status other than 0; what the front explains below it doesn't have to stand on the page. Of a play on threads the numbers of calls and of written messages may be others, but
 `verify` prints those of the play before it. Ends with status 1 at the first line that fails.
 """
 import re
@@ -24,7 +24,7 @@ def is_told(text, page):
 
 def fault_of(call, done, played, page):
     """What is wrong with what a line printed, or None; `played` is what the play before it printed."""
-    printed = done.stdout + done.stderr
+    printed = done.stdout + done.stderr.partition("\n")[0]
     if not printed or (done.returncode != 0) != bool(done.stderr):
         return "a status without its line"
     if call.startswith("verify") and done.returncode == 0 and printed != played.replace("done: ", "lawful: "):
