@@ -420,28 +420,6 @@ obeys_on_threads() { # how often, and the stop
   count $? "$name: the run $time was not as expected: $(head -c 200 out err verified obeyed)"
 }
 
-# Plays the drive as a user of its own, of whom so many threads may run at once, the player's among them. What has no thread beside the
-# player is done behind it.
-plays_where_threads_are_few() { # how many
-  begin "plays where $1 threads may run at once"
-  if [ "$(id -u)" -ne 0 ]; then
-    echo "left out, since root alone may try it: $name"
-    return
-  fi
-  mkdir files
-  cp -r "$top/examples" files/
-  cp "$program" program
-  chmod 711 "$work" .
-  chmod 755 program
-  chown -R 60000:60000 files
-  (cd files && exec timeout 60 setpriv --reuid=60000 --regid=60000 --clear-groups prlimit --nproc="$1" ../program play \
-    --dag examples/drive/drive.dag --record examples/drive/drive.rec --sched examples/drive/drive.sched \
-    --out out.rec --trace out.trace) >out 2>err
-  count $? "$name: it ended otherwise: $(head -c 200 err)"
-  has_played_the_drive files/out.rec files/out.trace
-  count $? "$name: the run was not as expected: $(head -c 200 out err verified)"
-}
-
 # One message leaves no choice: threads write what one thread writes.
 plays_one_message_alike() {
   begin 'plays one message on threads as on one'
@@ -677,9 +655,6 @@ plays_as_described --dag "$work/made.dag" --record "$work/made.record"
 plays_on_threads 25
 obeys_on_threads 10 margin@1700000010000000000
 obeys_on_threads 10 late@1700000005010000000
-for threads in 1 2 3 4; do
-  plays_where_threads_are_few "$threads"
-done
 plays_one_message_alike
 plays_at_random 100
 plays_one_component 'a record' two.rec '' 'done: played 2, shadowed 0, calls 2, written 4' \
@@ -888,6 +863,7 @@ tells_of_standard_output 'cannot be written' '</dev/null >&0'
 fails_without_standard_error 'is full' '2>/dev/full'
 fails_without_standard_error 'is closed' '2>&-'
 
+. "$top/tests/program/threads.sh"
 . "$top/tests/program/timers.sh"
 . "$top/tests/program/refused.sh"
 . "$top/tests/program/verify.sh"
