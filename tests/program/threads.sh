@@ -35,6 +35,7 @@ play_within() { # how many threads, or none, the scheduler file, and further wor
   local words=(play "${drive[@]}" --sched "$sched" --out out.rec --trace out.trace "${@:3}")
   local under=()
   [ -z "$limit" ] || under=("${as_other[@]}" prlimit --nproc="$((limit + own_threads))")
+  rm -f files/out.rec files/out.trace
   before=${EPOCHREALTIME/./}
   (cd files && exec timeout 60 "${under[@]}" ../program "${words[@]}") >out 2>err
   status=$?
@@ -84,11 +85,13 @@ middle() { # the numbers
 
 # Plays the drive where 1 to 10 threads may run at once: each context is served, by a processor or by the player's thread, and nobody waits
 # for processors that don't come. On one thread the run is the serial one.
-plays_where_threads_are_few() { # the scheduler file, as it is made
-  local sched=$3 limit calls times=()
+plays_where_threads_are_few() { # how many processors, how the scheduler file is made, and its name
+  local sched=$3 limit calls alone times=()
   begin_for_others "plays where few threads may run at once: $1"
   (cd files && eval "$2")
   finds_another || return
+  play_within '' "$sched" --serial
+  alone=$took
   for limit in 1 2 3 4 5 6 7 8 9 10; do
     play_within "$limit" "$sched"
     times+=("$took")
@@ -99,8 +102,8 @@ plays_where_threads_are_few() { # the scheduler file, as it is made
       is_as_the_serial_one "$sched"
     fi
   done
-  [ "$(middle "${times[@]}")" -lt 700 ]
-  count $? "$name: the plays took ${times[*]} ms"
+  [ "$(middle "${times[@]}")" -lt $((3 * alone + 600)) ]
+  count $? "$name: the plays took ${times[*]} ms, and a serial one $alone"
 }
 
 # Compares the files of the last play, and its line, with those of a serial one.
