@@ -9,8 +9,7 @@ SERIAL_CALLS=2370
 # where nobody serves some components, 900 to 2,300 calls are missing.
 LEAST_CALLS=2300
 
-# Writes scheduler files: so many processors that share one context; five with components of their own and a pool of three; four with
-# components of their own.
+# Writes scheduler files: so many processors that share one context; and so many with components of their own, and a pool for the others.
 sharing() { # how many
   echo "scheduler_conf { classic_conf { groups { name: \"g\" processor_num: $1 } } }" >"sharing$1"
 }
@@ -97,7 +96,7 @@ plays_where_threads_are_few() { # how many processors, how the scheduler file is
     times+=("$took")
     calls=$(lawful_calls)
     [ "$calls" -ge "$LEAST_CALLS" ] && [ "$calls" -le "$SERIAL_CALLS" ]
-    count $? "$name: $calls calls with a limit of $limit: $(head -c 200 out err verified)"
+    count $? "$name: $calls calls with a limit of $limit: $(head -c 200 out err verified 2>&1)"
     if [ "$limit" -eq 1 ] && [ "$own_threads" -eq 0 ]; then
       is_as_the_serial_one "$sched"
     fi
@@ -119,7 +118,7 @@ stops_on_one_thread() { # the stop
   finds_another || return
   play_within 1 examples/drive/drive.sched --stop "$1"
   [ "$(lawful_calls "--stop=$1")" -gt 0 ]
-  count $? "$name: $(head -c 200 out err verified)"
+  count $? "$name: $(head -c 200 out err verified 2>&1)"
   [ "$own_threads" -ne 0 ] || is_as_the_serial_one examples/drive/drive.sched --stop "$1"
 }
 
@@ -132,21 +131,21 @@ plays_with_ample_threads() { # how often, the scheduler file, and how it is made
     play_within '' "$2"
     calls=$(lawful_calls)
     [ "$calls" -ge "$LEAST_CALLS" ] && [ "$calls" -le "$SERIAL_CALLS" ]
-    count $? "$name: $calls calls: $(head -c 200 out err verified)"
+    count $? "$name: $calls calls: $(head -c 200 out err verified 2>&1)"
   done
 }
 
 plays_where_threads_are_few 'one processor' 'sharing 1' sharing1
 plays_where_threads_are_few 'three processors' '' examples/drive/drive.sched
 plays_where_threads_are_few 'eight processors' 'pinned eight 5 3 smooth margin limit late' eight
-plays_where_threads_are_few 'four processors' 'pinned four 4 0 smooth margin limit late frames' four
+plays_where_threads_are_few 'four processors' 'pinned four 4 1 smooth margin limit late frames' four
 for stop in margin@1700000010000000000 late@1700000005010000000 frames@0; do
   stops_on_one_thread "$stop"
 done
 plays_with_ample_threads 5 examples/drive/drive.sched ''
-# More than the machine has, and as many as may be asked for, with components of their own or not. One of 64 has no thread of its own.
+# More than the machine has, and as many as may be asked for. The last one of 64 has no thread, and in the second case it alone is for a
+# component.
 for processors in 5 33 64; do
   plays_with_ample_threads 2 "sharing$processors" "sharing $processors"
 done
-plays_with_ample_threads 2 all 'pinned all 64 0 smooth margin limit late frames'
 plays_with_ample_threads 2 last 'pinned last 63 1 smooth margin limit late'
