@@ -128,3 +128,19 @@ stands() { # what it shows, the script, and its words behind the program
   grep '^left out' report
   skipped=$((skipped + $(grep -c '^left out' report)))
 }
+
+# Whether a play of the drive ended well, with the calls that its trace has: any lawful run may come of threads, so the files are looked at
+# by `info` and by the numbers of the line.
+has_played_the_drive() { # the record, the trace, the stop in one word where there is one
+  grep -Eqx 'done: played 3205, shadowed 0, calls [1-9][0-9]*, written [0-9]+' out &&
+    "$program" info "$1" >told && grep -q ' complete yes ' told && ! grep -q '^differs' told &&
+    grep -q "messages $(sed 's/.* written //' out)$" told &&
+    [ "$(grep -c '^call ' "$2")" = "$(sed 's/.* calls \([0-9]*\),.*/\1/' out)" ] &&
+    verifies_the_drive "$(readlink -f "$1")" "$(readlink -f "$2")" "${@:3}"
+}
+
+# Whether `verify` finds the files of a play of the drive to be those of a lawful run with the numbers of its line.
+verifies_the_drive() { # the record, the trace, and the stop where there is one
+  (cd "$top" && exec "$program" verify "${drive[@]}" --out "$1" --trace "$2" "${@:3}") >verified 2>&1
+  cmp -s verified <(sed 's/^done: /lawful: /' out)
+}

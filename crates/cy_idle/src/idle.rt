@@ -19,6 +19,12 @@ const PAUSE: u64 = 10;
 
 const PAUSES: u32 = 100;
 
+// The same where it waits for the first processors, and has a deputy for those that don't come: it
+// rests so often after the last one that came.
+const SHORT_PAUSE: u64 = 5;
+
+const SHORT_PAUSES: u32 = 4;
+
 // A context for each component that may be its first, and one for those that serve none.
 const CONTEXTS: usize = BITS + 1;
 
@@ -38,6 +44,10 @@ const PLAYER_LOOKS: u32 = 1_000;
 /// thread to be had. Where it is ahead of them by some messages it waits until the components have
 /// fetched what came to them, a second at most, so that they skip little: it looks for that, or
 /// rests at once where calls take long.
+///
+/// The player may have a deputy, which serves components on the player's thread while no processor
+/// came for them. As long as there are such components, the player waits before each message until
+/// none has anything to do, neither those nor the others.
 #[derive(Drop)]
 pub struct Idle {
     places: Vec<CachePadded<Place>>,
@@ -45,6 +55,8 @@ pub struct Idle {
     // How often there was news for each context, by the first component that it serves; the last is
     // for those that serve none.
     news: Vec<CachePadded<AtomicU64>>,
+    // .. and for the deputy.
+    deputy_news: AtomicU64,
     pace: Pace,
     player: Parker,
     resting: AtomicBool,
@@ -75,12 +87,23 @@ impl Idle {
             places,
             door: Mutex::new(()),
             news: no_news(alloc)?,
+            deputy_news: AtomicU64::new(0),
             pace: Pace::new(alloc)?,
             player: Parker::new(),
             resting: AtomicBool::new(false),
             player_is_due: AtomicBool::new(false),
             patience: Patience::new(),
         })
+    }
+
+    /// The player has a deputy for these components. It is said before any processor comes.
+    pub fn depute(&self, components: &[u32]) {
+        self.pace.depute(bits_of(components));
+    }
+
+    /// The components that are left to the deputy, as a mask: no processor came for them.
+    pub fn unserved(&self) -> u64 {
+        self.pace.unserved()
     }
 
     /// A processor comes, which serves these components.
@@ -130,11 +153,21 @@ impl Idle {
 
     /// There is news for components, which were looked at: a processor that is awake scans them
     /// again before it rests, since it compares the news; where none is awake one that rests is
-    /// called.
+    /// called. So is the player, where some are left to its deputy.
     pub fn tell<R: Wait>(&self, rt: &R, components: u64) {
         if components != 0 {
             self.count_news(components);
             self.call_for(rt, components);
+            self.tell_deputy(components);
+        }
+    }
+
+    fn tell_deputy(&self, components: u64) {
+        if components & self.unserved() != 0 {
+            self.deputy_news.fetch_add(1, SeqCst);
+            if self.resting.load(SeqCst) {
+                self.call_player();
+            }
         }
     }
 
@@ -157,9 +190,13 @@ impl Idle {
 
     fn tell_player(&self) {
         if self.resting.load(SeqCst) && self.pace.busy() == 0 {
-            self.player_is_due.store(true, SeqCst);
-            self.player.unpark();
+            self.call_player();
         }
+    }
+
+    fn call_player(&self) {
+        self.player_is_due.store(true, SeqCst);
+        self.player.unpark();
     }
 
     /// The player set the clock, which is news for those whose sleep that ended.
@@ -238,14 +275,31 @@ impl Idle {
         left
     }
 
-    /// The player waits until all processors came, for so long at most.
-    pub fn await_all<R: Wait>(&self, rt: &R) {
+    /// The player waits until all processors came, for a second at most. Where it has a deputy it
+    /// waits for those alone that come one soon after another.
+    pub fn await_all<R: Wait>(&self, rt: &R, has_deputy: bool) {
+        let pause = if has_deputy { SHORT_PAUSE } else { PAUSE };
+        let mut pauses = if has_deputy { SHORT_PAUSES } else { PAUSES };
         for _ in 0..PAUSES {
-            if self.have_come() {
+            if pauses == 0 || self.have_come() {
                 return;
             }
-            self.player.park_timeout(rt, Duration::from_millis(PAUSE));
+            let away = self.count_away();
+            self.player.park_timeout(rt, Duration::from_millis(pause));
+            if self.count_away() == away {
+                pauses -= 1;
+            }
         }
+    }
+
+    fn count_away(&self) -> u32 {
+        let mut away = 0u32;
+        for place in &self.places {
+            if place.is(AWAY) {
+                away = away.saturating_add(1);
+            }
+        }
+        away
     }
 
     // Whether all processors come while it looks.
@@ -279,17 +333,42 @@ impl Idle {
         if ahead < lead {
             return ahead.saturating_add(1);
         }
-        if !self.ends_soon() {
-            self.await_end(rt);
-        }
+        let _turns = self.await_turn(rt, self.deputy_news());
         1
     }
 
-    // Whether no component is busy any more while the player looks.
-    fn ends_soon(&self) -> bool {
+    /// The components that have something to do, as a mask.
+    pub fn busy(&self) -> u64 {
+        self.pace.busy()
+    }
+
+    /// How often there was news so far for the deputy, which asks before it scans.
+    pub fn deputy_news(&self) -> u64 {
+        self.deputy_news.load(SeqCst)
+    }
+
+    /// The player waits until no component is busy, or until there is news for its deputy, other
+    /// than was seen. Whether one of both came before a second was over: a gate may hold a component
+    /// until another one is called.
+    pub fn await_turn<R: Wait>(&self, rt: &R, seen: u64) -> bool {
+        if self.turns_soon(seen) {
+            return true;
+        }
+        self.resting.store(true, SeqCst);
+        let turns = self.turns(rt, seen);
+        self.resting.store(false, SeqCst);
+        turns
+    }
+
+    fn is_turn(&self, seen: u64) -> bool {
+        self.pace.busy() == 0 || self.deputy_news() != seen
+    }
+
+    // Whether it comes while the player looks.
+    fn turns_soon(&self, seen: u64) -> bool {
         if self.patience.may_look() {
             for _ in 0..PLAYER_LOOKS {
-                if self.pace.busy() == 0 {
+                if self.is_turn(seen) {
                     self.patience.win();
                     return true;
                 }
@@ -300,24 +379,16 @@ impl Idle {
         false
     }
 
-    // The player rests until no component is busy, or until some time has passed: a gate may hold a
-    // component until another one is called.
-    fn await_end<R: Wait>(&self, rt: &R) {
-        self.resting.store(true, SeqCst);
+    // .. or while it rests.
+    fn turns<R: Wait>(&self, rt: &R, seen: u64) -> bool {
         for _ in 0..PAUSES {
-            let busy = self.pace.busy();
-            if busy == 0 {
-                break;
+            if self.is_turn(seen) {
+                return true;
             }
-            self.call_for(rt, busy);
+            self.call_for(rt, self.pace.busy());
             self.player.park_timeout(rt, Duration::from_millis(PAUSE));
         }
-        self.resting.store(false, SeqCst);
-    }
-
-    /// The components that have something to do, as a mask.
-    pub fn busy(&self) -> u64 {
-        self.pace.busy()
+        false
     }
 
     /// Whether there is news while a processor, which has nothing to do any more, looks for it. It

@@ -11,8 +11,9 @@ use std::sync::atomic::Ordering::SeqCst;
 // several would be taken for one.
 pub(crate) const BITS: usize = 64;
 
-// The components that are open, those that some processor serves and those that sleep, as masks;
-// the time until which each of these sleeps; and the clock.
+// The components that are open, those that some processor serves, those that are left to the
+// player's deputy, and those that sleep, as masks; the time until which each of these sleeps; and
+// the clock.
 //
 // A component is open from when a message triggered it, or its sleep ended, until it has fetched
 // all that its buffer keeps and what it put out of that has opened others.
@@ -20,6 +21,7 @@ pub(crate) const BITS: usize = 64;
 pub(crate) struct Pace {
     open: CachePadded<AtomicU64>,
     served: AtomicU64,
+    unserved: AtomicU64,
     asleep: AtomicU64,
     until: Vec<AtomicU64>,
     clock: AtomicU64,
@@ -35,15 +37,27 @@ impl Pace {
         Ok(Pace {
             open: CachePadded::new(AtomicU64::new(0)),
             served: AtomicU64::new(0),
+            unserved: AtomicU64::new(0),
             asleep: AtomicU64::new(0),
             until,
             clock: AtomicU64::new(0),
         })
     }
 
+    // The player has a deputy for these components, which no processor serves yet.
+    pub(crate) fn depute(&self, components: u64) {
+        self.unserved.fetch_or(components, SeqCst);
+    }
+
     // A processor came that serves these components.
     pub(crate) fn serve(&self, components: u64) {
         self.served.fetch_or(components, SeqCst);
+        self.unserved.fetch_and(!components, SeqCst);
+    }
+
+    // The components that are left to the deputy.
+    pub(crate) fn unserved(&self) -> u64 {
+        self.unserved.load(SeqCst)
     }
 
     // These components have something to do.

@@ -27,8 +27,8 @@ use Rattle.cy_run.specs.declared.crew.Worker.{Worker}
 use Rattle.cy_run.specs.Passes.{IsFree}
 use Rattle.cy_run.specs.Playing.{IsFreePlayer, IsPlayed}
 use Rattle.cy_run.specs.Working.{IsOrderOf}
-use Rattle.cy_run.specs.Driving.{MayDrive}
-use Rattle.cy_run.specs.Running.{orders_of, IsHired, IsCrew, MayRun}
+use Rattle.cy_run.specs.Driving.{MayDrive, IsDeputy}
+use Rattle.cy_run.specs.Running.{orders_of, IsHired, IsHiredBy, IsDismissed, IsCrew, MayRun}
 
 -- The player between two of these steps.
 still_free : (t : FlagTable) (q u : Pass) (n : ℕ) (seen : List Rattle.cy_table.specs.Seats.Seen) → IsFreePlayer t q → Stays t q u → thread_of u ≡ knowing q (record (seat_of q) { split = n; seen = seen }) → IsFreePlayer t u
@@ -71,14 +71,20 @@ split_free t q w m at told = let seat : seat_of w ≡ split_off (seat_of q) = ap
   out = ap (λ (x : Thread). x.1) told;
 }
 
+pub hired_by : (t : FlagTable) (q u w : Pass) → IsFreePlayer t q → Stays t q u → IsAt t w → thread_of w ≡ (split_off (seat_of q), []) → thread_of u ≡ knowing q (splitting (seat_of q)) → IsHiredBy t q u w
+hired_by t q u w m s at theirs told = record {
+  mine = still_free t q u ((seat_of q).split + 1) (seat_of q).seen m s told;
+  seat = ap (λ (x : Thread). x.0) told;
+  free = split_free t q w m at theirs;
+}
+
 -- One worker more.
-pub hires : (t : FlagTable) (n m : ℕ) (p q u w : Pass) (crew : List Worker) (plan me : ℕ) → IsCrew t n m p q crew → Stays t q u → IsAt t w → thread_of w ≡ (split_off (seat_of q), [])
-    → thread_of u ≡ knowing q (splitting (seat_of q)) → plan < n → me ≡ length crew → length crew < m → IsCrew t n m p u (crew ++ record { pass = w; plan = plan; me = me } ∷ [])
-hires t n m p q u w crew plan me c s at theirs told lt is few =
-    let hired : IsHired t n m record { pass = w; plan = plan; me = me } = record { free = split_free t q w c.mine at theirs; plan = lt; me = subst (λ k. k < m) (sym is) few } in
+pub hires : (t : FlagTable) (n m : ℕ) (p q u w : Pass) (crew : List Worker) (plan me : ℕ) → IsCrew t n m p q crew → IsHiredBy t q u w → plan < n → me ≡ length crew → length crew < m → IsCrew t n m p u (crew ++ record { pass = w; plan = plan; me = me } ∷ [])
+hires t n m p q u w crew plan me c h lt is few =
+    let hired : IsHired t n m record { pass = w; plan = plan; me = me } = record { free = h.free; plan = lt; me = subst (λ k. k < m) (sym is) few } in
     let more : length (crew ++ record { pass = w; plan = plan; me = me } ∷ []) ≡ length crew + 1 = length-append crew (record { pass = w; plan = plan; me = me } ∷ []) in record {
-      mine = still_free t q u ((seat_of q).split + 1) (seat_of q).seen c.mine s told;
-      same = ap (λ (x : Thread). x.0) told ∙ (ap (λ (v : Seat). splitting v) c.same ∙ ap (λ k. record (seat_of p) { split = k }) (sym more));
+      mine = h.mine;
+      same = h.seat ∙ (ap (λ (v : Seat). splitting v) c.same ∙ ap (λ k. record (seat_of p) { split = k }) (sym more));
       few = subst (λ k. k ≤ m) (sym more) (one_less (length crew) m few);
       hired = All-push (IsHired t n m) crew record { pass = w; plan = plan; me = me } c.hired hired;
     }
@@ -95,6 +101,25 @@ one_fewer q u w n told is = less (seat_of u).split (seat_of q).split n (ap (λ (
   where
     less : (a b n : ℕ) → a ≡ b - 1 → b ≡ n + 1 → a ≡ n
     less a b n e f = omega (arith, e, f)
+
+pub dismissed : (t : FlagTable) (q u w : Pass) → IsFreePlayer t q → 0 < (seat_of q).split → Stays t q u → thread_of u ≡ knowing q (joining (seat_of q) (seat_of w)) → IsDismissed t q u
+dismissed t q u w m some s told = record {
+  mine = joins t q u w m s told;
+  split = less (seat_of u).split (seat_of q).split (ap (λ (x : Thread). x.0.split) told) some;
+  played = ap (λ (x : Thread). x.0.played) told;
+  clock = ap (λ (x : Thread). x.0.clock) told;
+  raised = ap (λ (x : Thread). x.0.raised) told;
+}
+  where
+    less : (a b : ℕ) → a ≡ b - 1 → 0 < b → b ≡ a + 1
+    less a b e l = omega (arith, e, l)
+
+-- .. where a deputy was split off behind a crew, and they drove.
+pub some_split : (t : FlagTable) (tokens : List Token) (p q u d : Pass) → IsHiredBy t p q d → IsPlayed t tokens q u → 0 < (seat_of u).split
+some_split t tokens p q u d h played = more (seat_of p).split (seat_of q).split (seat_of u).split (ap (λ (v : Seat). v.split) h.seat) played.split
+  where
+    more : (a b c : ℕ) → b ≡ a + 1 → c ≡ b → 0 < c
+    more a b c e f = omega (arith, e, f)
 
 pub rest_free : (t : FlagTable) (xs rest : List Worker) (w : Worker) → xs ≡ w ∷ rest → All (λ (x : Worker). IsFree t x.pass) xs → IsFree t w.pass × All (λ (x : Worker). IsFree t x.pass) rest
 rest_free t xs rest w e all = let all' = subst (λ l. All (λ (x : Worker). IsFree t x.pass) l) e all in (all' 0 w (first (length rest)), λ k d lt. all' (suc k) d (later k (length rest) lt))
@@ -155,17 +180,23 @@ all_orders n (x ∷ plans) known (suc k) d lt = all_orders n plans (λ c e. know
     down : (j n : ℕ) → suc j < suc n → j < n
     down j n l = omega (arith, l)
 
--- A crew that was split off may drive.
-pub may_drive : (w : World) (t : FlagTable) (plans : List Plan) (tokens : List Token) (contexts : List ContextPlan) (orders : List (List ℕ)) (parkers : ℕ) (p q : Pass) (crew : List Worker) (stop : Option Stop)
-    → MayRun (plain_of w) plans tokens (scan_of contexts) → IsNew w t p → orders ≡ orders_of contexts → IsCrew t (length contexts) parkers p q crew → stop ≡ (plain_of w).stop → MayDrive t plans tokens orders parkers q crew stop
-may_drive w t plans tokens contexts orders parkers p q crew stop r n is c given =
-    let w' = plain_of w in
-    let seat : seat_of q ≡ record (Rattle.cy_table.specs.Plays.seat_for w) { split = length crew } = c.same ∙ ap (λ (x : Thread). record x.0 { split = length crew }) n.thread in
-    let all : All (IsOrderOf t) orders = subst (λ l. All (IsOrderOf t) l) (sym is) (subst (λ k. All (λ (order : List ℕ). All (λ c. c < k) order) (orders_of contexts)) (ap (λ (x : Plain). length x.routes) (sym n.made)) (all_orders (length w'.routes) contexts r.play.scan.known)) in record {
+-- The contexts have components of the table alone.
+orders_inside : (w : World) (t : FlagTable) (plans : List Plan) (tokens : List Token) (contexts : List ContextPlan) (orders : List (List ℕ)) (p : Pass)
+    → MayRun (plain_of w) plans tokens (scan_of contexts) → IsNew w t p → orders ≡ orders_of contexts → All (IsOrderOf t) orders
+orders_inside w t plans tokens contexts orders p r n is = subst (λ l. All (IsOrderOf t) l) (sym is)
+    (subst (λ k. All (λ (order : List ℕ). All (λ c. c < k) order) (orders_of contexts)) (ap (λ (x : Plain). length x.routes) (sym n.made)) (all_orders (length (plain_of w).routes) contexts r.play.scan.known))
+
+-- A crew that was split off may drive, and a deputy behind it.
+pub may_drive : (w : World) (t : FlagTable) (plans : List Plan) (tokens : List Token) (contexts : List ContextPlan) (orders : List (List ℕ)) (parkers : ℕ) (p q u d : Pass) (crew : List Worker) (stop : Option Stop)
+    → MayRun (plain_of w) plans tokens (scan_of contexts) → IsNew w t p → orders ≡ orders_of contexts → IsCrew t (length contexts) parkers p q crew → IsHiredBy t q u d → stop ≡ (plain_of w).stop → MayDrive t plans tokens orders parkers u crew stop
+may_drive w t plans tokens contexts orders parkers p q u d crew stop r n is c h given =
+    let w' = plain_of w in let split = length crew + 1 in
+    let seat : seat_of u ≡ record (Rattle.cy_table.specs.Plays.seat_for w) { split = split } = h.seat ∙ (ap (λ (v : Seat). splitting v) c.same ∙ ap (λ (x : Thread). record x.0 { split = split }) n.thread) in
+    let all : All (IsOrderOf t) orders = orders_inside w t plans tokens contexts orders p r n is in record {
       made = ap (λ (x : Plain). x.routes) n.made ∙ r.wired;
       given = ap (λ (x : Plain). x.stop) n.made ∙ sym given;
       list = record {
-        mine = c.mine;
+        mine = h.mine;
         made = subst (λ (x : Plain). IsToPlay x tokens) (sym n.made) r.play.made;
         within = subst (λ (x : Plain). IsWithin x.routes x.counts x.stop) (sym n.made) r.play.within;
         unraised = ap (λ (v : Seat). v.raised) seat ∙ ap (λ (x : Plain). x.raised) r.play.opening;
@@ -174,6 +205,10 @@ may_drive w t plans tokens contexts orders parkers p q crew stop r n is c given 
       };
       crew_is = λ k d lt. let h = c.hired k d lt in record { free = h.free; plan = subst (λ j. (slice_index_or crew k d).plan < j) (sym (ap length is ∙ length-map contexts (λ (x : ContextPlan). x.order))) h.plan; me = h.me; orders = all };
     }
+
+pub is_deputy : (w : World) (t : FlagTable) (plans : List Plan) (tokens : List Token) (contexts : List ContextPlan) (orders : List (List ℕ)) (p q u d : Pass)
+    → MayRun (plain_of w) plans tokens (scan_of contexts) → IsNew w t p → orders ≡ orders_of contexts → IsHiredBy t q u d → IsDeputy t orders d
+is_deputy w t plans tokens contexts orders p q u d r n is h = record { free = h.free; orders = orders_inside w t plans tokens contexts orders p r n is }
 
 -- A world that is left may be finished.
 pub may_finish : PutLaws → (w : World) (t : FlagTable) (plans : List Plan) (tokens : List Token) (scan : List ℕ) (p q v : Pass) (left : Plain) → MayRun (plain_of w) plans tokens scan → made_of t ≡ plain_of w

@@ -1,5 +1,6 @@
 -- A drive of a whole list: what it needs of the player and the processors, and what it leaves.
 use Rattle.std.specs.Prelude.{ℕ, ◌≡◌, ◌<◌, List, All, length, slice_index_or, Option}
+use Rattle.std.specs.Prelude.{IfSome}
 use Rattle.cy_msg.specs.declared.stop.Stop.{Stop}
 use Rattle.cy_msg.specs.declared.token.Token.{Token}
 use Rattle.cy_comp.specs.declared.plan.Plan.{Plan}
@@ -32,6 +33,15 @@ pub record HasWorked (t : FlagTable) (contexts : List (List ℕ)) (w u : Worker)
 abbrev pub HaveWorked : FlagTable → List (List ℕ) → (old new : List Worker) → Type 0
 HaveWorked t contexts old new = (i : ℕ) (d : Worker) → i < length old
     → HasWorked t contexts (slice_index_or old i d) (slice_index_or new i d)
+
+-- The player's deputy, for contexts that have components of the table alone, is a pass with nothing
+-- in hand. There may be none.
+pub record IsDeputy (t : FlagTable) (contexts : List (List ℕ)) (p : Pass) : Type 0 where
+  pub free : IsFree t p
+  pub orders : All (IsOrderOf t) contexts
+
+abbrev pub MayDepute : FlagTable → List (List ℕ) → Option Pass → Type 0
+MayDepute t contexts deputy = IfSome deputy (IsDeputy t contexts)
 
 -- All that a drive needs.
 pub record MayDrive (t : FlagTable) (plans : List Plan) (tokens : List Token)

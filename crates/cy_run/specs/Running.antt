@@ -9,6 +9,7 @@ use Rattle.wake_core.specs.Run.{routes_of}
 use Rattle.wake_core.specs.Rest.{MayPlay}
 use Rattle.cy_table.specs.declared.pass.Pass.{Pass}
 use Rattle.cy_table.specs.declared.table.FlagTable.{FlagTable}
+use Rattle.cy_table.specs.Steps.{splitting}
 use Rattle.cy_table.specs.Calls.{seat_of}
 use Rattle.cy_run.specs.declared.crew.Worker.{Worker}
 use Rattle.cy_run.specs.Passes.{IsFree}
@@ -29,6 +30,20 @@ orders_of plans = map (λ plan. plan.order) plans
 pub record IsAlone (t : FlagTable) (p : Pass) : Type 0 where
   pub mine : IsFreePlayer t p
   pub alone : (seat_of p).split ≡ 0
+
+-- A pass with nothing in hand was split off the player, who is as before but for that; and one was
+-- taken in again.
+pub record IsHiredBy (t : FlagTable) (p q w : Pass) : Type 0 where
+  pub mine : IsFreePlayer t q
+  pub seat : seat_of q ≡ splitting (seat_of p)
+  pub free : IsFree t w
+
+pub record IsDismissed (t : FlagTable) (p q : Pass) : Type 0 where
+  pub mine : IsFreePlayer t q
+  pub split : (seat_of p).split ≡ (seat_of q).split + 1
+  pub played : (seat_of q).played ≡ (seat_of p).played
+  pub clock : (seat_of q).clock ≡ (seat_of p).clock
+  pub raised : (seat_of q).raised ≡ (seat_of p).raised
 
 -- A worker with one of so many contexts and one of so many parkers.
 pub record IsHired (t : FlagTable) (contexts parkers : ℕ) (w : Worker) : Type 0 where

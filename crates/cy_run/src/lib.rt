@@ -18,18 +18,20 @@
 //!     let trace = trace_text(alloc, &world, &wiring, list.shadowed)?;
 //!
 //! - **Threads.** The player is the thread that calls. Each processor of the placement gets one of
-//!   its own, as long as the system gives one; where it gives none the processors' turn comes
-//!   behind the player, so that a run ends on one thread, too. All have ended when the call
+//!   its own, 63 at most, as long as the system gives one. What no processor came for is run by a
+//!   deputy on the player's thread, between the messages, so that no call is lost for want of
+//!   threads; on one thread alone that is the serial run. All threads have ended when the call
 //!   returns.
 //! - **Time.** The clock is set to each message's time, in nanoseconds, before it is played. The
 //!   machine's own time decides nothing: a run is as fast as its components.
 //! - **Stop.** A world that is made with a stop plays with it: the player raises it when as many
 //!   messages were played as it says, and the component that it names ends at its next resume. The
 //!   player wakes nobody for that.
-//! - **Memory.** All of it is reserved before the first message. Between the making of the table
-//!   and its end nothing can fail.
+//! - **Memory.** All of it is reserved before the first message: the table with a pass for each
+//!   thread, and the contexts. From then on nothing can fail until the table is closed.
 //! - **Waiting.** A run waits at doors that other threads have entered, where a processor has
-//!   nothing to do, and where the player is too far ahead.
+//!   nothing to do, and where the player is too far ahead. The player waits for one thing a second
+//!   at most.
 //! - **Order.** Which of several processors calls which component first differs from run to run.
 //!   That a component's own calls come in order, on tuples that were delivered to it, is a clause
 //!   of the world that comes out: it is that of a lawful run.
@@ -40,12 +42,14 @@
 //! once. [`OpenGate`] does nothing.
 //!
 //! What a run does is also to be had in parts: [`drive`] plays a list at a table while workers
-//! work, and [`work`] is the whole loop of one processor. Both leave what the note of each pass
-//! tells. [`run_serial`] is the same without threads: it takes no memory and does not wait.
+//! work, without a deputy, and [`work`] is the whole loop of one processor. Both leave what the
+//! note of each pass tells. [`run_serial`] is a run without threads: it takes no memory and does
+//! not wait.
 #![tactic(auto)]
 
 mod crew;
 mod deliver;
+mod deputy;
 mod driving;
 mod gate;
 mod play;

@@ -1,38 +1,47 @@
 // The player: it plays the messages of a list at the table, and closes.
-ghost use Rattle.std.specs.Prelude.{◌≡◌, ◌≤◌, ◌+◌, length};
+ghost use Rattle.std.specs.Prelude.{◌≡◌, ◌≤◌, ◌+◌, length, is_some};
 ghost use Rattle.wake_core.specs.Serial.{last_clock};
 ghost use Rattle.cy_table.specs.Calls.{made_of, seat_of, CanClose, Stays};
 ghost use Rattle.cy_run.specs.Passes.{IsMadeOf};
 ghost use Rattle.cy_run.specs.Playing.{IsFreePlayer, IsNextFor, IsToBePlayed, IsPlayed};
 ghost use Rattle.cy_run.specs.Playing.{after_play, after_end, IsRaisedBefore};
+ghost use Rattle.cy_run.specs.Driving.{MayDepute};
 
-use crate::Idle;
 use crate::deliver::{deliver, triggered_by};
+use crate::deputy::settle;
+use crate::{Gate, Idle};
 use cy_comp::Wiring;
+use cy_ctx::Context;
 use cy_msg::{PlayList, Stop, Token};
 use cy_table::{FlagTable, Pass};
 use std::sync::Wait;
 use wake_core::laws;
 
 // Plays the messages of a list, one after another, when the processors came and at their pace, and
-// ends the play. The stop is raised on the way.
-pub(crate) fn play_all<R: Wait>(
+// ends the play. The stop is raised on the way. A deputy serves the components for which none came.
+pub(crate) fn play_all<G: Gate, R: Wait>(
     rt: &R,
     table: &FlagTable,
     player: &mut Pass,
+    deputy: &mut Option<Pass>,
+    contexts: &[Context],
     idle: &Idle,
     wiring: &Wiring,
     list: &PlayList,
+    gate: &G,
     stop: Option<Stop>,
 )
     requires made { IsMadeOf table.now wiring.now.plans }
     requires list { IsToBePlayed table.now list.now.tokens player.old }
     requires given { (made_of table.now).stop ≡ stop }
+    requires deputy { MayDepute table.now contexts.now deputy.old }
     ensures same { Stays table.now player.old player.new }
     ensures played { IsPlayed table.now list.now.tokens player.old player.new }
+    ensures deputy { MayDepute table.now contexts.now deputy.new }
+    ensures there { is_some deputy.new ≡ is_some deputy.old }
 {
     laws::put();
-    idle.await_all(rt);
+    idle.await_all(rt, deputy.is_some());
     let lead = least_queue(wiring);
     let mut ahead = 0;
     let tokens = list.tokens.as_slice();
@@ -40,9 +49,10 @@ pub(crate) fn play_all<R: Wait>(
         raise_after(table, player, stop, played);
         ahead = keep_pace(rt, token, idle, wiring, ahead, lead);
         play(rt, table, player, token, idle, wiring);
+        settle(rt, table, deputy, contexts, idle, wiring, gate);
     }
     raise_after(table, player, stop, tokens.len());
-    end_play(rt, table, player, idle);
+    end_play(rt, table, player, deputy, contexts, idle, wiring, gate);
 }
 
 // Raises the stop, where so many messages are played before it.
@@ -63,17 +73,31 @@ fn raise_after(table: &FlagTable, player: &mut Pass, stop: Option<Stop>, played:
     }
 }
 
-// Sets the clock to its greatest value, and then says that all was played.
-fn end_play<R: Wait>(rt: &R, table: &FlagTable, player: &mut Pass, idle: &Idle)
+// Sets the clock to its greatest value, which ends all sleep, and then says that all was played.
+fn end_play<G: Gate, R: Wait>(
+    rt: &R,
+    table: &FlagTable,
+    player: &mut Pass,
+    deputy: &mut Option<Pass>,
+    contexts: &[Context],
+    idle: &Idle,
+    wiring: &Wiring,
+    gate: &G,
+)
+    requires made { IsMadeOf table.now wiring.now.plans }
+    requires deputy { MayDepute table.now contexts.now deputy.old }
     requires mine { IsFreePlayer table.now player.old }
     requires all { CanClose table.now player.old }
     requires bound { (seat_of player.old).clock ≤ last_clock }
     ensures same { Stays table.now player.old player.new }
     ensures mine { IsFreePlayer table.now player.new }
     ensures seat { seat_of player.new ≡ after_end (seat_of player.old) }
+    ensures deputy { MayDepute table.now contexts.now deputy.new }
+    ensures there { is_some deputy.new ≡ is_some deputy.old }
 {
     table.tick(player, u64::MAX);
     idle.heed_clock(rt, u64::MAX);
+    settle(rt, table, deputy, contexts, idle, wiring, gate);
     table.set_closing(player);
     idle.tell_closing(rt);
 }

@@ -67,9 +67,14 @@ pub fn work<G: Gate, R: Wait>(
     unreachable!()
 }
 
-// The first croutine in the order of a context that is READY, of those whose components are known
-// to have something to do, in hand.
-fn next_busy(table: &FlagTable, pass: &mut Pass, context: &Context, busy: u64) -> Option<Hold>
+// The first croutine in the order of a context that is READY, of those whose components are in a
+// mask, in hand.
+pub(crate) fn next_busy(
+    table: &FlagTable,
+    pass: &mut Pass,
+    context: &Context,
+    busy: u64,
+) -> Option<Hold>
     requires inside { IsOrderOf table.now context.now }
     requires free { IsFree table.now pass.old }
     ensures same { Stays table.now pass.old pass.new }

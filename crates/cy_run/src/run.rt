@@ -1,7 +1,7 @@
 // A whole run, on one thread or on many.
 ghost use Rattle.std.specs.Prelude.{◌≡◌, ◌≤◌, ◌+◌, ◌<◌, ◌++◌, length, replicate, vec_len};
-ghost use Rattle.std.specs.Prelude.{vec_capacity, All};
-ghost use Rattle.std.specs.Prelude.{IfOk, OnOk};
+ghost use Rattle.std.specs.Prelude.{vec_capacity, All, take, is_some, true};
+ghost use Rattle.std.specs.Prelude.{IfOk, IfSome, OnOk};
 ghost use Rattle.cy_msg.specs.Placement.{scan_of, processors_of};
 ghost use Rattle.cy_msg.specs.declared.placement.TheConstants.{MOST_PROCESSORS};
 ghost use Rattle.wake_core.specs.Run.{routes_of};
@@ -13,17 +13,23 @@ ghost use Rattle.cy_table.specs.Calls.{seat_of};
 ghost use Rattle.cy_run.specs.Passes.{IsFree};
 ghost use Rattle.cy_run.specs.Playing.{IsFreePlayer};
 ghost use Rattle.cy_run.specs.Running.{MayRun, orders_of, IsAlone, IsCrew, IsMustered};
-ghost use Rattle.cy_run.specs.Running.{plans_of, posts_from};
+ghost use Rattle.cy_run.specs.Running.{plans_of, posts_from, IsHiredBy, IsDismissed};
+ghost use Rattle.cy_run.specs.declared.run.TheConstants.{MOST_THREADS};
 
-use crate::{Gate, Idle, RunError, Worker, drive};
+use crate::driving::drive_with;
+use crate::{Gate, Idle, RunError, Worker};
 use cy_comp::Wiring;
 use cy_ctx::Context;
-use cy_msg::{ContextPlan, Placement, PlayList};
+use cy_msg::{ContextPlan, MOST_PROCESSORS, Placement, PlayList};
 use cy_table::{FlagTable, Pass};
 use std::alloc::Global;
 use std::sync::Wait;
 use std::thread::Threads;
 use wake_core::{World, finish, laws, serial};
+
+// How many processors get a thread at most. A table has room for so many passes and one more beside
+// that of the player, and the deputy has one.
+const MOST_THREADS: u32 = MOST_PROCESSORS - 1;
 
 /// Plays a list in a world that was made for it and in which nothing has happened, and resumes
 /// components on this thread, in the order of the scan. It takes no memory. It is for programs that
@@ -41,9 +47,10 @@ pub fn run_serial(mut world: World, list: &PlayList, placement: &Placement) -> W
 }
 
 /// Plays a list in a world that was made for it and in which nothing has happened, while processors
-/// run the components of their contexts. Each processor gets a thread, as long as the system gives
-/// one. The world that comes out is that of a lawful run. Its only error is `Memory`, and then the
-/// world is given up. It may wait.
+/// run the components of their contexts. Each processor gets a thread, 63 at most, as long as the
+/// system gives one. The components of a context to which no processor came are run by the thread
+/// that calls, between the messages. The world that comes out is that of a lawful run. Its only
+/// error is `Memory`, and then the world is given up. It may wait.
 pub fn run_threads<G: Gate, R: Threads + Wait + Sync>(
     rt: &R,
     alloc: Global,
@@ -61,18 +68,21 @@ pub fn run_threads<G: Gate, R: Threads + Wait + Sync>(
 {
     laws::put();
     let plans = placement.contexts.as_slice();
-    let processors = processors_in(placement);
-    let idle = Idle::new(alloc, processors)?;
+    let threads = processors_in(placement).min(MOST_THREADS);
+    let idle = Idle::new(alloc, threads)?;
     let contexts = contexts_of(alloc, plans)?;
     let stop = world.given();
     let Ok((table, mut player)) = FlagTable::new(alloc, world) else {
         return Err(RunError::Memory);
     };
-    let mut crew = crew_of(alloc, &table, &mut player, plans, processors)?;
-    drive(
+    let mut crew = crew_of(alloc, &table, &mut player, plans, threads)?;
+    let pass = hire(&table, &mut player)?;
+    let mut deputy = Some(pass);
+    drive_with(
         rt,
         &table,
         &mut player,
+        &mut deputy,
         crew.as_mut_slice(),
         contexts.as_slice(),
         &idle,
@@ -81,6 +91,7 @@ pub fn run_threads<G: Gate, R: Threads + Wait + Sync>(
         gate,
         stop,
     );
+    dismiss(&table, &mut player, deputy);
     muster(&table, &mut player, crew);
     let Ok(mut world) = table.close(alloc, player) else {
         return Err(RunError::Memory);
@@ -115,28 +126,28 @@ fn contexts_of(alloc: Global, plans: &[ContextPlan]) -> Result<Vec<Context>, Run
     Ok(contexts)
 }
 
-// The workers: as many of each context as it asks for processors. (No memory could hold more
-// contexts than have numbers.)
+// The workers: as many of each context as it asks for processors, up to so many threads. (No memory
+// could hold more contexts than have numbers.)
 fn crew_of(
     alloc: Global,
     table: &FlagTable,
     player: &mut Pass,
     plans: &[ContextPlan],
-    processors: u32,
+    threads: u32,
 ) -> Result<Vec<Worker>, RunError>
     requires player { IsAlone table.now player.old }
-    requires few { processors ≤ MOST_PROCESSORS }
-    requires all { processors ≡ processors_of plans.now }
-    ensures crew { IfOk result (λ v. IsCrew table.now (length plans.now) processors player.old
+    requires few { threads ≤ MOST_THREADS }
+    ensures crew { IfOk result (λ v. IsCrew table.now (length plans.now) threads player.old
         player.new v.items) }
-    ensures posts { IfOk result (λ v. plans_of v.items ≡ posts_from 0 plans.now) }
+    ensures posts { IfOk result (λ v. plans_of v.items ≡ take threads (posts_from 0 plans.now)) }
 {
-    let mut crew = Vec::with_capacity(alloc, processors as usize)?;
+    let mut crew = Vec::with_capacity(alloc, threads as usize)?;
     for (plan, context) in plans.iter().enumerate() {
         let Ok(number) = u32::try_from(plan) else {
             return Err(RunError::Memory);
         };
-        let count = context.processors;
+        let hired = crew.len() as u32;
+        let count = context.processors.min(threads - hired);
         add_workers(
             table,
             player,
@@ -144,7 +155,7 @@ fn crew_of(
             number,
             plans.len(),
             count,
-            processors,
+            threads,
         )?;
     }
     Ok(crew)
@@ -158,14 +169,14 @@ fn add_workers(
     plan: u32,
     contexts: usize,
     count: u32,
-    processors: u32,
+    threads: u32,
 ) -> Result<(), RunError>
-    requires crew { IsCrew table.now contexts processors player.old player.old crew.old.items }
+    requires crew { IsCrew table.now contexts threads player.old player.old crew.old.items }
     requires plan { plan < contexts }
-    requires few { vec_len crew.old + count ≤ processors }
-    requires room { (processors ≤ MOST_PROCESSORS) × (processors ≤ vec_capacity crew.old) }
+    requires few { vec_len crew.old + count ≤ threads }
+    requires room { (threads ≤ MOST_THREADS) × (threads ≤ vec_capacity crew.old) }
     ensures room { vec_capacity crew.new ≡ vec_capacity crew.old }
-    ensures crew { OnOk result (IsCrew table.now contexts processors player.old player.new
+    ensures crew { OnOk result (IsCrew table.now contexts threads player.old player.new
         crew.new.items) }
     ensures all { OnOk result (vec_len crew.new ≡ vec_len crew.old + count) }
     ensures posts { OnOk result (plans_of crew.new.items
@@ -173,12 +184,36 @@ fn add_workers(
 {
     for _ in 0..count {
         let me = crew.len() as u32;
-        let Ok(pass) = table.split(player) else {
-            return Err(RunError::Memory);
-        };
+        let pass = hire(table, player)?;
         crew.push_reserved(Worker { pass, plan, me });
     }
     Ok(())
+}
+
+// One pass more, split off the player's.
+fn hire(table: &FlagTable, player: &mut Pass) -> Result<Pass, RunError>
+    requires mine { IsFreePlayer table.now player.old }
+    requires few { (seat_of player.old).split < MOST_PROCESSORS }
+    ensures { IfOk result (λ p. IsHiredBy table.now player.old player.new p) }
+{
+    match table.split(player) {
+        Ok(pass) => Ok(pass),
+        Err(_) => Err(RunError::Memory),
+    }
+}
+
+// Takes the pass of the deputy in.
+fn dismiss(table: &FlagTable, player: &mut Pass, deputy: Option<Pass>)
+    requires mine { IsFreePlayer table.now player.old }
+    requires there { is_some deputy ≡ true }
+    requires split { 0 < (seat_of player.old).split }
+    requires free { IfSome deputy (λ p. IsFree table.now p) }
+    ensures { IsDismissed table.now player.old player.new }
+{
+    match deputy {
+        Some(pass) => table.join(player, pass),
+        None => {}
+    }
 }
 
 // Takes the passes of the workers in.

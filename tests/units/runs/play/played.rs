@@ -73,12 +73,12 @@ pub(crate) fn placed(rt: &HostRuntime, size: usize, backwards: bool) -> Result<P
     }
 }
 
-/// Two contexts of one processor each, for components 0 and 1.
-pub(crate) fn pinned(rt: &HostRuntime) -> Result<Placement, Fail> {
+/// Two contexts, for components 0 and 1: the first with so many processors, the second with one.
+pub(crate) fn crowded(rt: &HostRuntime, processors: u32) -> Result<Placement, Fail> {
     let first = ContextPlan {
         name: Text::new(rt.alloc(), "first")?,
         pinned: true,
-        processors: 1,
+        processors,
         order: Items::new(vec![in rt.alloc(); 0]?),
     };
     let second = ContextPlan {
@@ -88,4 +88,9 @@ pub(crate) fn pinned(rt: &HostRuntime) -> Result<Placement, Fail> {
         order: Items::new(vec![in rt.alloc(); 1]?),
     };
     Ok(Placement::new(Items::new(vec![in rt.alloc(); first, second]?)))
+}
+
+/// Two contexts of one processor each.
+pub(crate) fn pinned(rt: &HostRuntime) -> Result<Placement, Fail> {
+    crowded(rt, 1)
 }

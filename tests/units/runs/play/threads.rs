@@ -1,5 +1,5 @@
 // Runs on threads: whether the calls of two components overlap, and that threads make the calls.
-use super::played::{counts, list, pinned, placed};
+use super::played::{counts, crowded, list, pinned, placed};
 use super::wired::wiring;
 use cy_comp::{Kind, Wiring};
 use cy_msg::{Placement, PlayList};
@@ -165,6 +165,36 @@ fn plays_at_the_pace_of_the_processors(rt: HostRuntime) -> Result<(), Fail> {
         passed[1]
     );
     assert!(rt; passed[0] <= calls[0] && passed[1] <= calls[1]);
+    Ok(())
+}
+
+// Each of many processors gets a thread, but for the last of 64: the player's thread makes the calls
+// of the component that is left to it. All calls are made in the run, and hardly one is skipped.
+#[test]
+fn serves_each_context_of_many_processors(rt: HostRuntime) -> Result<(), Fail> {
+    let wiring = wiring(
+        &rt,
+        &["/a", "/o", "/z"],
+        &[(Kind::Pass, &[0]), (Kind::Pass, &[1])],
+    )?;
+    let mut messages = Vec::new(rt.alloc());
+    for time in 0..100u64 {
+        messages.push((0, time, Some(1)))?;
+    }
+    let list = list(&rt, &messages)?;
+    for processors in [32, 62, 63] {
+        let gate = CountGate::before(OpenGate);
+        let placement = crowded(&rt, processors)?;
+        let world = played(&rt, &rt, &wiring, &list, &placement, &gate)?;
+        let calls = calls_of_two(&world);
+        let passed = gate.passed();
+        assert!(rt;
+            calls[1] >= 80 && passed[1] >= 80,
+            "{processors}: {} {}",
+            calls[1],
+            passed[1]
+        );
+    }
     Ok(())
 }
 

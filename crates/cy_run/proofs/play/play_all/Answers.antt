@@ -19,10 +19,12 @@ loop-played-preserved g c = let t = c.args.table.now in let tokens = c.args.list
           (plays_raised t tokens i c.args.player.now c.loop-played.player c.raise_after.new.player c.loop-played.invariant.1 c.raise_after.ensures.mine c.raise_after.ensures.seat)
           c.play.ensures.mine c.play.ensures.seat c.play.ensures.bound,
       raised_on c.raise_after.new.player c.play.new.player token (i + 1) c.play.ensures.seat c.raise_after.ensures.raised,
+      search rules,
+      search rules,
     )
 
 pub end_play-requires-clause-all : goal.end_play-requires-clause-all
-end_play-requires-clause-all g c = let t = c.args.table.now in let tokens = c.args.list.now.tokens in let i = c.loop-played.played in
+end_play-requires-clause-all g c κs within = let t = c.args.table.now in let tokens = c.args.list.now.tokens in let i = c.loop-played.played in
     can_close c.put.ensures t tokens c.as_slice-tokens.result.now i c.args.player.now c.raise_after-2.new.player c.requires.list.made (search rules) c.loop-played-test.false
     (plays_raised t tokens i c.args.player.now c.loop-played.player c.raise_after-2.new.player c.loop-played.invariant.1 c.raise_after-2.ensures.mine c.raise_after-2.ensures.seat)
     (raised_all c.put.ensures t tokens (length c.as_slice-tokens.result.now) c.raise_after-2.new.player c.requires.list.made c.requires.list.within (search rules) c.raise_after-2.ensures.mine (search rules))

@@ -6,11 +6,10 @@ use Rattle.cy_run.proofs.run.add_workers.Goals as goal
 
 pub loop-preserved : goal.loop-preserved
 loop-preserved c = let i = c.loop.invariant in (
-  subst (λ l. IsCrew c.args.table.now c.args.contexts c.args.processors c.args.player.now c.split.new.pass l) (sym (search rules))
-      (hires c.args.table.now c.args.contexts c.args.processors c.args.player.now c.loop.player c.split.new.pass c.in-Ok.pass c.loop.crew.items c.args.plan c.len-me.result i.0 c.split.ensures.same
-      c.in-Ok.ensures.split.0 c.in-Ok.ensures.split.1 c.in-Ok.ensures.split.2 c.requires.plan (search rules) (search rules)),
+  subst (λ l. IsCrew c.args.table.now c.args.contexts c.args.threads c.args.player.now c.hire.new.player l) (sym (search rules))
+      (hires c.args.table.now c.args.contexts c.args.threads c.args.player.now c.loop.player c.hire.new.player c.in_ok-pass.pass c.loop.crew.items c.args.plan c.len-me.result i.0 (search rules) c.requires.plan (search rules) (search rules)),
   search rules,
   search rules,
   subst (λ l. plans_of l ≡ plans_of c.args.crew.now.items ++ replicate (c.loop.counter + 1) c.args.plan) (sym (search rules))
-      (posted c.loop.crew.items record { pass = c.in-Ok.pass; plan = c.args.plan; me = c.len-me.result } (plans_of c.args.crew.now.items) c.loop.counter c.args.plan i.3 refl),
+      (posted c.loop.crew.items record { pass = c.in_ok-pass.pass; plan = c.args.plan; me = c.len-me.result } (plans_of c.args.crew.now.items) c.loop.counter c.args.plan i.3 refl),
 )
