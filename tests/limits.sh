@@ -239,19 +239,69 @@ odd_outs() {
   holds files/trace want/trace
   meets program 'a full device as the out file' 'ln -s /dev/full out.rec' "$PASS" 3 "$OUT"
   lacks files/trace
-  meets program 'the record itself as the out file' 'ln in.rec out.rec' "$PASS" 0 "$DONE"
-  both_whole
-  holds files/in.rec want/rec
-  meets program 'the record itself as the out file' 'ln done.rec out.rec' "$RECOVER" 0 "$RECOVERED"
-  holds files/done.rec want/rec
-  meets program 'the record itself as the out file' 'ln -s done.rec out.rec' "$SPLIT" 0 "$PARTED"
-  holds files/done.rec want/rec
   meets program 'a program that runs as the out file' \
     'cp "$(command -v sleep)" out.rec; ./out.rec 9 >../sleep 2>&1 & echo $! >../pid; await "[ /proc/$!/exe -ef out.rec ]"' "$PASS" 3 "$OUT"
   kill "$(cat pid)"
   lacks files/trace
   meets program 'a name that is too long' ':' "${PASS/out.rec/$(printf '%0300d' 0)}" 3 "$(printf '%0300d' 0): the store failed"
   lacks files/trace
+}
+
+# Looks that each file that was given is as it was, and that there is no further one.
+as_given() {
+  local file
+  for file in "$work"/given/files/*; do
+    holds "files/${file##*/}" "$file"
+  done
+  [ "$(find files -type f -printf '%i\n' | sort -u | wc -l)" -eq "$1" ]
+  count $? "$name: another number of files than $1"
+}
+
+# A file to be written that is one of those to be read, or another one to be written, by whatever name.
+is_also() { # the setup, the words, the name, and the other one; how many files are made by the setup
+  meets program "$3 that is also $4 ($1)" "$1" "$2" 1 "$3: is also $4"
+  as_given $(($(ls "$work/given/files" | wc -l) + ${5:-0}))
+}
+
+other_names() {
+  local to='make 4 m'
+  is_also ':' "${PASS/out.rec/./in.rec}" ./in.rec in.rec
+  is_also 'ln in.rec out.rec' "$PASS" out.rec in.rec
+  is_also 'ln -s in.rec out.rec' "$PASS" out.rec in.rec
+  is_also 'mkdir sub' "${PASS/out.rec/sub/../in.rec}" sub/../in.rec in.rec
+  is_also 'ln -s . here' "${PASS/out.rec/here/in.rec}" here/in.rec in.rec
+  is_also 'ln -s "$PWD/in.rec" link; ln -s link out.rec' "$PASS" out.rec in.rec
+  is_also ':' "${PASS/ trace/ ./in.rec}" ./in.rec in.rec
+  is_also ':' "${PASS/ trace/ ./out.rec}" ./out.rec out.rec
+  is_also 'mkdir sub' "${PASS/ trace/ sub/../out.rec}" sub/../out.rec out.rec
+  is_also 'ln -s new out.rec' "${PASS/ trace/ new}" new out.rec
+  is_also 'ln -s ../files/new out.rec; ln -s new trace' "$PASS" trace out.rec
+  is_also 'touch out.rec; ln out.rec trace' "$PASS" trace out.rec 1
+  is_also ':' "${PLAY/out.rec/./in.rec}" ./in.rec in.rec
+  is_also ':' "${PLAY/out.rec/p.conf}" p.conf p.conf
+  is_also ':' "${PLAY/out.rec/./p.conf}" ./p.conf p.conf
+  is_also 'ln -s p.conf trace' "$PLAY" trace p.conf
+  is_also 'ln d.dag trace' "$PLAY" trace d.dag
+  is_also 'echo >s.conf "policy: \"classic\"" ; ln s.conf out.rec' "$PLAY --sched s.conf" out.rec s.conf 1
+  is_also 'ln -s in.rec out.rec' "$THREADS" out.rec in.rec
+  is_also ':' "${RECOVER/out.rec/./done.rec}" ./done.rec done.rec
+  is_also 'ln done.rec out.rec' "$RECOVER" out.rec done.rec
+  is_also ':' "${SPLIT/out.rec/./done.rec}" ./done.rec done.rec
+  is_also 'ln -s done.rec out.rec' "$SPLIT" out.rec done.rec
+  is_also 'ln -s m.dag m.trace' "$to" m.trace m.dag
+  is_also 'touch m.record; ln m.record m.out' "$to" m.out m.record 1
+  is_also 'ln -s ../out m.trace' "$to" m.trace /dev/stdout
+  is_also ':' "${PASS/out.rec/../out}" ../out /dev/stdout
+  is_also ':' "${PASS/out.rec//dev/stdout}" /dev/stdout /dev/stdout
+  is_also ':' "${PASS/ trace/ ../out}" ../out /dev/stdout
+  is_also ':' "${RECOVER/out.rec/../out}" ../out /dev/stdout
+  meets program 'a file of that name in another folder' 'mkdir sub' "${PASS/out.rec/sub/in.rec}" 0 "$DONE"
+  holds files/sub/in.rec want/rec
+  meets program 'a link to one' 'mkdir sub; ln -s sub/in.rec out.rec' "$PASS" 0 "$DONE"
+  holds files/sub/in.rec want/rec
+  meets program 'one device for both' 'ln -s /dev/null out.rec; ln -s /dev/null trace' "$PASS" 0 "$DONE"
+  meets program 'longer files that are there' 'cp in.rec out.rec; cat in.rec in.rec >>out.rec; cp out.rec trace' "$PASS" 0 "$DONE"
+  both_whole
 }
 
 # Folders and files that the user has no leave for. Root has all, so the program runs as nobody then.
@@ -350,6 +400,7 @@ closed_streams
 full_disks
 odd_records
 odd_outs
+other_names
 no_leave
 open_files
 memory_runs_out "$PASS" "$DONE" 3000 50 4200

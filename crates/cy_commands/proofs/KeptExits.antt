@@ -10,7 +10,7 @@ use Rattle.cy_reader.specs.Salvage.{salvage_of}
 use Rattle.cy_writer.specs.RecordWrites.{record_puts}
 use Rattle.cy_writer.proofs.RecordBytes.{after_record}
 use Rattle.cy_replay.specs.FaultText.{is_limit}
-use Rattle.cy_replay.specs.Listing.{contents_or}
+use Rattle.cy_replay.specs.Listing.{contents_or, record_in}
 use Rattle.cy_replay.specs.declared.error.Fault.TheVariants as fault
 use Rattle.cy_replay.specs.declared.error.Refusal.{Refusal}
 use Rattle.cy_replay.proofs.Coming.{told_map}
@@ -29,13 +29,16 @@ use Rattle.cy_words.specs.SplitWords.{SplitWords}
 use Rattle.cy_commands.specs.declared.status.Status.{Status}
 use Rattle.cy_commands.specs.declared.status.Status.TheVariants.{Done}
 use Rattle.cy_commands.specs.Commands.{IsAccepted, outcome_of}
-use Rattle.cy_commands.specs.Commands.RecoverWork.{IsRecoverWork, WritesKept, salvaged_or}
+use Rattle.cy_commands.specs.Commands.RecoverWork.{IsRecoverWork, WritesKept, kept_apart, salvaged_in, salvaged_or}
 use Rattle.cy_commands.specs.Commands.SplitWork.{IsSplitWork}
 use Rattle.cy_commands.specs.Due.{IsDueFor}
 use Rattle.cy_commands.specs.Lines.{messages_line, store_line}
 use Rattle.cy_commands.specs.Work.{IsMadeOf, Work}
-use Rattle.cy_commands.specs.private.KeptEnds.{IsDueKept, IsDueUnkept}
+use Rattle.cy_commands.specs.private.KeptEnds.{AreApart, AreTested, IsDueKept, IsDueUnkept}
 use Rattle.cy_commands.specs.private.Unset.{IsStarved}
+use Rattle.cy_commands.specs.private.Unset.{IsDueUnset}
+use Rattle.cy_replay.specs.declared.error.SetupError.{SetupError}
+use Rattle.cy_commands.proofs.NamesApart.{made_onward, not_apart, onward, refused_onward}
 use Rattle.cy_commands.proofs.PlayWriting.{file_named}
 use Rattle.cy_commands.proofs.Refusing.{ReadsBy, refuses, starved}
 
@@ -70,19 +73,9 @@ module _ {A T : Type 0} (c : Command) (reads : List ℕ → Result A LoadError) 
   }
 
   -- it was written
-  pub kept : (old new : StoreView) (told : T) (due : Status) (line : List ℕ) → DoneBy old.files → ToolAnswer reads tool from to old new (Ok told) → IsStarved due line ⊎ ((due ≡ Done) × (line ≡ text told))
+  pub kept : (old new : StoreView) (told : T) (due : Status) (line : List ℕ) → DoneBy old.files → ToolAnswer reads tool from to old new (Ok told) → (due ≡ Done) × (line ≡ text told)
       → IsDueFor c old new due line
-  kept old new told due line by done (inl s) =
-      let writes = kept_writes to (tool.met done.was) (tool.kept done.was) in
-      subst (λ (x : Status). IsDueFor c old new x line) (sym s.status) (
-        inr (record {
-          work = work_of done.was;
-          accepted = accepted old.files done.was by done.read;
-          stops = record { before = writes; later = []; split = append-nil writes; left = done.written };
-        }),
-        s.told,
-      )
-  kept old new told due line by done (inr says) =
+  kept old new told due line by done says =
       subst (λ (x : Status). IsDueFor c old new x line) (sym says.0) record {
         work = work_of done.was;
         accepted = accepted old.files done.was by done.read;
@@ -138,44 +131,61 @@ module _ {A T : Type 0} (c : Command) (reads : List ℕ → Result A LoadError) 
 abbrev recovered_text : Recovered → List ℕ
 recovered_text r = messages_line r.messages (codes ", dropped ") r.dropped
 
-recovers : (w : RecoverWords) (files : Option Files) → DoneBy (Recover w) salvage_of recovering w.input w.output (salvaged_or w.input) (IsRecoverWork w) recovered_text files
-recovers w files = record {
-  reads_by = record { asked = λ file a. a; refused = λ due line r. r; absent = λ file h. h };
-  accepts = λ work a. a;
+recovers : (w : RecoverWords) (files : Option Files) → AreApart files w.input w.output → DoneBy (Recover w) salvage_of recovering w.input w.output (salvaged_or w.input) (IsRecoverWork w) recovered_text files
+recovers w files apart = record {
+  reads_by = record {
+    asked = λ file a. a;
+    refused = refused_onward (kept_apart w.input w.output) (salvaged_in w) files apart;
+    absent = λ file. onward (kept_apart w.input w.output) (salvaged_in w) files apart (Absent file);
+  };
+  accepts = made_onward (kept_apart w.input w.output) (salvaged_in w) files apart (IsRecoverWork w);
   of_ok = λ x. refl;
   of_err = λ e. refl;
   made = λ x is. record { written = writes_kept w.output x.met x.met.messages (recovered_text (recovering.tells x)) is; text = refl };
 }
 
-pub recovered : (w : RecoverWords) (old new : StoreView) (told : Recovered) (due : Status) (line : List ℕ) → ToolAnswer salvage_of recovering w.input w.output old new (Ok told)
+pub recovered : (w : RecoverWords) (old new : StoreView) (told : Recovered) (due : Status) (line : List ℕ) → AreApart old.files w.input w.output → ToolAnswer salvage_of recovering w.input w.output old new (Ok told)
     → IsDueKept told.messages (codes ", dropped ") told.dropped due line → IsDueFor (Recover w) old new due line
-recovered w old new told due line done says =
-    kept (Recover w) salvage_of recovering w.input w.output (salvaged_or w.input) (IsRecoverWork w) recovered_text old new told due line (recovers w old.files) done says
+recovered w old new told due line apart done says =
+    kept (Recover w) salvage_of recovering w.input w.output (salvaged_or w.input) (IsRecoverWork w) recovered_text old new told due line (recovers w old.files apart) done says
 
-pub unrecovered : (w : RecoverWords) (old new : StoreView) (e : ToolError) (due : Status) (line : List ℕ) → (let r : Result Recovered ToolError = Err e in ToolAnswer salvage_of recovering w.input w.output old new r)
+pub unrecovered : (w : RecoverWords) (old new : StoreView) (e : ToolError) (due : Status) (line : List ℕ) → AreApart old.files w.input w.output → (let r : Result Recovered ToolError = Err e in ToolAnswer salvage_of recovering w.input w.output old new r)
     → IsDueUnkept w.input w.output e due line → IsDueFor (Recover w) old new due line
-unrecovered w old new e due line was says =
-    unkept (Recover w) salvage_of recovering w.input w.output (salvaged_or w.input) (IsRecoverWork w) recovered_text old new e due line (recovers w old.files) was says
+unrecovered w old new e due line apart was says =
+    unkept (Recover w) salvage_of recovering w.input w.output (salvaged_or w.input) (IsRecoverWork w) recovered_text old new e due line (recovers w old.files apart) was says
 
 -- `split`
 abbrev parted_text : Parted → List ℕ
 parted_text p = messages_line p.messages (codes " of ") p.of
 
-splits : (w : SplitWords) (files : Option Files) → DoneBy (Split w) (record_of w.input) (splitting w.filter) w.input w.output (contents_or w.input) (IsSplitWork w) parted_text files
-splits w files = record {
-  reads_by = record { asked = λ file a. a; refused = λ due line r. r; absent = λ file h. h };
-  accepts = λ work a. a;
+splits : (w : SplitWords) (files : Option Files) → AreApart files w.input w.output → DoneBy (Split w) (record_of w.input) (splitting w.filter) w.input w.output (contents_or w.input) (IsSplitWork w) parted_text files
+splits w files apart = record {
+  reads_by = record {
+    asked = λ file a. a;
+    refused = refused_onward (kept_apart w.input w.output) (record_in w.input) files apart;
+    absent = λ file. onward (kept_apart w.input w.output) (record_in w.input) files apart (Absent file);
+  };
+  accepts = made_onward (kept_apart w.input w.output) (record_in w.input) files apart (IsSplitWork w);
   of_ok = λ x. refl;
   of_err = λ e. refl;
   made = λ x is. record { written = writes_kept w.output (met_in x) (passing w.filter (met_in x)) (parted_text ((splitting w.filter).tells x)) is; text = refl };
 }
 
-pub parted : (w : SplitWords) (old new : StoreView) (told : Parted) (due : Status) (line : List ℕ) → ToolAnswer (record_of w.input) (splitting w.filter) w.input w.output old new (Ok told)
+pub parted : (w : SplitWords) (old new : StoreView) (told : Parted) (due : Status) (line : List ℕ) → AreApart old.files w.input w.output → ToolAnswer (record_of w.input) (splitting w.filter) w.input w.output old new (Ok told)
     → IsDueKept told.messages (codes " of ") told.of due line → IsDueFor (Split w) old new due line
-parted w old new told due line done says =
-    kept (Split w) (record_of w.input) (splitting w.filter) w.input w.output (contents_or w.input) (IsSplitWork w) parted_text old new told due line (splits w old.files) done says
+parted w old new told due line apart done says =
+    kept (Split w) (record_of w.input) (splitting w.filter) w.input w.output (contents_or w.input) (IsSplitWork w) parted_text old new told due line (splits w old.files apart) done says
 
-pub unparted : (w : SplitWords) (old new : StoreView) (e : ToolError) (due : Status) (line : List ℕ) → (let r : Result Parted ToolError = Err e in ToolAnswer (record_of w.input) (splitting w.filter) w.input w.output old new r)
+pub unparted : (w : SplitWords) (old new : StoreView) (e : ToolError) (due : Status) (line : List ℕ) → AreApart old.files w.input w.output → (let r : Result Parted ToolError = Err e in ToolAnswer (record_of w.input) (splitting w.filter) w.input w.output old new r)
     → IsDueUnkept w.input w.output e due line → IsDueFor (Split w) old new due line
-unparted w old new e due line was says =
-    unkept (Split w) (record_of w.input) (splitting w.filter) w.input w.output (contents_or w.input) (IsSplitWork w) parted_text old new e due line (splits w old.files) was says
+unparted w old new e due line apart was says =
+    unkept (Split w) (record_of w.input) (splitting w.filter) w.input w.output (contents_or w.input) (IsSplitWork w) parted_text old new e due line (splits w old.files apart) was says
+
+-- the file that is to be written is another name of the one that is read
+pub unrecoverable : {X : Type 0} (w : RecoverWords) (old new : StoreView) (e : SetupError) (due : Status) (line : List ℕ) → new ≡ old → (let r : Result X SetupError = Err e in AreTested old.files w.input w.output r) → IsDueUnset e due line
+    → IsDueFor (Recover w) old new due line
+unrecoverable {X} w old new e due line same tested = not_apart {X = X} (Recover w) (kept_apart w.input w.output) (salvaged_in w) old new e due line (λ d l r. r) same tested.refused tested.unread
+
+pub unpartable : {X : Type 0} (w : SplitWords) (old new : StoreView) (e : SetupError) (due : Status) (line : List ℕ) → new ≡ old → (let r : Result X SetupError = Err e in AreTested old.files w.input w.output r) → IsDueUnset e due line
+    → IsDueFor (Split w) old new due line
+unpartable {X} w old new e due line same tested = not_apart {X = X} (Split w) (kept_apart w.input w.output) (record_in w.input) old new e due line (λ d l r. r) same tested.refused tested.unread

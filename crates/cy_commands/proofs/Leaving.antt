@@ -78,7 +78,7 @@ in_second q (x ∷ xs) ys all = in_second q xs ys (λ j e g. all (suc j) e (omeg
 unlike : (a b : List ℕ) → bytes_eq a b ≡ false → a ≡ b → ⊥
 unlike a b apart same = true≢false (sym ((bytes_eq-Decides a b).1 same) ∙ apart)
 
-behind_prefix : (p a b : List ℕ) → bytes_eq a b ≡ false → p ++ a ≡ p ++ b → ⊥
+pub behind_prefix : (p a b : List ℕ) → bytes_eq a b ≡ false → p ++ a ≡ p ++ b → ⊥
 behind_prefix p a b apart same = unlike a b apart (append_cancel_left p a b same)
 
 -- ---- the writes of each command's work

@@ -4,9 +4,11 @@ pub mod Finding
 pub mod KeptExits
 pub mod Leaving
 pub mod MakeExits
+pub mod NamesApart
 pub mod OneDue
 pub mod OneList
 pub mod OneVerdict
+pub mod OwnNames
 pub mod PlayExits
 pub mod PlayRuns
 pub mod PlayWriting

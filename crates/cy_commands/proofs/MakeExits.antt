@@ -47,7 +47,7 @@ in_turn w p x world same run = subst (λ b. HasRun b x world) (ap (λ (q : PlayW
 pub makes : (w : MakeWords) (x : Replay) (world : Plain) → 0 < w.count → IsMade w x → HasRun true x world → IsMakeWork w (work_of w x world)
 makes w x world some made run = record {
   played = play.work_of (play_made w) x world;
-  by_play = play.accepted (play_made w) x world (Some (made_files w)) made.read made.set_up run;
+  by_play = play.accepted (play_made w) (replayed_in (play_made w)) x world (Some (made_files w)) made.read made.set_up run;
   record_text = record_text w.count w.prefix some;
   writes = refl;
   leaves = λ m. after_writes-append (input_writes w.count w.prefix) (writes_by (play_made w) x world) m ∙ ap (after_writes (writes_by (play_made w) x world)) (leaves w.count w.prefix m);

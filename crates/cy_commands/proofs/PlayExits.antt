@@ -3,7 +3,8 @@ use Rattle.std.proofs.Common.{ℕ, ◌≡◌, List, [], ◌∷◌, Option, IfSom
 use Rattle.std.specs.Option.{option_map}
 use Rattle.std.specs.FinMap.{insert}
 use Rattle.cy_store.specs.Files.{Files}
-use Rattle.cy_store.specs.Reads.{Accepts}
+use Rattle.cy_store.specs.Reads.{Accepts, Reads}
+use Rattle.cy_replay.specs.declared.error.Refusal.{Refusal}
 use Rattle.cy_store.specs.Store.{StoreView, SameCounts, WriteRose}
 use Rattle.cy_store.specs.Write.{Write, name_of, after_writes}
 use Rattle.cy_writer.specs.Writes.{StopsAt, StopsBefore}
@@ -14,7 +15,7 @@ use Rattle.cy_replay.specs.declared.error.SetupError.{SetupError}
 use Rattle.cy_replay.specs.declared.setup.Replay.{Replay}
 use Rattle.cy_writer.specs.RecordWrites.{file_writes, record_puts}
 use Rattle.cy_recording.specs.Recording.{channels_of_tape, chunks_of_tape}
-use Rattle.cy_replay.specs.Setup.{IsAsked, IsSetUp, replayed}
+use Rattle.cy_replay.specs.Setup.{IsAsked, IsSetUp, Replayed, replayed}
 use Rattle.cy_replay.specs.Stops.{stop_of}
 use Rattle.cy_replay.specs.Wiring.{wired_by}
 use Rattle.cy_msg.specs.declared.stop.Stop.{Stop}
@@ -32,13 +33,13 @@ use Rattle.cy_commands.specs.Due.{IsDueFor}
 use Rattle.cy_commands.specs.Lines.{store_line}
 use Rattle.cy_commands.specs.PlayEnds.{SetsUp, HasRun, IsDueAfterPlay, IsLine, name_of_play, source_by, writes_by}
 use Rattle.cy_words.specs.PlayWords.{PlayWords}
-use Rattle.cy_commands.specs.Commands.PlayWork.{IsPlayed, IsPlayWork, replayed_in, play_line, tape_record, run_trace}
+use Rattle.cy_commands.specs.Commands.PlayWork.{IsPlayed, IsPlayWork, readied_in, play_line, tape_record, run_trace}
 use Rattle.cy_commands.proofs.Refusing as refusing
 
 -- the files are not accepted
 pub unset : (w : PlayWords) (old new : StoreView) (e : SetupError) (due : Status) (line : List ℕ) → SetsUp w old new (Err e) → IsDueUnset e due line → IsDueFor (Play w) old new due line
 unset w old new e due line came told =
-    refusing.unset (Play w) replayed (replayed_in w) (IsAsked w.request old.files) old new e due line record { asked = λ file a. a; refused = λ due line r. r; absent = λ file h. h } came told
+    refusing.unset (Play w) replayed (readied_in w) (IsAsked w.request old.files) old new e due line record { asked = λ file a. a; refused = λ due line r. r; absent = λ file h. h } came told
 
 -- what `play` makes of a replay
 abbrev pub work_of : PlayWords → Replay → Plain → Work
@@ -62,9 +63,9 @@ played_as : (w : PlayWords) (x : Replay) (world : Plain) → IsSetUp w.request x
     → IsPlayed w.serial (replayed x) x.list (stop_of w.request.stop (wired_by x.wiring) x.list.tokens) x.placement.contexts world
 played_as w x world s h = subst (λ (stop : Option Stop). IsPlayed w.serial (replayed x) x.list stop x.placement.contexts world) s.stopped record { run = h.run; lawful = h.lawful }
 
-pub accepted : (w : PlayWords) (x : Replay) (world : Plain) (files : Option Files) → IfSome files (λ m. replayed_in w m ≡ Accepts (replayed x)) → IsSetUp w.request x → HasRun w.serial x world
-    → IsMadeOf (replayed_in w) (IsPlayWork w) files (work_of w x world)
-accepted w x world files read s h = record {
+pub accepted : (w : PlayWords) (reads : Files → Reads Refusal Replayed) (x : Replay) (world : Plain) (files : Option Files) → IfSome files (λ m. reads m ≡ Accepts (replayed x)) → IsSetUp w.request x → HasRun w.serial x world
+    → IsMadeOf reads (IsPlayWork w) files (work_of w x world)
+accepted w reads x world files read s h = record {
   read = replayed x;
   accepted = read;
   made = record {
@@ -87,7 +88,7 @@ pub done : (w : PlayWords) (x : Replay) (world : Plain) (old mid new : StoreView
     → IsLine x world line → IsDueFor (Play w) old new Done line
 done w x world old mid new line came s h written told = record {
   work = work_of w x world;
-  accepted = accepted w x world old.files came.accepted.1 s h;
+  accepted = accepted w (readied_in w) x world old.files came.accepted.1 s h;
   written = written ∙ ap (option_map (after_writes (writes_by w x world))) came.same;
   told = told;
 }
@@ -108,7 +109,7 @@ stopped w x world old mid new (failure.Store f) due line came s h failed starved
     subst (λ (d : Status). IsDueFor (Play w) old new d line) (sym is.0)
     (inr (record {
       work = work_of w x world;
-      accepted = accepted w x world old.files came.accepted.1 s h;
+      accepted = accepted w (readied_in w) x world old.files came.accepted.1 s h;
       failed = at.0;
       rose = rose_since old mid new came.same came.accepted.0 (rose f refl);
       stops = subst Q came.same at.2;
@@ -119,7 +120,7 @@ stopped w x world old mid new failure.Memory due line came s h failed starved ro
     subst (λ (d : Status). IsDueFor (Play w) old new d line) (sym is.0) (
       inr (record {
         work = work_of w x world;
-        accepted = accepted w x world old.files came.accepted.1 s h;
+        accepted = accepted w (readied_in w) x world old.files came.accepted.1 s h;
         stops = subst Q came.same (starved refl);
       }),
       is.1,

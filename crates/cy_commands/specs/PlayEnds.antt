@@ -24,13 +24,19 @@ use Rattle.cy_commands.specs.declared.status.Status.{Status}
 use Rattle.cy_commands.specs.declared.status.Status.TheVariants.{StoreFault, Memory}
 use Rattle.cy_commands.specs.Lines.{store_line, memory_line}
 use Rattle.cy_words.specs.PlayWords.{PlayWords}
-use Rattle.cy_commands.specs.Commands.PlayWork.{IsRunOf, replayed_in, source_in}
+use Rattle.cy_commands.specs.Commands.PlayWork.{IsRunOf, readied_in, replayed_in}
+use Rattle.cy_commands.specs.Commands.PlayWork.{source_in}
 use Rattle.cy_commands.specs.Commands.PlayWork.{play_line, play_writes, run_trace}
 
--- What the files of a play come to: a replay, or an error.
+-- What reading the files of a play comes to: a replay, or an error.
+abbrev pub IsRead : PlayWords → StoreView → StoreView → Result Replay SetupError → Type 0
+IsRead w old new result =
+    ComesTo replayed (replayed_in w) (IsAsked w.request old.files) old new result
+
+-- The same, where the files that are written are other ones.
 abbrev pub SetsUp : PlayWords → StoreView → StoreView → Result Replay SetupError → Type 0
 SetsUp w old new result =
-    ComesTo replayed (replayed_in w) (IsAsked w.request old.files) old new result
+    ComesTo replayed (readied_in w) (IsAsked w.request old.files) old new result
 
 -- What the record of a replay is written from.
 abbrev pub source_by : Replay → Source

@@ -1,7 +1,9 @@
 -- What it means that a command's files are refused.
-use Rattle.std.specs.Prelude.{ℕ, ◌≡◌, List, Option, IfSome}
+use Rattle.std.specs.Prelude.{ℕ, ◌≡◌, List, ◌∷◌, Option, None, IfSome}
+use Rattle.std.specs.List.{Contains}
 use Rattle.cy_store.specs.Files.{Files}
 use Rattle.cy_store.specs.Reads.{Reads, Refuses}
+use Rattle.cy_replay.specs.Apart.{IsOneOf, standard_output}
 use Rattle.cy_replay.specs.declared.error.Refusal.{Refusal}
 use Rattle.cy_replay.specs.FaultText.{refusal_line}
 use Rattle.cy_commands.specs.declared.status.Status.{Status}
@@ -20,5 +22,17 @@ pub record IsRefusalBy {A : Type 0} (comes : Option Files → Reads Refusal A �
     (files : Option Files) (due : Status) (line : List ℕ) : Type 0 where
   pub refusal : Refusal
   pub refused : comes files (Refuses refusal)
+  pub status : due ≡ fault_status refusal.fault
+  pub told : line ≡ refusal_line refusal
+
+-- A store that tells no files says that two of a command's own files are one, or one of them and
+-- standard output.
+pub record IsOneFile (own : List (List ℕ)) (files : Option Files) (due : Status) (line : List ℕ)
+    : Type 0 where
+  pub untold : files ≡ None
+  pub name : List ℕ
+  pub named : Contains own name
+  pub refusal : Refusal
+  pub one : IsOneOf name (standard_output ∷ own) refusal
   pub status : due ≡ fault_status refusal.fault
   pub told : line ≡ refusal_line refusal

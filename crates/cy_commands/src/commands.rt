@@ -13,8 +13,8 @@ mod recover;
 mod split;
 mod verify;
 
+use crate::apart::ready;
 use crate::begun::Begun;
-use crate::play::read_files;
 use crate::unset::due_unset;
 use check::run_check;
 use cy_store::Store;
@@ -39,7 +39,7 @@ fn begin_play<'a, S: Store, R: Threads + Sync>(
     ensures begun { HasBegun (Some (asked.Play (play_words_of play.now))) (S.shows store.old)
         (S.shows store.new) result }
 {
-    match read_files(rt, alloc, store, play) {
+    match ready(rt, alloc, store, play) {
         Ok(replay) => Begun::SetUp(*play, replay),
         Err(error) => Begun::Ended(due_unset(alloc, error)),
     }

@@ -7,6 +7,7 @@
 #![tactic(auto)]
 
 mod alone;
+mod apart;
 mod begun;
 mod commands;
 mod due;

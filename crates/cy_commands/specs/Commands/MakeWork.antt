@@ -1,5 +1,5 @@
 -- What `make` makes.
-use Rattle.std.specs.Prelude.{ℕ, ◌≡◌, ◌≤◌, ◌++◌, List, length, codes, Some, None}
+use Rattle.std.specs.Prelude.{ℕ, ◌≡◌, ◌≤◌, ◌++◌, List, [], ◌∷◌, length, map, codes, Some, None}
 use Rattle.std.specs.FinMap.{empty}
 use Rattle.cy_store.specs.Files.{Files}
 use Rattle.cy_store.specs.Write.{after_writes}
@@ -8,7 +8,7 @@ use Rattle.cy_make.specs.declared.config.Config.{Config}
 use Rattle.cy_make.specs.declared.config.Config.TheVariants.{Dag}
 use Rattle.cy_make.specs.Messages.{channels_of, messages_to}
 use Rattle.cy_make.specs.Texts.{suffix_of, text_of}
-use Rattle.cy_make.specs.Inputs.{record_name, made_record, input_writes, with_inputs}
+use Rattle.cy_make.specs.Inputs.{all_configs, record_name, made_record, input_writes, with_inputs}
 use Rattle.cy_replay.specs.declared.text.TheConstants.{LONGEST_CONFIG}
 use Rattle.cy_request.specs.Request.{OfFiles}
 use Rattle.cy_commands.specs.Work.{IsMadeOf, Work}
@@ -22,6 +22,17 @@ use Rattle.cy_commands.specs.Commands.PlayWork.{IsPlayWork, replayed_in}
 abbrev pub play_made : MakeWords → PlayWords
 play_made w = play_of_all (OfFiles (w.prefix ++ suffix_of Dag) None) (record_name w.prefix)
     (w.prefix ++ codes ".out") (w.prefix ++ codes ".trace")
+
+-- The names of all files that it writes.
+abbrev pub made_suffixes : List (List ℕ)
+made_suffixes =
+    map suffix_of all_configs ++ codes ".record" ∷ codes ".out" ∷ codes ".trace" ∷ []
+
+abbrev pub names_behind : (prefix : List ℕ) → List (List ℕ)
+names_behind prefix = map (λ suffix. prefix ++ suffix) made_suffixes
+
+abbrev pub made_names : MakeWords → List (List ℕ)
+made_names w = names_behind w.prefix
 
 -- The files that are played: those that are made, and no others.
 abbrev pub made_files : MakeWords → Files

@@ -3,7 +3,7 @@ use Rattle.std.specs.Prelude.{ℕ, ◌≡◌, ⊤, Bool, true, false, List, [], 
 use Rattle.std.specs.Prelude.{Option}
 use Rattle.std.specs.FinMap.{insert}
 use Rattle.cy_store.specs.Files.{Files}
-use Rattle.cy_store.specs.Reads.{Reads}
+use Rattle.cy_store.specs.Reads.{Reads, Accepts, ◌>>=◌}
 use Rattle.cy_store.specs.Write.{Write, after_writes}
 use Rattle.cy_msg.specs.Placement.{scan_of}
 use Rattle.cy_msg.specs.declared.placement.ContextPlan.{ContextPlan}
@@ -20,6 +20,8 @@ use Rattle.wake_core.specs.Rest.{run_shown}
 use Rattle.wake_core.specs.Run.{Run, routes_of}
 use Rattle.wake_core.specs.declared.route.Route.{Route}
 use Rattle.wake_core.specs.Serial.{SerialRun}
+use Rattle.cy_replay.specs.Apart.{apart_from, files_read, standard_output}
+use Rattle.cy_replay.specs.Configuration.{Configured}
 use Rattle.cy_replay.specs.declared.error.Refusal.{Refusal}
 use Rattle.cy_replay.specs.Listing.{IsListed}
 use Rattle.cy_writer.specs.RecordWrites.{file_writes, record_puts}
@@ -33,6 +35,21 @@ use Rattle.cy_trace.specs.Summary.{calls_from, summary_line}
 -- The files are read and judged in the order of refusals.
 abbrev pub replayed_in : PlayWords → Files → Reads Refusal Replayed
 replayed_in w files = replay_in w.request files
+
+-- The files that a play writes are none of those that it reads, nor standard output, and two.
+abbrev pub others_of : PlayWords → Configured → List (List ℕ)
+others_of w c = files_read w.request.components w.request.input c ++ standard_output ∷ []
+
+abbrev pub outputs_apart : PlayWords → Configured → Reads Refusal ⊤
+outputs_apart w c = apart_from w.output (others_of w c) >>= λ _.
+    apart_from w.trace (others_of w c ++ w.output ∷ [])
+
+-- All that `play` looks at before it plays: what is read, and then the names of what is written.
+abbrev pub readied_in : PlayWords → Files → Reads Refusal Replayed
+readied_in w files = do
+  read ← replayed_in w files
+  apart ← outputs_apart w read.configured
+  Accepts read
 
 -- What the record is written from, its bytes for a tape, and the trace of a run.
 abbrev pub source_in : Replayed → PlayList → Source

@@ -1,20 +1,20 @@
 -- What `split` makes of a record.
 use Rattle.std.specs.Prelude.{◌≡◌, length, codes}
 use Rattle.cy_store.specs.Files.{Files}
-use Rattle.cy_store.specs.Reads.{Reads}
+use Rattle.cy_store.specs.Reads.{Reads, ◌>>=◌}
 use Rattle.cy_reader.specs.Record.{Contents}
 use Rattle.cy_replay.specs.declared.error.Refusal.{Refusal}
 use Rattle.cy_replay.specs.Listing.{record_in}
 use Rattle.cy_tools.specs.Kept.{passing}
 use Rattle.cy_tools.specs.Tools.{met_in}
 use Rattle.cy_words.specs.SplitWords.{SplitWords}
-use Rattle.cy_commands.specs.Commands.RecoverWork.{WritesKept}
+use Rattle.cy_commands.specs.Commands.RecoverWork.{WritesKept, kept_apart}
 use Rattle.cy_commands.specs.Lines.{messages_line}
 use Rattle.cy_commands.specs.Work.{Work}
 
--- The record is read.
+-- Another file is named for what is written, and then the record is read.
 abbrev pub parted_in : SplitWords → Files → Reads Refusal Contents
-parted_in w files = record_in w.input files
+parted_in w files = kept_apart w.input w.output >>= λ _. record_in w.input files
 
 -- The record of the messages that the filter lets through is written, and the line tells how many
 -- they are, and of how many.

@@ -1,6 +1,13 @@
 -- How `make` ends.
-use Rattle.std.specs.Prelude.{ℕ, ◌≡◌, ◌++◌, List, None, codes}
+use Rattle.std.specs.Prelude.{ℕ, ◌≡◌, ◌++◌, List, ◌∷◌, Option, None, Result, IsErrOf, codes}
+use Rattle.std.specs.List.{Contains}
+use Rattle.cy_store.specs.Files.{Files}
 use Rattle.cy_store.specs.Reads.{Accepts}
+use Rattle.cy_replay.specs.Apart.{IsOneOf, standard_output}
+use Rattle.cy_replay.specs.declared.error.Refusal.{Refusal}
+use Rattle.cy_replay.specs.declared.error.SetupError.{SetupError}
+use Rattle.cy_replay.specs.declared.error.SetupError.TheVariants as setup_error
+use Rattle.cy_replay.specs.declared.error.SetupError.TheVariants.{Refused}
 use Rattle.cy_replay.specs.declared.setup.Replay.{Replay}
 use Rattle.cy_request.specs.Request.{OfFiles}
 use Rattle.cy_replay.specs.Setup.{IsSetUp, replayed}
@@ -26,6 +33,14 @@ use Rattle.cy_commands.specs.Commands.PlayWork.{replayed_in}
 pub record IsMade (w : MakeWords) (x : Replay) : Type 0 where
   pub read : replayed_in (play_made w) (made_files w) ≡ Accepts (replayed x)
   pub set_up : IsSetUp (play_made w).request x
+
+-- What is answered of the names of own files: a store that tells its files has no word against
+-- them, any other may say that one of them is another one's file, or standard output.
+pub record AreOwn {X : Type 0} (files : Option Files) (own : List (List ℕ))
+    (result : Result X SetupError) : Type 0 where
+  pub refused : (refusal : Refusal) → IsErrOf result (Refused refusal) → (files ≡ None)
+      × ((name : List ℕ) × Contains own name × IsOneOf name (standard_output ∷ own) refusal)
+  pub unread : (file : List ℕ) → IsErrOf result (setup_error.Store file) → ⊥
 
 -- The status that is due where a file of the play was not made, and its line.
 abbrev pub IsDueUnmade : MakeWords → MakeError → Status → List ℕ → Type 0

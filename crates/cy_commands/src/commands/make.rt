@@ -1,13 +1,13 @@
 // The command `make`.
-ghost use Rattle.std.specs.Prelude.{◌≡◌, ◌≤◌, ◌<◌, ◌++◌, ℕ, List, codes, IfOk, IsOkUnless};
+ghost use Rattle.std.specs.Prelude.{◌≡◌, ◌≤◌, ◌<◌, ◌++◌, ℕ, List, map, codes, IfOk, IsOkUnless};
 ghost use Rattle.cy_make.specs.Texts.{suffix_of};
 ghost use Rattle.cy_words.specs.Command as command;
 ghost use Rattle.cy_commands.specs.Due.{IsDueFor};
 ghost use Rattle.cy_commands.specs.Line.{bytes_of_line};
 ghost use Rattle.cy_commands.specs.Lines.{store_line};
-ghost use Rattle.cy_commands.specs.private.MakeEnds.{IsMade, IsDueUnmade, names_of};
+ghost use Rattle.cy_commands.specs.private.MakeEnds.{AreOwn, IsMade, IsDueUnmade, names_of};
 ghost use Rattle.cy_commands.specs.private.MakeEnds.{IsDueUnplayed, play_named, result_suffix};
-ghost use Rattle.cy_commands.specs.Commands.MakeWork.{play_made};
+ghost use Rattle.cy_commands.specs.Commands.MakeWork.{names_behind, play_made};
 ghost use Rattle.cy_commands.specs.PlayEnds.{HasRun};
 ghost use Rattle.cy_words.specs.PlayViews.{play_words_of};
 ghost use Rattle.cy_words.specs.Views.{make_words_of};
@@ -18,9 +18,10 @@ use crate::failure::{Failure, File};
 use crate::line::Line;
 use crate::play::{played_world, read_files, write_both};
 use crate::status::Status;
+use crate::unset::due_unset;
 use cy_make::{Config, MakeError, name_with, write_inputs};
 use cy_msg::Text;
-use cy_replay::Replay;
+use cy_replay::{Replay, STANDARD_OUTPUT, SetupError, test_apart};
 use cy_request::Components;
 use cy_store::{MemStore, Store};
 use cy_words::{Make, Play};
@@ -223,10 +224,69 @@ fn make_and_play<'a, S: Store, R: Threads + Sync>(
     due
 }
 
-/// What is due for `make` with these words: it makes the files of a play of so many messages in
-/// memory, sets the play up from these texts and plays it. Then it writes the files, and behind
-/// them the record of all messages and the trace of all calls. It reads no file of the store.
-pub fn run_make<'a, S: Store, R: Threads + Sync>(
+// The names that begin with a prefix and end with each of these.
+fn names_ending(alloc: Global, prefix: &str, suffixes: &[&str]) -> Result<Vec<Text>, AllocError>
+    ensures { IfOk result (λ names. names.items
+        ≡ map (λ suffix. prefix.now ++ suffix.now) suffixes.now) }
+{
+    let mut names = Vec::new(alloc);
+    for suffix in suffixes {
+        names.push(name_with(alloc, prefix, suffix)?)?;
+    }
+    Ok(names)
+}
+
+// The names of all files that `make` writes.
+fn names_made(alloc: Global, prefix: &str) -> Result<Vec<Text>, AllocError>
+    ensures { IfOk result (λ names. names.items ≡ names_behind prefix.now) }
+{
+    let suffixes = [
+        ".adder.conf",
+        ".band.conf",
+        ".last8.conf",
+        ".late.conf",
+        ".dag",
+        ".record",
+        ".out",
+        ".trace",
+    ];
+    names_ending(alloc, prefix, &suffixes)
+}
+
+// Tests that none of them is another one's file, or standard output.
+fn test_names<S: Store>(
+    alloc: Global,
+    store: &mut S,
+    names: &[Text],
+    prefix: &str,
+) -> Result<(), SetupError>
+    requires { names.now ≡ names_behind prefix.now }
+    ensures same { S.shows store.new ≡ S.shows store.old }
+    ensures tested { AreOwn (S.shows store.old).files names.now result }
+{
+    let mut others = vec![in alloc; STANDARD_OUTPUT]?;
+    for name in names {
+        if let Err(error) = test_apart(alloc, store, name.as_str(), others.as_slice()) {
+            return Err(error);
+        }
+        others.push(name.as_str())?;
+    }
+    Ok(())
+}
+
+// The same of the names for a prefix.
+fn test_made<S: Store>(alloc: Global, store: &mut S, prefix: &str) -> Result<(), SetupError>
+    ensures same { S.shows store.new ≡ S.shows store.old }
+    ensures tested { AreOwn (S.shows store.old).files (names_behind prefix.now) result }
+{
+    let names = names_made(alloc, prefix)?;
+    let tested = test_names(alloc, store, names.as_slice(), prefix);
+    drop(names);
+    tested
+}
+
+// What is due for `make` with these words, where each name is another file's.
+fn make_apart<'a, S: Store, R: Threads + Sync>(
     rt: &R,
     alloc: Global,
     make: &Make<'a>,
@@ -243,4 +303,24 @@ pub fn run_make<'a, S: Store, R: Threads + Sync>(
     let due = make_and_play(rt, alloc, make, &names.play(), store);
     drop(names);
     due
+}
+
+/// What is due for `make` with these words: it makes the files of a play of so many messages in
+/// memory, sets the play up from these texts and plays it. Then it writes the files, and behind
+/// them the record of all messages and the trace of all calls. It reads no file of the store.
+pub fn run_make<'a, S: Store, R: Threads + Sync>(
+    rt: &R,
+    alloc: Global,
+    make: &Make<'a>,
+    store: &mut S,
+) -> Due<'a>
+    requires some { 0 < make.now.count }
+    requires few { make.now.count ≤ 1048576 }
+    ensures { IsDueFor (command.Make (make_words_of make.now)) (S.shows store.old)
+        (S.shows store.new) result.status (bytes_of_line result.line) }
+{
+    match test_made(alloc, store, make.prefix) {
+        Ok(()) => make_apart(rt, alloc, make, store),
+        Err(error) => due_unset(alloc, error),
+    }
 }

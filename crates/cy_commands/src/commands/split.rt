@@ -3,10 +3,12 @@ ghost use Rattle.std.specs.Prelude.{◌≡◌};
 ghost use Rattle.cy_words.specs.Command as command;
 ghost use Rattle.cy_commands.specs.Due.{IsDueFor};
 ghost use Rattle.cy_commands.specs.Line.{bytes_of_line};
+ghost use Rattle.cy_commands.specs.private.KeptEnds.{AreApart};
 ghost use Rattle.cy_words.specs.Views.{split_words_of};
 
 use crate::due::{Due, out_of_memory};
-use crate::kept::{LINE_ROOM, due_kept, due_unkept};
+use crate::kept::{LINE_ROOM, due_kept, due_unkept, test_kept};
+use crate::unset::due_unset;
 use cy_request::Filter;
 use cy_store::Store;
 use cy_words::Split;
@@ -21,7 +23,8 @@ fn split_by<'a, S: Store, R: Threads + Sync>(
     filter: &Filter,
     store: &mut S,
 ) -> Due<'a>
-    requires { filter.now ≡ (split_words_of split.now).filter }
+    requires filter { filter.now ≡ (split_words_of split.now).filter }
+    requires apart { AreApart (S.shows store.old).files split.now.input.now split.now.output.now }
     ensures { IsDueFor (command.Split (split_words_of split.now)) (S.shows store.old)
         (S.shows store.new) result.status (bytes_of_line result.line) }
 {
@@ -37,6 +40,25 @@ fn split_by<'a, S: Store, R: Threads + Sync>(
     }
 }
 
+// What is due for `split` of a record, where another file is named for what is written.
+fn split_apart<'a, S: Store, R: Threads + Sync>(
+    rt: &R,
+    alloc: Global,
+    split: &Split<'a>,
+    store: &mut S,
+) -> Due<'a>
+    requires { AreApart (S.shows store.old).files split.now.input.now split.now.output.now }
+    ensures { IsDueFor (command.Split (split_words_of split.now)) (S.shows store.old)
+        (S.shows store.new) result.status (bytes_of_line result.line) }
+{
+    let Ok(filter) = split.filter(alloc) else {
+        return out_of_memory();
+    };
+    let due = split_by(rt, alloc, split, &filter, store);
+    drop(filter);
+    due
+}
+
 /// What is due for `split` of a record: one is written of the messages that the words let through,
 /// and the line tells how many these are, and of how many.
 pub fn run_split<'a, S: Store, R: Threads + Sync>(
@@ -48,10 +70,8 @@ pub fn run_split<'a, S: Store, R: Threads + Sync>(
     ensures { IsDueFor (command.Split (split_words_of split.now)) (S.shows store.old)
         (S.shows store.new) result.status (bytes_of_line result.line) }
 {
-    let Ok(filter) = split.filter(alloc) else {
-        return out_of_memory();
-    };
-    let due = split_by(rt, alloc, split, &filter, store);
-    drop(filter);
-    due
+    match test_kept(alloc, store, split.input, split.output) {
+        Ok(()) => split_apart(rt, alloc, split, store),
+        Err(error) => due_unset(alloc, error),
+    }
 }

@@ -18,8 +18,8 @@ returns-in-Ok-split g c =
     let new = g.S.Store.shows c.split.new.store in
     let made = c.in-Ok-split.made in
     let due = c.due_kept.result in
-    parted w old new made due.status (bytes_of_line due.line)
-    (subst (λ (f : Filter). ToolAnswer (record_of w.input) (splitting f) w.input w.output old new (Ok made)) c.requires c.in-Ok-split.ensures)
+    parted w old new made due.status (bytes_of_line due.line) c.requires.apart
+    (subst (λ (f : Filter). ToolAnswer (record_of w.input) (splitting f) w.input w.output old new (Ok made)) c.requires.filter c.in-Ok-split.ensures)
     (subst (λ (n : ℕ). IsDueKept made.messages (codes " of ") n due.status (bytes_of_line due.line)) c.from.ensures c.due_kept.ensures)
 
 pub returns-in-Err : goal.returns-in-Err
@@ -28,4 +28,4 @@ returns-in-Err g c =
     let old = g.S.Store.shows c.args.store.now in
     let new = g.S.Store.shows c.split.new.store in
     let answer : Result Parted ToolError = Err c.in-Err.error in
-    unparted w old new c.in-Err.error _ _ (subst (λ (f : Filter). ToolAnswer (record_of w.input) (splitting f) w.input w.output old new answer) c.requires c.in-Err.ensures) c.due_unkept.ensures
+    unparted w old new c.in-Err.error _ _ c.requires.apart (subst (λ (f : Filter). ToolAnswer (record_of w.input) (splitting f) w.input w.output old new answer) c.requires.filter c.in-Err.ensures) c.due_unkept.ensures
