@@ -891,6 +891,7 @@ fails_without_standard_error 'is closed' '2>&-'
 . "$top/tests/program/timers.sh"
 . "$top/tests/program/refused.sh"
 . "$top/tests/program/verify.sh"
+. "$top/tests/program/large_traces.sh"
 . "$top/tests/program/tools.sh"
 
 # Runs a script of its own over the program, and tells what it found amiss.
