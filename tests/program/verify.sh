@@ -1,35 +1,6 @@
 # A part of tests/program.sh, which reads it: `verify`, over the files of a play and over what is made of them. What `verify` says of the
 # other plays of tests/program.sh is looked at where they are made.
 
-# The words that name the files of `of_a_pass`.
-PASS_FILES=(--dag d.dag --record in.rec --out out.rec --trace trace)
-
-# Makes the files of the first play of `pass`, with a DAG and a component file that say the same.
-of_a_pass() {
-  given one.rec
-  one_component PassComponent "$READS_IN" 'out: "/out"'
-  sed -i 's/name: "p"/name: "pass"/' files/d.dag
-  run pass in.rec out.rec trace /in /out
-  ends 0 "$(cat want/line)" ''
-  both_whole
-}
-
-# The names and sizes of all that is there, and the sum of each file but for a huge one.
-sums() {
-  (cd files && find . -printf '%p %s\n' | sort && find . -type f -size -100M -print0 | sort -z | xargs -0 sha256sum)
-}
-
-# Verifies, and looks at the status, at both streams, and that no file was made or changed.
-verifies() { # the status, the line on standard output and that on standard error, and the words
-  local status_of=$1 line=$2 fault=$3
-  shift 3
-  sums >before
-  run verify "$@"
-  ends "$status_of" "$line" "$fault"
-  sums | cmp -s - before
-  count $? "$name: a file was made or changed"
-}
-
 finds_it_lawful() { # what it is, a command that changes the files, and further words
   begin "finds $1 to be of a lawful run"
   of_a_pass

@@ -7,7 +7,7 @@ use Rattle.cy_fuse.specs.declared.overflow.Overflow.{Overflow}
 use Rattle.cy_trace.specs.LineOrder.{after_line}
 use Rattle.cy_trace.specs.TraceForm.{AreLines, line_text, whole_line}
 use Rattle.cy_trace.specs.TraceText.{told}
-use Rattle.cy_trace.specs.private.Fronts.{ReadsOn}
+use Rattle.cy_trace.specs.private.Fronts.{HasRoom, ReadsOn}
 use Rattle.cy_trace.specs.declared.building.Building.{Building}
 use Rattle.cy_trace.specs.declared.building.Building.TheVariants.{Start, Called, Taped}
 use Rattle.cy_trace.specs.declared.building.Prefix.{Prefix}
@@ -63,3 +63,8 @@ read_further bytes rest more (Taped prefix es) c line next at (new, is, takes) =
     rw now (lines_taken bytes rest more (Taped prefix es) (Taped prefix (es ++ takes.taken)) line next at (map Tape takes.taken) takes.text takes.fits
     (messages_added (prefix_lines prefix) es takes.taken) (tape_run prefix es takes.taken) at.suits (takes.count ∙ ap (λ k. line + k) (sym (length-map takes.taken Tape))))
 read_further bytes rest more b c line next at same = same_place bytes rest more b c line next at same
+
+-- Each message so far is a line of the text, so there are fewer of them than bytes.
+pub has_room : (bytes rest : List ℕ) (b : Building) (line : ℕ) → Reached bytes rest b line → length bytes ≤ 4294967294 → HasRoom b
+has_room bytes rest (Taped prefix es) line at short = omega (arith, at.count, at.room, short, length-append (prefix_lines prefix) (map Tape es), length-map es Tape)
+has_room bytes rest b line at short = tt

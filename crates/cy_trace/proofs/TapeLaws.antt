@@ -1,11 +1,11 @@
 -- Messages told by the numbers of their names.
 use Rattle.std.proofs.Common.{ℕ, zero, suc, ◌≡◌, ◌+◌, ◌<◌, List, [], ◌∷◌, ◌++◌, length, get_or, refl, ap, sym, subst, ◌∙◌, arith}
-use Rattle.std.proofs.lemmas.List.{map-append}
+use Rattle.std.proofs.lemmas.List.{length-append, map-append}
 use Rattle.std.proofs.lemmas.List.Elements.{All-head, All-tail, All-push}
 use Rattle.std.specs.Fmt.{decimal}
 use Rattle.std.specs.List.{All}
 use Rattle.std.specs.Str.{IsUtf8}
-use Rattle.cy_trace.specs.Tapes.{entry_by, name_by, told_by}
+use Rattle.cy_trace.specs.Tapes.{entry_by, name_by, told_by, AreNamed}
 use Rattle.cy_trace.specs.TraceForm.{IsShort}
 use Rattle.cy_trace.specs.declared.line.Line.TheVariants.{Tape}
 use Rattle.cy_trace.specs.declared.named.NamedSeq.{NamedSeq}
@@ -64,5 +64,8 @@ pub named_taken : (names : List TapeName) (bytes rest further : List ℕ) (old n
 named_taken names bytes rest further old now new line next m so begins is =
     message_taken bytes rest further (told_by names old) (told_by names now) (told_by names new) line next (entry_by names m) so begins (ap (told_by names) is ∙ map-append (entry_by names) now (m ∷ []))
 
-pub named_more : (names : List TapeName) (now new : List NamedSeq) (m : NamedSeq) → All (λ m. m.name < length names) now → m.name < length names → new ≡ now ++ m ∷ [] → All (λ m. m.name < length names) new
-named_more names now new m all low is = rw is (All-push (λ m. m.name < length names) now m all low)
+pub named_more : (names : List TapeName) (now new : List NamedSeq) (m : NamedSeq) → AreNamed names now → m.name < length names → new ≡ now ++ m ∷ [] → AreNamed names new
+named_more names now new m named low is = rw is record {
+  each = All-push (λ m. m.name < length names) now m named.each low;
+  few = omega (arith, named.few, length-append now (m ∷ []));
+}

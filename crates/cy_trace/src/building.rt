@@ -1,10 +1,10 @@
 // A trace while its lines are read.
-ghost use Rattle.std.specs.Prelude.{◌≡◌, ◌≤◌, ◌+◌, ◌++◌, ◌∷◌, [], Some, option_map, length};
+ghost use Rattle.std.specs.Prelude.{◌≡◌, ◌≤◌, ◌<◌, ◌+◌, ◌++◌, ◌∷◌, [], Some, option_map, length};
 ghost use Rattle.cy_trace.specs.LineReading.{Gives};
 ghost use Rattle.cy_trace.specs.LineOrder.{finish, next, after_line, overflow_by, trace_with};
 ghost use Rattle.cy_trace.specs.LineOrder.{with_components};
 ghost use Rattle.cy_trace.specs.declared.building.Building.TheVariants as building;
-ghost use Rattle.cy_trace.specs.private.Fronts.{ReadsOn};
+ghost use Rattle.cy_trace.specs.private.Fronts.{HasRoom, ReadsOn};
 
 use crate::fault::Fault;
 use crate::front_call::take_calls;
@@ -65,7 +65,8 @@ fn none<T>(alloc: Global) -> Items<T>
     Items::new(Vec::new(alloc))
 }
 
-// No calls, with room for one for each of these arrivals that may trigger it, where there is memory.
+// No calls, with room for one for each of these arrivals that may trigger it, as far as there is
+// memory.
 fn room_for_calls(alloc: Global, roles: &[u8]) -> Calls
     ensures { result ≡ [] }
 {
@@ -105,6 +106,7 @@ impl Prefix {
 
     // The lines with one more message of the tape.
     fn taped(self, alloc: Global, tape: Tape, entry: TapeEntry) -> Result<Building, Fault>
+        requires { length tape < 4294967295 }
         ensures { Gives result (Some (building.Taped self (tape ++ entry ∷ []))) }
     {
         match tape.with(alloc, entry) {
@@ -298,6 +300,7 @@ fn behind_call(
 
 #[tactic(auto, unfolding(crate::specs::LineOrder::after_line))]
 fn behind_message(alloc: Global, prefix: Prefix, tape: Tape, line: Line) -> Result<Building, Fault>
+    requires { length tape < 4294967295 }
     ensures { Gives result (after_line (building.Taped prefix tape) line) }
 {
     match line {
@@ -314,6 +317,7 @@ fn behind_message(alloc: Global, prefix: Prefix, tape: Tape, line: Line) -> Resu
 impl Building {
     // The same with one more line, where it may come next.
     fn after_line(self, alloc: Global, line: Line) -> Result<Building, Fault>
+        requires { HasRoom self }
         ensures { Gives result (after_line self line) }
     {
         match self {
@@ -333,6 +337,7 @@ impl Building {
     /// The same with one more line, of which these are the bytes.
     #[tactic(auto, unfolding(crate::specs::LineOrder::next))]
     pub(crate) fn next(self, alloc: Global, bytes: &[u8]) -> Result<Building, Fault>
+        requires { HasRoom self }
         ensures { Gives result (next self bytes.now) }
     {
         match line_of(alloc, bytes) {
@@ -344,8 +349,8 @@ impl Building {
         }
     }
 
-    /// Reads on where the next lines are calls or messages of the tape, as most lines of a trace are:
-    /// those that are found so are taken as they stand.
+    /// Reads on where the next lines are calls or messages of the tape, as most lines of a trace
+    /// are: those that are found so are taken as they stand.
     pub(crate) fn read_on<'a>(self, bytes: &'a [u8], line: u32) -> Reading<'a>
         requires { line + length bytes.now ≤ 4294967295 }
         ensures { ReadsOn self bytes.now line result.building result.rest.now result.line }

@@ -37,7 +37,7 @@ pub use laws::{
     first_bad_is_one, lines_read_back, runs_are_read_back, runs_are_traces, texts_tell_traces,
     traces_tell_runs,
 };
-pub use named::{NamedSeq, TapeName};
+pub use named::NamedSeq;
 pub use read::read_trace;
 pub use seqs::Seqs;
 pub use summary::{lawful_line, summary_line};

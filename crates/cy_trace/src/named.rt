@@ -6,8 +6,8 @@ use cy_msg::{Bytes, Text};
 
 /// A name of channels of a tape.
 #[derive(Drop)]
-pub struct TapeName {
-    pub text: Text,
+pub(crate) struct TapeName {
+    pub(crate) text: Text,
     // What the lines of its messages begin with.
     pub(crate) start: Bytes,
     ghost begins: { start ≡ tape_start text },
@@ -16,6 +16,7 @@ pub struct TapeName {
 /// A message of a tape, by the number of its name among the tape's names.
 #[derive(Clone, Copy)]
 pub struct NamedSeq {
+    /// The number of its name.
     pub name: u32,
     /// Its number among the messages of its channel.
     pub seq: u32,

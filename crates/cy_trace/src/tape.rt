@@ -1,35 +1,34 @@
 // The tape of a trace.
-ghost use Rattle.std.specs.Prelude.{◌≡◌, ◌<◌, [], length};
-ghost use Rattle.std.specs.List.{All};
-ghost use Rattle.std.specs.Prelude.{slice_get, Some};
-ghost use Rattle.cy_trace.specs.Tapes.{told_by, entry_of};
+ghost use Rattle.std.specs.Prelude.{◌≡◌, ◌<◌, [], length, slice_get, Some};
+ghost use Rattle.cy_trace.specs.Tapes.{entry_of};
 
 use crate::added::with_room;
 use crate::named::{NamedSeq, TapeName};
 use cy_msg::Text;
 use std::alloc::Global;
+use std::collections::HashMap;
 use std::marker::Model;
 
 /// The messages of a tape. Contracts see it as the list of their names and numbers.
 #[derive(Drop)]
 pub struct Tape {
     pub(crate) names: Vec<TapeName>,
+    // The number of each of the first names, by the name in quotes. It is a guess: a line is of the
+    // name only where it begins as the name's lines do.
+    pub(crate) numbers: HashMap<Vec<u8>, u32>,
     pub(crate) messages: Vec<NamedSeq>,
 }
 
 impl Model for Tape {
-    ghost use Rattle.std.specs.Prelude.{List, ◌<◌, length};
-    ghost use Rattle.std.specs.List.{All};
+    ghost use Rattle.std.specs.Prelude.{List};
     ghost use Rattle.cy_trace.specs.declared.trace.TapeEntry.{TapeEntry};
-    ghost use Rattle.cy_trace.specs.declared.named.NamedSeq.{NamedSeq};
-    ghost use Rattle.cy_trace.specs.Tapes.{told_by};
+    ghost use Rattle.cy_trace.specs.Tapes.{told_by, AreNamed};
 
     ghost Value = { List TapeEntry };
 
     ghost view = { λ t. told_by t.names.items t.messages.items };
 
-    ghost invariant = { λ t.
-        All (λ (m : NamedSeq). m.name < length t.names.items) t.messages.items };
+    ghost invariant = { λ t. AreNamed t.names.items t.messages.items };
 }
 
 impl Tape {
@@ -39,6 +38,7 @@ impl Tape {
     {
         Tape {
             names: Vec::new(alloc),
+            numbers: HashMap::new(alloc),
             messages: Vec::new(alloc),
         }
     }
@@ -49,16 +49,9 @@ impl Tape {
     {
         Tape {
             names: Vec::new(alloc),
+            numbers: HashMap::new(alloc),
             messages: with_room(alloc, most),
         }
-    }
-
-    /// The names, and the messages by the numbers of these.
-    pub fn parts(&self) -> (&[TapeName], &[NamedSeq])
-        ensures told { told_by result.0.now result.1.now ≡ self.now }
-        ensures named { All (λ m. m.name < length result.0.now) result.1.now }
-    {
-        (self.names.as_slice(), self.messages.as_slice())
     }
 
     /// How many messages there are.
@@ -68,13 +61,13 @@ impl Tape {
         self.messages.len()
     }
 
-    /// The name and the number of the message at a place.
+    /// The message at a place, with its name.
     #[inline(always)]
-    pub fn entry(&self, place: usize) -> (&Text, u32)
+    pub fn entry(&self, place: usize) -> (&Text, NamedSeq)
         requires { place < length self.now }
-        ensures { slice_get self.now place ≡ Some (entry_of (result.0.now, result.1)) }
+        ensures { slice_get self.now place ≡ Some (entry_of (result.0.now, result.1.seq)) }
     {
         let message = self.messages[place];
-        (&self.names[message.name as usize].text, message.seq)
+        (&self.names[message.name as usize].text, message)
     }
 }

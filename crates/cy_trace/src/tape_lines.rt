@@ -1,48 +1,48 @@
 // The lines of a tape's messages.
 ghost use Rattle.std.specs.Prelude.{◌≡◌, ◌≤◌, ◌<◌, ◌+◌, ◌++◌, ◌∷◌, [], length, IfOk, IfSome, Some};
-ghost use Rattle.std.specs.List.{All};
-ghost use Rattle.cy_trace.specs.Tapes.{entry_by, told_by};
+ghost use Rattle.cy_trace.specs.Tapes.{entry_by, told_by, AreNamed};
 ghost use Rattle.cy_trace.specs.private.Fronts.{BeginsWith, TakesMessages};
 ghost use Rattle.cy_trace.specs.declared.line.Line.TheVariants as line;
 
 use crate::added::is_added;
 use crate::fault::Fault;
 use crate::front::{front_byte, front_short, front_word};
-use crate::{NamedSeq, Tape, TapeEntry, TapeName};
+use crate::named::TapeName;
+use crate::word::{cut, cut_last};
+use crate::{NamedSeq, Tape, TapeEntry};
 use cy_msg::{Bytes, Text, push_quoted};
 use std::alloc::{AllocError, Global};
+use std::collections::HashMap;
 
-/// How many of the names are looked through for that of the next line. A tape has few mostly; where
-/// it has more, a line may keep a name of its own.
-const MOST_TRIED: usize = 64;
-
-// The greatest number of a name.
-const MOST_NUMBER: usize = 4_294_967_295;
+/// How many names are found by the map. A lawful run has at most 1,024; where a tape has more than
+/// these, each line of a further name keeps a name of its own.
+const MOST_FOUND: usize = 65_536;
 
 impl Tape {
-    ghost use Rattle.std.specs.Prelude.{◌≡◌, ◌≤◌, ◌+◌, ◌++◌, ◌∷◌, [], length, Some};
+    ghost use Rattle.std.specs.Prelude.{◌≡◌, ◌≤◌, ◌<◌, ◌+◌, ◌++◌, ◌∷◌, [], length, Some};
     ghost use Rattle.cy_trace.specs.LineReading.{Gives};
     ghost use Rattle.cy_trace.specs.private.Fronts.{TakesMessages};
 
     // The same with one more message, of a name that is kept anew.
     pub(crate) fn with(self, alloc: Global, entry: TapeEntry) -> Result<Tape, Fault>
+        requires { length self < 4294967295 }
         ensures { Gives result (Some (self ++ entry ∷ [])) }
     {
         let Tape {
             mut names,
+            mut numbers,
             mut messages,
         } = self;
         let TapeEntry { name, seq } = entry;
-        let number = names.len();
-        if number > MOST_NUMBER {
-            return Err(Fault::Memory);
-        }
+        let number = names.len() as u32;
+        keep_number(alloc, &mut numbers, &name, number)?;
         names.push(name_of(alloc, name)?)?;
-        messages.push(NamedSeq {
-            name: number as u32,
-            seq,
-        })?;
-        Ok(Tape { names, messages })
+        messages.push(NamedSeq { name: number, seq })?;
+        Ok(Tape {
+            names,
+            numbers,
+            messages,
+        })
     }
 
     // Takes the messages whose lines come next, as far as their names are known.
@@ -50,31 +50,74 @@ impl Tape {
         requires { line + length bytes.now ≤ 4294967295 }
         ensures { TakesMessages bytes.now result.0.now self.old self.new line result.1 }
     {
-        take_messages(self.names.as_slice(), &mut self.messages, bytes, line)
+        take_messages(
+            self.names.as_slice(),
+            &self.numbers,
+            &mut self.messages,
+            bytes,
+            line,
+        )
+    }
+}
+
+// Keeps the number of a name, by the name in quotes.
+fn keep_number(
+    alloc: Global,
+    numbers: &mut HashMap<Vec<u8>, u32>,
+    name: &Text,
+    number: u32,
+) -> Result<(), AllocError> {
+    if numbers.len() >= MOST_FOUND {
+        return Ok(());
+    }
+    let mut quoted = Vec::new(alloc);
+    push_quoted(&mut quoted, name.as_str().as_bytes(), true)?;
+    numbers.insert(quoted, number)?;
+    Ok(())
+}
+
+// The number of the name whose line the bytes may begin with.
+#[inline(always)]
+fn guess_of(numbers: &HashMap<Vec<u8>, u32>, bytes: &[u8]) -> Option<u32> {
+    let rest = front_word(bytes, b"tape ")?;
+    let (line, _) = cut(rest, b'\n')?;
+    let (quoted, _) = cut_last(line, b' ')?;
+    numbers.get(quoted).copied()
+}
+
+// The number behind a name's: behind the last one comes the first.
+#[inline(always)]
+fn next_of(names: &[TapeName], number: u32) -> u32 {
+    let next = number.wrapping_add(1);
+    if (next as usize) < names.len() {
+        next
+    } else {
+        0
     }
 }
 
 // Takes the messages of these names whose lines come next.
 fn take_messages<'a>(
     names: &[TapeName],
+    numbers: &HashMap<Vec<u8>, u32>,
     messages: &mut Vec<NamedSeq>,
     bytes: &'a [u8],
     line: u32,
 ) -> (&'a [u8], u32)
     requires { line + length bytes.now ≤ 4294967295 }
-    ensures named { All (λ m. m.name < length names.now) messages.old.items
-        → All (λ m. m.name < length names.now) messages.new.items }
+    ensures named { AreNamed names.now messages.old.items
+        → AreNamed names.now messages.new.items }
     ensures taken { TakesMessages bytes.now result.0.now (told_by names.now messages.old.items)
         (told_by names.now messages.new.items) line result.1 }
 {
     let mut rest = bytes;
     let mut next = line;
-    let mut last = 0;
-    while let Some((message, more)) = front_message(names, last, rest) {
+    let mut tried = 0;
+    while let Some((message, more)) = front_message(names, numbers, tried, rest) {
         if !is_added(messages, message) {
             return (rest, next);
         }
-        last = message.name as usize;
+        tried = next_of(names, message.name);
         rest = more;
         next += 1;
     }
@@ -96,48 +139,37 @@ fn name_of(alloc: Global, text: Text) -> Result<TapeName, AllocError>
 
 // The message of this name whose line the bytes begin with.
 #[inline(always)]
-fn front_of<'a>(names: &[TapeName], number: usize, bytes: &'a [u8]) -> Option<(NamedSeq, &'a [u8])>
-    requires there { number < length names.now }
-    requires few { number < 64 }
+fn front_of<'a>(names: &[TapeName], number: u32, bytes: &'a [u8]) -> Option<(NamedSeq, &'a [u8])>
     ensures { IfSome result (λ p. (p.0.name < length names.now)
         × BeginsWith bytes.now (line.Tape (entry_by names.now p.0)) p.1.now) }
 {
-    let name = &names[number];
+    let place = number as usize;
+    if place >= names.len() {
+        return None;
+    }
+    let name = &names[place];
     let _text = name.text.as_str();
     let rest = front_word(bytes, name.start.as_slice())?;
     let (seq, rest) = front_short(rest)?;
     let rest = front_byte(rest, b'\n')?;
-    Some((
-        NamedSeq {
-            name: number as u32,
-            seq,
-        },
-        rest,
-    ))
+    Some((NamedSeq { name: number, seq }, rest))
 }
 
-// The message whose line the bytes begin with, where its name is among these: first the one behind
-// the last name is tried, since names come in turns mostly.
+// The message whose line the bytes begin with, where its name is among these. The name that comes
+// next in turns is tried first, which takes less time than to find one.
 #[inline(always)]
 fn front_message<'a>(
     names: &[TapeName],
-    last: usize,
+    numbers: &HashMap<Vec<u8>, u32>,
+    tried: u32,
     bytes: &'a [u8],
 ) -> Option<(NamedSeq, &'a [u8])>
     ensures { IfSome result (λ p. (p.0.name < length names.now)
         × BeginsWith bytes.now (line.Tape (entry_by names.now p.0)) p.1.now) }
 {
-    let count = names.len().min(MOST_TRIED);
-    let mut number = last.min(count);
-    for _ in 0..count {
-        number += 1;
-        if number >= count {
-            number = 0;
-        }
-        let found = front_of(names, number, bytes);
-        if found.is_some() {
-            return found;
-        }
+    let found = front_of(names, tried, bytes);
+    if found.is_some() {
+        return found;
     }
-    None
+    front_of(names, guess_of(numbers, bytes)?, bytes)
 }

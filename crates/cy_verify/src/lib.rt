@@ -3,6 +3,7 @@
 //! `specs/Verdict` says what is asked, and what is answered.
 #![tactic(auto)]
 
+mod channels;
 mod ending;
 mod error;
 mod follower;

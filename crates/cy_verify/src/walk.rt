@@ -8,11 +8,12 @@ ghost use Rattle.cy_verify.specs.declared.follower.Follower.{Follower};
 ghost use Rattle.cy_verify.specs.private.Walking.{names_it};
 
 use crate::VerifyError;
+use crate::channels::Channels;
 use crate::follower::Follower;
 use cy_comp::{Plan, Routine, Wiring};
 use cy_fuse::Visitor;
 use cy_msg::{Items, PlayList, Stop, Text, Token};
-use cy_trace::{Trace, TraceComponent};
+use cy_trace::{NamedSeq, Trace, TraceComponent};
 use std::alloc::Global;
 use wake_core::{CoreError, Fixed, Parts, World, laws};
 
@@ -69,8 +70,10 @@ impl Walk {
           stop = stop;
         } w) }
     {
-        let Ok(world) = World::new(alloc, wiring, counts, stop) else {
-            return Err(VerifyError::Memory);
+        let world = match World::new(alloc, wiring, counts, stop) {
+            Ok(world) => world,
+            Err(CoreError::Memory) => return Err(VerifyError::Memory),
+            Err(CoreError::TooMany { .. }) => unreachable!(),
         };
         let Parts {
             routines,
@@ -187,8 +190,9 @@ impl Walk {
         wiring: &Wiring,
         list: &PlayList,
         told: &[TraceComponent],
+        channels: &mut Channels,
         name: &Text,
-        seq: u32,
+        message: NamedSeq,
     ) -> bool
         requires may { MayJudge (task_in wiring.now list.now self.old) }
         requires once { IsOnce wiring.now.names }
@@ -196,18 +200,20 @@ impl Walk {
         requires told { length told.now ≡ length wiring.now.plans }
         ensures walked { result ≡ true
             → IsWalked (task_in wiring.now list.now self.new) told.now self.new }
-        ensures puts { result ≡ true → Puts wiring.now.names (entry_of (name.now, seq)) self.old
-            self.new }
+        ensures puts { result ≡ true → Puts wiring.now.names
+            (entry_of (name.now, message.seq)) self.old self.new }
         ensures same { self.new.fixed ≡ self.old.fixed }
         ensures leads { (w : Plain) (token : Token)
             → IsLed (task_in wiring.now list.now self.old) told.now w self.old
-            → IsNext w self.old token → tape_entry wiring.now.names token ≡ entry_of (name.now, seq)
+            → IsNext w self.old token
+            → tape_entry wiring.now.names token ≡ entry_of (name.now, message.seq)
             → (result ≡ true)
             × IsLed (task_in wiring.now list.now self.new) told.now w self.new }
     {
-        let Some(channel) = wiring.names.number_of(name.as_str()) else {
+        let Some(channel) = channels.find(&wiring.names, name, message.name) else {
             return false;
         };
+        let seq = message.seq;
         match writer_of(wiring.plans.as_slice(), channel) {
             Some(writer) => self.put_output(wiring, list, told, writer, name, seq),
             None => self.put_played(wiring, list, told, channel, name, seq),
@@ -234,9 +240,11 @@ impl Walk {
             → (result ≡ true) × (self.new.tape.items ≡ w.tape)
             × IsLed (task_in wiring.now list.now self.new) trace.now.components w self.new }
     {
+        let told = trace.components.as_slice();
+        let mut channels = Channels::new();
         for place in 0..trace.tape.count() {
-            let (name, seq) = trace.tape.entry(place);
-            if !self.put_entry(wiring, list, trace.components.as_slice(), name, seq) {
+            let (name, message) = trace.tape.entry(place);
+            if !self.put_entry(wiring, list, told, &mut channels, name, message) {
                 return false;
             }
         }

@@ -46,7 +46,7 @@ no_sink_fault due line old new answer t e out err =
 -- what an accepted work says of the files
 taken : (o : Outcome) (m : Files) (work : Work) → IsAccepted o (Some m) work → IsTaken o m
 taken (Reading names reads makes) m work a = (a.read, a.accepted)
-taken (Making makes) m work a = tt
+taken (Making own makes) m work a = tt
 taken (Judging names comes) m work a = (work, a)
 
 -- what is due is called for, where no faults rose
@@ -72,13 +72,13 @@ called c old new m Memory line told quiet d = inl refl
 -- what is no judging
 abbrev IsRead : Outcome → Type 0
 IsRead (Reading names reads makes) = ⊤
-IsRead (Making makes) = ⊤
+IsRead (Making own makes) = ⊤
 IsRead (Judging names comes) = ⊥
 
 -- what the files come to calls for one status, and where none is read, Done is called for
 abbrev one_status : Outcome → Files → Status
 one_status (Reading names reads makes) m = status_of (reads m)
-one_status (Making makes) m = Done
+one_status (Making own makes) m = Done
 one_status (Judging names comes) m = Done
 
 -- what judged files call for is what they come to
@@ -101,10 +101,10 @@ is_one (Reading names reads makes) m Done read h = ap status_of (sym h.1)
 is_one (Reading names reads makes) m Refused read h = h.1.status ∙ ap status_of (sym h.1.refused)
 is_one (Reading names reads makes) m StoreFault read h = ap status_of (sym h.1)
 is_one (Reading names reads makes) m Limit read h = h.1.status ∙ ap status_of (sym h.1.refused)
-is_one (Making makes) m Done read h = refl
-is_one (Making makes) m Refused read h = absurd h.1
-is_one (Making makes) m StoreFault read h = absurd h.1
-is_one (Making makes) m Limit read h = absurd h.1
+is_one (Making own makes) m Done read h = refl
+is_one (Making own makes) m Refused read h = absurd (let e : Some m ≡ None = h.1.untold in cc)
+is_one (Making own makes) m StoreFault read h = absurd h.1
+is_one (Making own makes) m Limit read h = absurd (let e : Some m ≡ None = h.1.untold in cc)
 is_one (Judging names comes) m due read h = absurd read
 is_one o m Usage read h = absurd h
 is_one o m SinkFault read h = absurd h

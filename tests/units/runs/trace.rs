@@ -55,8 +55,8 @@ fn is_call(
 }
 
 fn is_entry(trace: &Trace, place: usize, name: &str, seq: u32) -> bool {
-    let (its_name, its_seq) = trace.tape.entry(place);
-    its_name.as_str() == name && its_seq == seq
+    let (its_name, message) = trace.tape.entry(place);
+    its_name.as_str() == name && message.seq == seq
 }
 
 #[test]
@@ -375,4 +375,34 @@ fn finds_where_a_text_ends(rt: HostRuntime) -> Result<(), Fail> {
     }
     assert_eq!(rt; line, 9);
     Ok(())
+}
+
+// 70 names come in turns, backwards and each three times on end. Some are spelled with escapes, and
+// some look like the end of a name. Each has one number, in the order in which they first came.
+#[test]
+fn numbers_each_name_once(rt: HostRuntime) -> Result<(), Fail> {
+    let mut text = String::from_str(rt.alloc(), "cyber-trace 1\nplayed 0 shadowed 0\n")?;
+    for place in 0..350u32 {
+        let name = name_at(place);
+        let mark = ["", "\\\"", "\\\" 7", "\\\\", "\\n", " "][name as usize % 6];
+        text.push_str(&format!(in rt.alloc(); "tape \"{name}{mark}\" {place}\n")?)?;
+    }
+    let trace = read_trace(rt.alloc(), text.as_bytes())?;
+    assert_eq!(rt; trace.tape.count(), 350);
+    for place in 0..350u32 {
+        let (name, message) = trace.tape.entry(place as usize);
+        let mark = ["", "\"", "\" 7", "\\", "\n", " "][name_at(place) as usize % 6];
+        let want = format!(in rt.alloc(); "{}{mark}", name_at(place))?;
+        assert_eq!(rt; name.as_str(), want.as_str());
+        assert_eq!(rt; (message.name, message.seq), (name_at(place), place));
+    }
+    Ok(())
+}
+
+fn name_at(place: u32) -> u32 {
+    match place {
+        0..70 => place,
+        70..140 => 139 - place,
+        _ => (place - 140) / 3,
+    }
 }

@@ -1,5 +1,5 @@
 -- What the bytes that are left of a trace's text begin with.
-use Rattle.std.specs.Prelude.{ℕ, ◌≡◌, ◌+◌, List, ◌++◌, length, map, Option, codes}
+use Rattle.std.specs.Prelude.{ℕ, ◌≡◌, ◌+◌, ◌<◌, List, ◌++◌, length, map, Option, codes}
 use Rattle.std.specs.List.{flat_map}
 use Rattle.cy_trace.specs.TraceForm.{AreLines, Each, IsLine, IsOutput, IsShort, numbers_text}
 use Rattle.cy_trace.specs.TraceForm.{output_text, whole_line}
@@ -50,3 +50,8 @@ ReadsOn (Called prefix name overflow roles old) bytes line b rest next =
 ReadsOn (Taped prefix old) bytes line b rest next = (new : List TapeEntry)
     × (b ≡ Taped prefix new) × TakesMessages bytes rest old new line next
 ReadsOn a bytes line b rest next = (b ≡ a) × (rest ≡ bytes) × (next ≡ line)
+
+-- A message more can be counted by 32 bits.
+abbrev pub HasRoom : Building → Type 0
+HasRoom (Taped prefix tape) = length tape < 4294967295
+HasRoom b = Unit {0}

@@ -3,7 +3,7 @@ use Rattle.std.proofs.lemmas.Bool.{eqb-true, eqb-false}
 use Rattle.std.proofs.lemmas.Option.{same_Some}
 use Rattle.cy_trace.proofs.Prefixes.{no_newline, not_next, stepped, finishes_as, finished, ends_early, bad_at, failed, refused}
 use Rattle.cy_trace.proofs.Order.{lines_so_far}
-use Rattle.cy_trace.proofs.Taking.{read_further}
+use Rattle.cy_trace.proofs.Taking.{has_room, read_further}
 use Rattle.cy_trace.proofs.read.read_trace.Goals as goal
 use Rattle.cy_trace.specs.declared.error.TraceError.TheVariants as trace_error
 
@@ -14,6 +14,9 @@ returns-in_default c =
     refused c.args.bytes.now (trace_error.Bad l.line)
     (bad_at c.args.bytes.now l.line (length (lines_so_far l.building)) l.invariant.count
     (no_newline c.args.bytes.now l.rest.now l.building l.line l.invariant some c.in_default.ensures.parts))
+
+pub next-requires : goal.next-requires
+next-requires c = has_room c.args.bytes.now c.loop-rest.rest.now c.loop-rest.building c.loop-rest.line c.loop-rest.invariant c.requires
 
 pub returns-in-Err : goal.returns-in-Err
 returns-in-Err c =
