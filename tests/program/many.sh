@@ -1,3 +1,4 @@
+# shellcheck shell=bash disable=SC2154
 # A part of tests/program.sh, which reads it: records of very many sections and messages.
 
 # Runs the program in the folder `files` as `run` does, and sets `used` to the milliseconds of processors and the KiB of memory that it took.

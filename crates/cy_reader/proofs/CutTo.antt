@@ -16,7 +16,7 @@ use Rattle.cy_reader.specs.declared.window.Window.{Window}
 use Rattle.cy_reader.specs.Sections.{WholeSection, section_at}
 use Rattle.cy_reader.specs.Heads.{index_at, section_head, end_of}
 use Rattle.cy_reader.specs.Record.{header_end, longest_file}
-use Rattle.cy_reader.specs.private.Cutting.{IsCut, IsFound, IsSection, EndsWithin, IsWithinFile, AreKept, Follow, is_kept, seen_part, listed}
+use Rattle.cy_reader.specs.private.Cutting.{IsCut, IsFound, IsSection, EndsWithin, AreKept, Follow, is_kept, seen_part, listed}
 use Rattle.cy_reader.specs.private.Kept.{IsPlaced, seen_index}
 use Rattle.cy_reader.specs.private.Window.{IsRead}
 use Rattle.cy_reader.specs.declared.cutting.Found.TheVariants as found

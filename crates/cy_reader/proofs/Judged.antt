@@ -1,13 +1,11 @@
 -- What a judged head and the bytes behind it say of what stands in a file.
-use Rattle.std.proofs.Common.{◌≡◌, ◌<◌, ◌≤◌, ◌+◌, ◌-◌, ◌^◌, ◌⊎◌, ℕ, List, [], ◌∷◌, length, take, drop, min, refl, ap, sym, ◌∙◌, subst, arith, inl, inr, length-take, length-drop, nat_lt, Bool, true, false, Option, Some, None, Result, Ok, Err}
+use Rattle.std.proofs.Common.{◌≡◌, ◌<◌, ◌≤◌, ◌+◌, ◌-◌, ◌^◌, ◌⊎◌, ℕ, List, [], ◌∷◌, length, take, drop, min, refl, ap, sym, ◌∙◌, arith, inl, inr, length-take, length-drop, true, false, Option, Some, None, Result, Ok, Err}
 use Rattle.std.specs.Prelude.{map, filter, IfOk, IfSome, IsOkUnless}
 use Rattle.std.proofs.lemmas.Bool.{le-ltb, lt-ltb, cases_lt}
-use Rattle.std.specs.Option.{option_map}
-use Rattle.cy_store.specs.Files.{Files, Holds}
+use Rattle.cy_store.specs.Files.{Holds}
 use Rattle.cy_store.specs.Store.{StoreView, SameCounts}
 use Rattle.cy_store.specs.declared.error.StoreError.{StoreError}
 use Rattle.cy_store.specs.declared.error.StoreError.TheVariants as store_error
-use Rattle.cy_store.proofs.Pieces.{held_by}
 use Rattle.cy_store.proofs.ReadFront.{both_held, may_hold}
 use Rattle.cy_section.specs.declared.error.SectionError.{SectionError}
 use Rattle.cy_section.specs.declared.error.SectionError.TheVariants.{Cut, TooLong}
@@ -21,10 +19,8 @@ use Rattle.cy_reader.specs.declared.heads.KeptIndex.{KeptIndex}
 use Rattle.cy_reader.specs.declared.heads.PlacedHead.{PlacedHead}
 use Rattle.cy_reader.specs.declared.window.Window.{Window}
 use Rattle.cy_reader.specs.Sections.{WholeSection, section_at, longest_section}
-use Rattle.cy_reader.specs.Heads.{section_head, index_at}
 use Rattle.cy_reader.specs.Record.{longest_file}
-use Rattle.cy_reader.specs.private.Cutting.{head_found, judged, judged_head, misfit, part_misfit, unless_misfit, Fits, IsHeaded, IsAt, IsFound, IsSection, EndsWithin, BodyAnswer, FoundAnswer, is_kept, seen_part, listed}
-use Rattle.cy_reader.specs.private.Kept.{seen_index}
+use Rattle.cy_reader.specs.private.Cutting.{head_found, judged, judged_head, misfit, part_misfit, unless_misfit, Fits, IsHeaded, IsAt, IsFound, BodyAnswer, FoundAnswer, is_kept, seen_part, listed}
 use Rattle.cy_reader.specs.private.Window.{IsRead, rest}
 use Rattle.cy_reader.proofs.Ahead.{too_few, headed, no_head, is_too_long, is_cut, is_whole, is_index, index_read}
 use Rattle.cy_reader.proofs.Refusals.{no_err, err_is}

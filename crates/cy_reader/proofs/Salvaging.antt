@@ -28,7 +28,7 @@ use Rattle.cy_reader.specs.Salvage.{Salvage, SalvageAnswer, own_fault, until_fau
 use Rattle.cy_reader.specs.private.Cutting.{IsCut, CutAnswer, Follow, is_kept, seen_part, fault_in}
 use Rattle.cy_reader.specs.private.Salvaging.{IsJudged, AreJudged, AreSound, SizeAnswer, place_before, salvage_kept, cut_salvage}
 use Rattle.cy_reader.proofs.Fronts.{front_header}
-use Rattle.cy_reader.proofs.Quiet.{kept_met, place_in, place_seen, IsUntil, until_kept}
+use Rattle.cy_reader.proofs.Quiet.{kept_met, place_in, place_seen, until_kept}
 use Rattle.cy_reader.proofs.FrontRead.{same_counts}
 use Rattle.cy_reader.proofs.Refusals.{err_is, no_err}
 use Rattle.cy_reader.proofs.Told.{salvage_named}

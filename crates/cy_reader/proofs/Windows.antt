@@ -1,5 +1,5 @@
 -- Bytes of a file that were read ahead.
-use Rattle.std.proofs.Common.{◌≡◌, ◌≤◌, ◌<◌, ◌+◌, ◌-◌, ◌++◌, nat_lt, min, if◌then◌else◌, ℕ, List, [], length, take, drop, refl, ap, sym, ◌∙◌, arith, inl, inr, take-add, length-take, length-drop}
+use Rattle.std.proofs.Common.{◌≡◌, ◌≤◌, ◌+◌, ◌-◌, ◌++◌, min, ℕ, List, [], length, take, drop, refl, ap, sym, ◌∙◌, arith, inl, inr, take-add, length-take, length-drop}
 use Rattle.std.proofs.lemmas.Bool.{le-ltb, lt-ltb, cases_lt}
 use Rattle.std.proofs.lemmas.List.{drop-drop, drop-take, take-append-le, take_at, drop_all, take-take, take_min, take_all}
 use Rattle.std.proofs.Math.Seq.{take-append-add}

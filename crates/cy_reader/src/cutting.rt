@@ -4,8 +4,8 @@ ghost use Rattle.std.specs.Prelude.{OnOk, IsOkUnless};
 ghost use Rattle.cy_store.specs.Files.{Holds};
 ghost use Rattle.cy_reader.specs.Record.{longest_file, header_end};
 ghost use Rattle.cy_reader.specs.private.Cutting.{head_found, misfit, judged_head, Fits, IsHeaded};
-ghost use Rattle.cy_reader.specs.private.Cutting.{is_kept, IsAt, BodyAnswer, FoundAnswer, CutAnswer};
-ghost use Rattle.cy_reader.specs.private.Cutting.{listed};
+ghost use Rattle.cy_reader.specs.private.Cutting.{is_kept, IsAt, BodyAnswer, FoundAnswer};
+ghost use Rattle.cy_reader.specs.private.Cutting.{CutAnswer, listed};
 ghost use Rattle.cy_reader.specs.private.Window.{IsRead};
 
 use crate::heads::{KeptIndex, PlacedHead};

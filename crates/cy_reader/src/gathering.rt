@@ -1,7 +1,7 @@
 // Keeps the chunks' bodies, the channels and the messages of sections that were read.
 ghost use Rattle.std.specs.Prelude.{◌≡◌, ◌≢◌, ◌≤◌, ◌<◌, ◌^◌, ◌+◌, ◌++◌, ◌∷◌, [], All, length, map};
 ghost use Rattle.std.specs.Prelude.{IfOk, IfErr, IfSome, OnOk, IsOkUnless, None};
-ghost use Rattle.std.specs.List.{flat_map};
+ghost use Rattle.std.specs.Vec.Iter.{into_iter_items};
 ghost use Rattle.cy_msg.specs.Answer.{AnswersOr};
 ghost use Rattle.cy_wire.specs.Field.{fields_of};
 ghost use Rattle.cy_section.specs.Reading.{messages_of};
@@ -22,6 +22,7 @@ use cy_msg::Bytes;
 use cy_section::SectionKind;
 use std::alloc::{AllocError, Global};
 use std::thread::Threads;
+use std::vec::IntoIter;
 
 // A group of sections that are decoded side by side ends once it has so many and so many bytes:
 // work enough for all threads, and little beside what a large file has. However few bytes it has,
@@ -197,25 +198,22 @@ fn group_met<R: Threads + Sync>(
     join(alloc, bodies, loading, parts, decoded)
 }
 
-// Sections in groups, in their order: a group ends once it has enough bodies for all threads and
-// enough bytes.
-fn groups_of(alloc: Global, parts: Vec<Part>) -> Result<Vec<Vec<Part>>, AllocError>
-    ensures { IfOk result (λ v. flat_map (λ g. g.items) v.items ≡ parts.items) }
+// The next group of sections of those that are left, in their order. It is empty where none is.
+fn next_group(alloc: Global, left: &mut IntoIter<Part>) -> Result<Vec<Part>, AllocError>
+    ensures next { IfOk result (λ g. into_iter_items left.old
+        ≡ g.items ++ into_iter_items left.new) }
+    ensures none { IfOk result (λ g. length g.items ≡ 0 → into_iter_items left.new ≡ []) }
 {
-    let mut groups = Vec::new(alloc);
     let mut group = Vec::new(alloc);
     let mut bytes = 0_usize;
-    for part in parts {
+    while let Some(part) = left.next() {
         bytes = bytes.saturating_add(part.body.as_slice().len());
         group.push(part)?;
         if is_group(group.len(), bytes) {
-            groups.push(group)?;
-            group = Vec::new(alloc);
-            bytes = 0;
+            return Ok(group);
         }
     }
-    groups.push(group)?;
-    Ok(groups)
+    Ok(group)
 }
 
 // Makes room for the messages that are to be expected of the bytes that are left, by those that so
@@ -247,10 +245,15 @@ pub(crate) fn parts_met<R: Threads + Sync>(
     let mut done = 0_usize;
     let mut bodies = Vec::new(alloc);
     let mut loading = Loading::none(alloc);
-    for group in groups_of(alloc, parts)? {
+    let mut left = parts.into_iter();
+    loop {
+        let group = next_group(alloc, &mut left)?;
+        if group.is_empty() {
+            drop(left);
+            return Ok((bodies, loading));
+        }
         done = done.saturating_add(bytes_in(&group));
         group_met(rt, alloc, &mut bodies, &mut loading, group)?;
         expect_more(&mut loading.messages, done, all.saturating_sub(done));
     }
-    Ok((bodies, loading))
 }

@@ -130,10 +130,11 @@ fn record_of_cut<R: Threads + Sync>(
 }
 
 /// Reads the record of a name, section by section: small ones many at a time, and longer bodies in
-/// pieces of at most 1,048,576 bytes. Each byte is read once. Nothing is reserved for a section that
-/// is too long or that the file ends before, and at most 65,536 bytes are read ahead of a section.
-/// It keeps the bodies of the chunks and of the index, beside 24 bytes a message and 24 bytes a
-/// section. Once all is read, long bodies are decoded side by side, on threads that wait for nobody.
+/// pieces of at most 1,048,576 bytes. Each byte is read once. Nothing is reserved for a section
+/// that is too long or that the file ends before, and at most 65,536 bytes are read ahead of a
+/// section. It keeps the bodies of the chunks and of the index, beside 24 bytes a message and 24
+/// bytes a section. Once all is read, long bodies are decoded side by side, on threads that wait
+/// for nobody.
 pub fn load<S: Store, R: Threads + Sync>(
     rt: &R,
     alloc: Global,

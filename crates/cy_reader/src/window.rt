@@ -12,8 +12,11 @@ use cy_section::HEAD_SIZE;
 use cy_store::{Store, StoreError, fill};
 use std::alloc::Global;
 
-// The most bytes that are read ahead.
+// The most bytes that are read ahead, and how many are behind a large body: the header of a chunk,
+// and the head of its body.
 const MOST_AHEAD: usize = 65_536;
+
+const BEHIND_LARGE: usize = 128;
 
 // Bytes of a file from a place on, and how many are to be read next. That number begins with a
 // section's head, since a large body is read by itself, and doubles while sections are small.
@@ -147,6 +150,6 @@ impl Window {
         ensures { (file : List ℕ) → IsRead file self.new }
     {
         self.bytes.clear();
-        self.ahead = HEAD_SIZE;
+        self.ahead = BEHIND_LARGE;
     }
 }

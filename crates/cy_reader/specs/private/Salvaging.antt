@@ -1,7 +1,7 @@
 -- What is salvaged of the sections that were read.
-use Rattle.std.specs.Prelude.{◌≡◌, ◌⊎◌, ◌<◌, ◌≤◌, ℕ, ◌-◌, Bool, List, length, map, take, Option, Some, None}
-use Rattle.std.specs.Prelude.{is_some, slice_get, Result, Ok, Err, IfOk, IfErr, IfSome, IsErrOf}
-use Rattle.std.specs.Prelude.{IsSome}
+use Rattle.std.specs.Prelude.{◌≡◌, ◌⊎◌, ◌<◌, ◌≤◌, ℕ, ◌-◌, Bool, List, length, map, take, Option}
+use Rattle.std.specs.Prelude.{Some, None, is_some, slice_get, Result, Ok, Err, IfOk, IfErr, IfSome}
+use Rattle.std.specs.Prelude.{IsErrOf, IsSome}
 use Rattle.std.specs.List.{AllZip}
 use Rattle.cy_store.specs.Files.{Holds}
 use Rattle.cy_store.specs.Store.{StoreView, HasCauses}

@@ -17,7 +17,9 @@ IsRead file w = IsFrontAt w.at w.bytes.items file
 
 -- The bytes of a window from a place on.
 abbrev pub rest : Window → ℕ → List ℕ
-rest w at = if nat_lt at w.at then [] else drop (min (length w.bytes.items) (at - w.at)) w.bytes.items
+rest w at =
+    if nat_lt at w.at then []
+    else drop (min (length w.bytes.items) (at - w.at)) w.bytes.items
 
 -- A window has so many of a file's bytes from a place on, or as many as there are, once it was made
 -- to reach so far.

@@ -1,4 +1,4 @@
-use Rattle.std.proofs.Common.{◌+◌, ℕ, refl, ap, sym, ◌∙◌, arith}
+use Rattle.std.proofs.Common.{◌+◌, refl, ◌∙◌, arith}
 use Rattle.cy_reader.proofs.CutTo.{nothing_cut, part_more, cut_end, index_within}
 use Rattle.cy_reader.proofs.FrontRead.{same_counts}
 use Rattle.cy_reader.proofs.Refusals.{no_err}

@@ -1,8 +1,8 @@
-use Rattle.std.proofs.Common.{◌≡◌, ◌≤◌, ◌<◌, ◌-◌, ◌∙◌, ℕ, List, length, min, refl, sym, ap, subst, arith, Option}
+use Rattle.std.proofs.Common.{◌≡◌, ◌<◌, ◌∙◌, length, refl, sym, subst, arith, Option}
 use Rattle.cy_store.specs.Files.{Files, Holds}
 use Rattle.cy_store.proofs.Pieces.{held_by}
 use Rattle.cy_store.proofs.ReadFront.{both_held, may_hold}
-use Rattle.cy_reader.specs.private.Cutting.{judged_head, IsAt}
+use Rattle.cy_reader.specs.private.Cutting.{IsAt}
 use Rattle.cy_reader.specs.private.Window.{IsRead}
 use Rattle.cy_reader.proofs.Ahead.{end_found}
 use Rattle.cy_reader.proofs.Judged.{judged_headed, judged_faulty}

@@ -1,5 +1,4 @@
 use Rattle.std.proofs.Common.{◌+◌, length, refl, arith}
-use Rattle.cy_store.specs.Files.{Files, Holds}
 use Rattle.cy_store.proofs.Pieces.{held_by}
 use Rattle.cy_store.proofs.ReadFront.{both_held, may_hold}
 use Rattle.cy_reader.specs.declared.heads.KeptIndex.{KeptIndex}

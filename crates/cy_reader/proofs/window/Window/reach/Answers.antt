@@ -1,4 +1,4 @@
-use Rattle.std.proofs.Common.{◌≡◌, ◌≤◌, List, ℕ, length, take, drop, ap, refl, arith}
+use Rattle.std.proofs.Common.{◌≤◌, length, ap, refl, arith}
 use Rattle.cy_store.proofs.Pieces.{held_by}
 use Rattle.cy_reader.specs.private.Window.{rest}
 use Rattle.cy_reader.proofs.Refusals.{no_err}

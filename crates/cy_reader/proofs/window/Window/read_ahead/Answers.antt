@@ -1,5 +1,4 @@
-use Rattle.std.proofs.Common.{◌≡◌, ◌≤◌, ◌+◌, ◌-◌, ℕ, List, length, take, drop, Option, refl, ap, subst, sym, ◌∙◌, arith}
-use Rattle.cy_store.specs.Files.{Files, Holds}
+use Rattle.std.proofs.Common.{◌≤◌, ℕ, List, refl, subst, sym, arith}
 use Rattle.cy_store.proofs.Pieces.{held_by}
 use Rattle.cy_reader.specs.declared.window.Window.{Window}
 use Rattle.cy_reader.specs.private.Window.{IsFrontAt}
