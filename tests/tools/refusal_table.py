@@ -49,6 +49,8 @@ def printed_by(text):
     for whole in re.findall(r'= codes "([^"]*)"(?: \+\+ decimal (\w+))?(?: \+\+ codes "([^"]*)")?\n', text):
         if "kind_text bad" not in text or whole[0] == "out of memory":
             yield whole[0] + ("N" if whole[1] else "") + whole[2]
+    for front in re.findall(r'= codes "([^"]*)" \+\+ name\n', text):
+        yield front + "N"
 
 
 def printed():
