@@ -1,0 +1,1 @@
+"""What tools/report.py and batch/report.py make their pages with."""

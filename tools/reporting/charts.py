@@ -1,0 +1,85 @@
+"""Charts as numbers: bars of histograms and points of plots, which the page draws."""
+from array import array
+from itertools import compress
+from typing import NamedTuple
+
+BARS = 24  # at most, of a histogram
+POINTS = 960  # at most, of a plot
+PIECES = POINTS // 4  # of a plot with more messages: of each piece the first, least, greatest and last one is drawn
+
+
+class Bar(NamedTuple):
+    """How often a number from `low` to `high`, both included, came."""
+
+    low: int
+    high: int
+    count: int
+
+
+def step_of(low, high):
+    """The least step of the form 1, 2 or 5 with zeros behind it that parts a range into few enough bars."""
+    step = 1
+    while True:
+        for factor in (1, 2, 5):
+            if high // (step * factor) - low // (step * factor) < BARS:
+                return step * factor
+        step *= 10
+
+
+def histogram(counts):
+    """The bars of a counter of whole numbers, empty ones between them included."""
+    if not counts:
+        return []
+    low, high = min(counts), max(counts)
+    step = step_of(low, high)
+    first = low // step
+    sums = [0] * (high // step - first + 1)
+    for number, count in counts.items():
+        sums[number // step - first] += count
+    return [Bar((first + k) * step, (first + k + 1) * step - 1, count) for k, count in enumerate(sums)]
+
+
+def quantile(counts, share):
+    """The least number of a counter that so large a share of its entries don't pass."""
+    left = share * sum(counts.values())
+    for number in sorted(counts):
+        left -= counts[number]
+        if left <= 0:
+            break
+    return number
+
+
+class Plot(NamedTuple):
+    """The course of a channel's values: its points, from 0 to 1 in both directions, downwards, and what its sides are."""
+
+    points: list
+    low: int
+    high: int
+    count: int
+    is_sampled: bool
+
+
+def indexes_of(values):
+    """The values of a plot that are drawn: all, or of each piece the first, least, greatest and last one."""
+    count, found = len(values), []
+    if count <= POINTS:
+        return range(count)
+    for piece in range(PIECES):
+        begin, end = piece * count // PIECES, (piece + 1) * count // PIECES
+        part = values[begin:end]
+        found += sorted({begin, begin + part.index(min(part)), begin + part.index(max(part)), end - 1})
+    return found
+
+
+def plot(channel, begin, span):
+    """The plot of a channel's whole numbers over a time, None where it has none."""
+    times, values = channel.times, channel.values
+    if not all(channel.valued):
+        times, values = array("Q", compress(times, channel.valued)), array("q", compress(values, channel.valued))
+    if not values:
+        return None
+    low, high = min(values), max(values)
+    indexes = indexes_of(values)
+    # A value that never changes is drawn in the middle.
+    points = [((times[it] - begin) / span, 0.5 if low == high else (high - values[it]) / (high - low)) for it in indexes]
+    return Plot(points, low, high, len(values), len(indexes) < len(values))
