@@ -125,8 +125,8 @@ class Page:
 
     def press(self, key):
         given = {"key": key, "windowsVirtualKeyCode": KEYS.get(key, ord(key[0].upper()))}
-        if len(key) == 1:
-            given["text"] = key
+        if len(key) == 1 or key == "Enter":
+            given["text"] = "\r" if key == "Enter" else key
         self.call("Input.dispatchKeyEvent", type="keyDown", **given)
         self.call("Input.dispatchKeyEvent", type="keyUp", **{it: value for it, value in given.items() if it != "text"})
         self.settle()

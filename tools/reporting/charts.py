@@ -4,8 +4,7 @@ from itertools import compress
 from typing import NamedTuple
 
 BARS = 24  # at most, of a histogram
-POINTS = 960  # at most, of a plot
-PIECES = POINTS // 4  # of a plot with more messages: of each piece the first, least, greatest and last one is drawn
+MOST_POINTS, ALL_POINTS = 2_000, 60_000  # of a plot, and of all plots of a page
 
 
 class Bar(NamedTuple):
@@ -59,27 +58,27 @@ class Plot(NamedTuple):
     is_sampled: bool
 
 
-def indexes_of(values):
-    """The values of a plot that are drawn: all, or of each piece the first, least, greatest and last one."""
-    count, found = len(values), []
-    if count <= POINTS:
+def indexes_of(values, most):
+    """The values of a plot that are drawn: all, or of each of many pieces the first, least, greatest and last one."""
+    count, found, pieces = len(values), [], max(most // 4, 1)
+    if count <= most:
         return range(count)
-    for piece in range(PIECES):
-        begin, end = piece * count // PIECES, (piece + 1) * count // PIECES
+    for piece in range(pieces):
+        begin, end = piece * count // pieces, (piece + 1) * count // pieces
         part = values[begin:end]
         found += sorted({begin, begin + part.index(min(part)), begin + part.index(max(part)), end - 1})
     return found
 
 
-def plot(channel, begin, span):
-    """The plot of a channel's whole numbers over a time, None where it has none."""
+def plot(channel, begin, span, most=MOST_POINTS):
+    """The plot of a channel's whole numbers over a time, by at most so many points; None where it has none."""
     times, values = channel.times, channel.values
     if not all(channel.valued):
         times, values = array("Q", compress(times, channel.valued)), array("q", compress(values, channel.valued))
     if not values:
         return None
     low, high = min(values), max(values)
-    indexes = indexes_of(values)
+    indexes = indexes_of(values, most)
     # A value that never changes is drawn in the middle.
     points = [((times[it] - begin) / span, 0.5 if low == high else (high - values[it]) / (high - low)) for it in indexes]
     return Plot(points, low, high, len(values), len(indexes) < len(values))

@@ -33,6 +33,8 @@ def rounded(value, digits=3):
 def duration(nanoseconds):
     """A time that something took: whole numbers of a unit exactly, others with some digits."""
     sign, left = ("−" if nanoseconds < 0 else ""), abs(nanoseconds)
+    if left == 0:
+        return "0 s"
     for size, unit in UNITS[3:]:
         if left >= size:
             if left >= 100 * 1_000_000_000:
@@ -41,6 +43,14 @@ def duration(nanoseconds):
     if left < 1_000:
         return f"{sign}{left} ns"
     return sign + long_duration(left)
+
+
+def exact(nanoseconds):
+    """A time that something took, to its last digit."""
+    size, unit = next(((size, unit) for size, unit in UNITS[3:] if abs(nanoseconds) >= size), (1, "ns"))
+    whole, rest = divmod(abs(nanoseconds), size)
+    digits = f"{rest:0{len(str(size)) - 1}d}".rstrip("0") if size > 1 else ""
+    return f"{'−' if nanoseconds < 0 else ''}{whole:,}{'.' if digits else ''}{digits} {unit}"
 
 
 def long_duration(nanoseconds):

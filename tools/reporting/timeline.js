@@ -81,8 +81,8 @@
     const most = whole.end - whole.begin;
     const span = Math.min(Math.max(end - begin, Math.min(4, most)), most);
     const middle = (begin + end) / 2;
-    view.begin = Math.min(Math.max(middle - span / 2, whole.begin), whole.end - span);
-    view.end = view.begin + span;
+    view.begin = span < most ? Math.min(Math.max(middle - span / 2, whole.begin), whole.end - span) : whole.begin;
+    view.end = span < most ? view.begin + span : whole.end;
     redraw();
   };
 
@@ -178,19 +178,20 @@
     context.stroke();
   };
 
-  // Room for counts of the plot, each of so many pixels.
-  const emptyBins = () => new Float32Array(Math.ceil((place.right - place.left) / BIN) + 1);
-  const binOf = (time) => Math.floor((xOf(time) - place.left) / BIN);
+  // Room for the counts of the plot. Bins begin where the run does, so that they move with it.
+  const emptyBins = () => new Float32Array(Math.ceil((place.right - place.left) / BIN) + 2);
+  const firstBin = () => place.left - BIN + ((((xOf(0) - place.left) % BIN) + BIN) % BIN);
 
   // How many of some times are in each bin of the plot.
   const binsOfTimes = (times, isRisingToo, keep) => {
     const bins = emptyBins();
+    const origin = firstBin();
     const begin = isRisingToo ? lowerBound(times, view.begin) : 0;
     for (let k = begin; k < times.length; k += 1) {
       if (times[k] > view.end) {
         if (isRisingToo) break;
       } else if (times[k] >= view.begin && (!keep || keep(k))) {
-        bins[binOf(times[k])] += 1;
+        bins[Math.floor((xOf(times[k]) - origin) / BIN + 1e-6)] += 1;
       }
     }
     return bins;
@@ -199,12 +200,13 @@
   // The same by the counts of a lane that doesn't have all of its marks: each is spread over the bins that its piece reaches into.
   const binsOfCounts = (counts) => {
     const bins = emptyBins();
+    const origin = firstBin();
     const length = data.span / data.pieces;
     const width = (xOf(length) - xOf(0)) / BIN;
     const last = Math.min(data.pieces - 1, Math.floor(view.end / length));
     for (let piece = Math.max(0, Math.floor(view.begin / length)); piece <= last; piece += 1) {
       if (!counts[piece]) continue;
-      const from = (xOf(piece * length) - place.left) / BIN;
+      const from = (xOf(piece * length) - origin) / BIN;
       for (let bin = Math.max(0, Math.floor(from)); bin < Math.min(bins.length, from + width); bin += 1) {
         bins[bin] += (counts[piece] * (Math.min(bin + 1, from + width) - Math.max(bin, from))) / width;
       }
@@ -216,12 +218,13 @@
 
   // Bars for the counts of bins, of which the greatest is as high as the room; they stand on a line, or on other bars.
   const drawBins = (bins, most, base, height, colour, below) => {
+    const origin = firstBin();
     context.fillStyle = colour;
     for (let bin = 0; bin < bins.length; bin += 1) {
       if (bins[bin] > 0) {
         const size = Math.max(2, (bins[bin] / most) * height);
         const under = below ? (below[bin] / most) * height : 0;
-        context.fillRect(place.left + bin * BIN, base - under - size, BIN, size);
+        context.fillRect(Math.round(origin) + bin * BIN, base - under - size, BIN, size);
       }
     }
   };
@@ -337,7 +340,7 @@
     drawBins(outputs, most, zone.bottom, height, colours.call);
     drawBins(quiet, most, zone.bottom, height, colours.quiet, outputs);
     context.fillStyle = colours.held;
-    held.forEach((it, bin) => it > 0 && context.fillRect(place.left + bin * BIN, zone.bottom - 3, BIN, 4));
+    held.forEach((it, bin) => it > 0 && context.fillRect(Math.round(firstBin()) + bin * BIN, zone.bottom - 3, BIN, 4));
   };
 
   const drawComponent = (lane) => {
@@ -358,7 +361,7 @@
   };
 
   const noteOf = (lane) => {
-    const part = lane.counts ? ", in part" : "";
+    const part = lane.begins.length < lane.total ? `, 1 in ${count(Math.round(lane.total / lane.begins.length))} drawn` : "";
     if (lane.kind === "channel") return `${plural(lane.total, "message")}${part}`;
     return `${plural(lane.total, "call")}${lane.skipped ? `, ${count(lane.skipped)} skipped` : ""}${part}`;
   };

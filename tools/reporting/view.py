@@ -6,7 +6,7 @@ from typing import NamedTuple
 from reporting import charts, graph
 from reporting.lanes import Timeline
 from reporting.measures import GAP, clocks_of, measure_channel, measure_component
-from reporting.text import duration, number, shown
+from reporting.text import duration, exact, number, shown
 
 GAPS_SHOWN = 8
 CALLS_SHOWN = 10
@@ -67,14 +67,6 @@ def labelled(bars, text):
         {"label": text(it.low) if it.low == it.high else f"{text(it.low)} to {text(it.high)}", "count": it.count, "share": it.count / most}
         for it in bars
     ]
-
-
-def exact(value):
-    """A whole number of nanoseconds in the greatest unit in which it is whole."""
-    for size, unit in ((10**9, "s"), (10**6, "ms"), (10**3, "µs")):
-        if value and value % size == 0:
-            return f"{value // size:,} {unit}"
-    return f"{value:,} ns"
 
 
 def lag_text(lags):
@@ -177,12 +169,9 @@ def graph_of(replay):
 
 def plots_of(replay):
     """The plots of all channels with whole numbers."""
-    found = []
-    for channel in replay.channels.values():
-        drawn = charts.plot(channel, replay.first, replay.span)
-        if drawn and drawn.count > 1:
-            found.append((channel, drawn))
-    return found
+    channels = [it for it in replay.channels.values() if sum(it.valued) > 1]
+    most = min(charts.MOST_POINTS, charts.ALL_POINTS // max(len(channels), 1))
+    return [(it, charts.plot(it, replay.first, replay.span, most)) for it in channels]
 
 
 def calls_shown(replay, name, numbers):
