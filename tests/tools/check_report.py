@@ -1,9 +1,9 @@
 #!/usr/bin/env python3
 """Checks the page of a replay against its trace and its record, and against what any page has to be.
 
-    check_report.py PAGE TRACE RECORD
+    check_report.py PAGE [TRACE RECORD]
 
-Prints nothing where all is well. The trace is read here by its lines, and nothing is taken from the tools that made the page, but for the
+Prints nothing where all is well; of a page alone it is looked at what any page has to be. The trace is read here by its lines, and nothing is taken from the tools that made the page, but for the
 reader of records.
 """
 import json
@@ -214,14 +214,9 @@ def check_tables(page, told, times):
             fail(f"the table has {cells} of {channel}, and the record {[len(its), gaps]}")
 
 
-def main():
-    path, trace, out = sys.argv[1:]
-    with open(path, encoding="utf-8") as file:
-        text = file.read()
-    if len(text.encode()) > MOST:
-        fail(f"{len(text.encode())} bytes")
-    page, told = Page(text), Told(trace)
-    check_page(page)
+def check_run(page, trace, out):
+    """The page is that of a trace and a record."""
+    told = Told(trace)
     data = next(json.loads(script) for given, script in page.scripts if given.get("type") == "application/json")
     if len(page.scripts) != 2:
         fail(f"{len(page.scripts)} scripts")
@@ -239,6 +234,17 @@ def main():
         else:
             check_component(lane, data, told, times)
     check_tables(page, told, times)
+
+
+def main():
+    with open(sys.argv[1], encoding="utf-8") as file:
+        text = file.read()
+    if len(text.encode()) > MOST:
+        fail(f"{len(text.encode())} bytes")
+    page = Page(text)
+    check_page(page)
+    if len(sys.argv) > 2:
+        check_run(page, *sys.argv[2:])
 
 
 main()

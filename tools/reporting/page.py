@@ -44,7 +44,7 @@ def render(template, scripts, view):
         loader=FileSystemLoader(FOLDER), autoescape=True, undefined=StrictUndefined, trim_blocks=True, lstrip_blocks=True
     )
     environment.filters |= {
-        "shown": text.shown, "number": text.number, "duration": text.duration, "rounded": text.rounded, "size": text.size, "date": text.date,
+        "shown": text.shown, "number": text.number, "duration": text.duration, "exact": text.exact, "rounded": text.rounded, "size": text.size, "date": text.date,
         "json": json_text,
     }
     style, script = source_of(["page.css"]), source_of(scripts)
