@@ -408,6 +408,8 @@ report() {
   shows_verdicts
   shows_names
   shows_some_of_many
+  shows_fields
+  shows_no_message
   refuses_runs
   shows_batches
   clicks_in_pages
@@ -480,9 +482,7 @@ shows_names() {
 shows_some_of_many() {
   begin 'the page of sixty thousand calls has some of them, takes less than 100 MB and has less than 5 MB'
   python3 "$top/tests/tools/long_run.py" 60000 long
-  printf '%s\n' 'module_config { components { class_name: "PassComponent" config { name: "pass"' \
-    "config_file_path: 'pass.conf' readers { channel: '/in' } } } }" >pass.dag
-  echo 'out: "/out"' >pass.conf
+  passing /in /out ''
   try 0 python3 "$top/tests/tools/measure.py" usage "$python" "$top/tools/report.py" --dag pass.dag --record long.rec --out long.rec \
     --trace long.trace --program none long.html
   [ "$(sed -n 's/^memory //p' usage)" -lt 100000000 ]
@@ -491,14 +491,44 @@ shows_some_of_many() {
   pages+=("sampled=$PWD/long.html")
 }
 
+# A DAG file of one component that passes messages on.
+passing() { # from which channel, to which, and of which type
+  printf '%s\n' 'module_config { components { class_name: "PassComponent" config { name: "pass"' \
+    "config_file_path: 'pass.conf' readers { channel: '$1' } } } }" >pass.dag
+  printf '%s\n' "out: '$2'" "out_type: '$3'" >pass.conf
+}
+
+shows_fields() {
+  begin 'numbers in messages of described types are plotted'
+  if ! "$python" -c 'import google.protobuf' 2>/dev/null; then
+    skip 'plots of described messages' 'no Protocol Buffers package'
+    return
+  fi
+  "$python" "$top/tests/tools/described_record.py" in.rec
+  passing /chassis /copy demo.Chassis
+  python3 "$top/tests/replay.py" out.rec out.trace line --dag pass.dag --record in.rec
+  try 0 "$python" "$top/tools/report.py" --dag pass.dag --record in.rec --out out.rec --trace out.trace --program none page.html
+  shows page.html '/chassis speed 2 numbers, from 1.5 to 3.25'
+  shows page.html '/copy speed 2 numbers, from 1.5 to 3.25'
+  try 0 python3 "$check" page.html out.trace out.rec
+}
+
+shows_no_message() {
+  begin 'a run without a message has a page'
+  passing /in /out ''
+  PYTHONPATH="$top/tools" python3 -c 'from record import record; import sys; sys.stdout.buffer.write(record([]))' >in.rec
+  python3 "$top/tests/replay.py" out.rec out.trace line --dag pass.dag --record in.rec
+  try 0 "$python" "$top/tools/report.py" --dag pass.dag --record in.rec --out out.rec --trace out.trace --program none page.html
+  try 0 python3 "$check" page.html out.trace out.rec
+  pages+=("empty=$PWD/page.html")
+}
+
 refuses_runs() {
   local call=("$python" "$top/tools/report.py" --dag pass.dag --record in.rec --program none)
   begin 'what is no replay is refused in one line, and leaves no page'
   cp "$top/examples/pass/one.rec" in.rec
   python3 "$top/tests/replay.py" out.rec out.trace line --record in.rec --pass /in /out
-  printf '%s\n' 'module_config { components { class_name: "PassComponent" config { name: "pass"' \
-    "config_file_path: 'pass.conf' readers { channel: '/in' } } } }" >pass.dag
-  echo 'out: "/out"' >pass.conf
+  passing /in /out ''
   echo x >text
   fails_in_one_line 1 'report: text: line 1: not a trace' "${call[@]}" --out out.rec --trace text page.html
   fails_in_one_line 1 'report: text: not a record' "${call[@]}" --out text --trace out.trace page.html

@@ -251,6 +251,15 @@ def sampled(page):
     look(said[0] == "pass" and "The page has some of them." in said[1], f"where no mark is, it says {said}")
 
 
+def empty(page):
+    """The page of a run without a message."""
+    page.set_size(1280, 900)
+    page.open(page.path)
+    line = Timeline(page)
+    line.press("ArrowDown", ".", "+", "0")
+    look(line.details() == ["pass", "0 calls."], f"a lane without a mark says {line.details()}")
+
+
 def good(page):
     """The page of examples/burst, compared with a run in which `total` goes on at the newest tuple, as `control` does."""
     page.set_size(1280, 900)
@@ -287,7 +296,7 @@ def batch(page):
     look(page.run("document.documentElement.scrollWidth") == 390, "the page of a batch is wider than a phone")
 
 
-PARTS = {it.__name__: it for it in (burst, drive, names, sampled, good, batch)}
+PARTS = {it.__name__: it for it in (burst, drive, names, sampled, empty, good, batch)}
 
 
 def main():

@@ -49,11 +49,11 @@ def quantile(counts, share):
 
 
 class Plot(NamedTuple):
-    """The course of a channel's values: its points, from 0 to 1 in both directions, downwards, and what its sides are."""
+    """The course of some numbers: its points, from 0 to 1 in both directions, downwards, and what its sides are."""
 
     points: list
-    low: int
-    high: int
+    low: float
+    high: float
     count: int
     is_sampled: bool
 
@@ -70,15 +70,17 @@ def indexes_of(values, most):
     return found
 
 
-def plot(channel, begin, span, most=MOST_POINTS):
-    """The plot of a channel's whole numbers over a time, by at most so many points; None where it has none."""
-    times, values = channel.times, channel.values
-    if not all(channel.valued):
-        times, values = array("Q", compress(times, channel.valued)), array("q", compress(values, channel.valued))
-    if not values:
-        return None
+def plot(times, values, begin, span, most=MOST_POINTS):
+    """The plot of numbers over a time, by at most so many points."""
     low, high = min(values), max(values)
     indexes = indexes_of(values, most)
-    # A value that never changes is drawn in the middle.
+    # A number that never changes is drawn in the middle.
     points = [((times[it] - begin) / span, 0.5 if low == high else (high - values[it]) / (high - low)) for it in indexes]
     return Plot(points, low, high, len(values), len(indexes) < len(values))
+
+
+def whole_numbers(channel):
+    """The times and the numbers of a channel's messages that are whole numbers."""
+    if all(channel.valued):
+        return channel.times, channel.values
+    return array("Q", compress(channel.times, channel.valued)), array("q", compress(channel.values, channel.valued))

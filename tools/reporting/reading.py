@@ -1,6 +1,7 @@
 """A replay as its files tell it together: the trace, the messages of its record, and the components of its DAG file."""
 import re
 from array import array
+from collections import Counter
 from dataclasses import dataclass, field
 
 from dag import read_components
@@ -9,6 +10,8 @@ from trace import Component, read_trace, unquoted
 
 LONGEST_WHOLE = 11  # bytes of a content that is nothing but a whole number: a tag and a varint
 KNOWN_CONTENTS = 50_000  # contents whose number is remembered
+SAMPLES, ALL_SAMPLES = 1_000, 20_000  # contents of described messages that are kept of a channel, and of all
+LARGEST_SAMPLE = 65_536  # bytes
 WORD = re.compile(rb'"(?:[^"\\]|\\.)*"|\S+')
 HAS_ONE_VALUE = ("class", "queue", "every", "overflow")
 
@@ -41,6 +44,9 @@ class Channel:
     values: array = field(default_factory=lambda: array("q"))  # 0 where a message is no whole number
     valued: bytearray = field(default_factory=bytearray)  # 1 where it is one
     size: int = 0  # bytes of all contents
+    description: bytes = b""  # of its type
+    step: int = 0  # each how many messages a content is kept, 0 where none is
+    samples: list = field(default_factory=list)  # times and contents of messages that are no whole numbers
 
     @property
     def has_values(self):
@@ -103,13 +109,27 @@ class Values:
         return value
 
 
+def channels_of(trace, data):
+    """The channels of a trace, with the types that a record has for them."""
+    forms, counts = forms_of(data), Counter(trace.tape_channels)
+    described = {kind: description for kind, description in forms.values() if kind and description}
+    found = []
+    for number, name in enumerate(trace.channels):
+        kind, description = forms.get(name.encode("utf-8", "surrogateescape"), (b"", b""))
+        channel = Channel(name, text_of(kind), description=description or described.get(kind, b""))
+        if channel.description:
+            channel.step = -(-counts[number] // min(SAMPLES, max(ALL_SAMPLES // len(trace.channels), 1)))
+        found.append(channel)
+    return found
+
+
 def read_channels(trace, path):
     """The channels of the record at a path, which has to be that of a trace's tape, in the order of the tape."""
     names = [it.encode("utf-8", "surrogateescape") for it in trace.channels]
-    channels = [Channel(it) for it in trace.channels]
     tape, value_of = zip(trace.tape_channels, trace.tape_sequences), Values().of
     with opened(path) as data:
         header_of(data)
+        channels = channels_of(trace, data)
         for name, time, content in each_message(data):
             number, sequence = next(tape, (None, 0))
             if number is None or names[number] != name:
@@ -122,11 +142,10 @@ def read_channels(trace, path):
             channel.values.append(value or 0)
             channel.valued.append(value is not None)
             channel.size += len(content)
+            if value is None and channel.step and (sequence - 1) % channel.step == 0 and len(content) <= LARGEST_SAMPLE:
+                channel.samples.append((time, content))
         if next(tape, None) is not None:
             raise ValueError("fewer messages than the trace's tape has")
-        for name, (kind, _) in forms_of(data).items():
-            if name in names:
-                channels[names.index(name)].kind = text_of(kind)
     return channels
 
 

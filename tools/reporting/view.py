@@ -3,13 +3,14 @@ import hashlib
 import os
 from typing import NamedTuple
 
-from reporting import charts, graph
+from reporting import charts, fields, graph
 from reporting.lanes import Timeline
 from reporting.measures import GAP, clocks_of, measure_channel, measure_component
-from reporting.text import duration, exact, number, shown
+from reporting.text import duration, exact, number, rounded, shown
 
 GAPS_SHOWN = 8
 CALLS_SHOWN = 10
+PLOTS = 120
 
 
 class Verdict(NamedTuple):
@@ -167,11 +168,43 @@ def graph_of(replay):
     return graph.lay_out(nodes, edges)
 
 
+class Series(NamedTuple):
+    """Numbers of a channel that are plotted: its whole numbers, or those of a field of its messages."""
+
+    channel: str
+    field: str
+    times: list
+    values: list
+    is_part: bool  # whether the channel has more messages than these
+
+
+def series_of(replay):
+    """All numbers that are plotted."""
+    for channel in replay.channels.values():
+        times, values = charts.whole_numbers(channel)
+        if len(values) > 1:
+            yield Series(channel.name, "", times, values, False)
+        for name, times, values in fields.numbers_of(channel):
+            yield Series(channel.name, name, times, values, channel.step > 1)
+
+
 def plots_of(replay):
-    """The plots of all channels with whole numbers."""
-    channels = [it for it in replay.channels.values() if sum(it.valued) > 1]
-    most = min(charts.MOST_POINTS, charts.ALL_POINTS // max(len(channels), 1))
-    return [(it, charts.plot(it, replay.first, replay.span, most)) for it in channels]
+    """The plots of all channels with numbers, and how many have no room on the page."""
+    series = list(series_of(replay))
+    most = min(charts.MOST_POINTS, charts.ALL_POINTS // max(min(len(series), PLOTS), 1))
+    plots = []
+    for it in series[:PLOTS]:
+        drawn = charts.plot(it.times, it.values, replay.first, replay.span, most)
+        plots.append({
+            "channel": it.channel, "field": it.field, "points": drawn.points, "count": drawn.count,
+            "low": number_text(drawn.low), "high": number_text(drawn.high), "is_sampled": drawn.is_sampled or it.is_part,
+        })
+    return plots, len(series) - len(plots)
+
+
+def number_text(value):
+    """A number beside a plot."""
+    return number(value) if isinstance(value, int) else rounded(value, 6)
 
 
 def calls_shown(replay, name, numbers):
@@ -210,7 +243,7 @@ def view_of(replay, words, verdict, wiring, comparison):
     data = timeline.data(channel_measures)
     lanes = {item.name: place for place, (kind, item) in enumerate(timeline.lanes) if kind == "channel"}
     component_lanes = {item[0].name: place for place, (kind, item) in enumerate(timeline.lanes) if kind == "component"}
-    trace = replay.trace
+    trace, (plots, left) = replay.trace, plots_of(replay)
     return {
         "title": f"Replay of {shown(os.path.basename(words.record))}",
         "verdict": verdict,
@@ -227,7 +260,7 @@ def view_of(replay, words, verdict, wiring, comparison):
         "channels": [channel_row(replay, it, channel_measures[it.name]) for it in replay.channels.values()],
         "lanes": lanes, "component_lanes": component_lanes,
         "graph": graph_of(replay),
-        "plots": plots_of(replay),
+        "plots": plots, "plots_left": left,
         "comparison": comparison_view(replay, comparison),
         "timeline": data, "is_sampled": is_sampled(data), "piece": duration(replay.span // data["pieces"]),
         "gap": GAP,
