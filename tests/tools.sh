@@ -543,32 +543,32 @@ refuses_runs() {
 }
 
 shows_batches() {
-  local tool="$top/batch/report.py" drive
+  local tool="$top/batch/pages.py" drive
   begin 'the page of a batch has its rows, and a page for each drive'
   python3 "$top/tests/tools/drives.py" 200 .
   python3 "$top/tests/tools/summed_up.py" drives.csv batch.out
   for drive in d1 d7 d9; do
-    try 0 "$python" "$tool" batch.out --table drives.csv --drive "$drive" --program none
+    try 0 "$python" "$tool" --out batch.out --table drives.csv --drive "$drive" --program none
   done
   try 0 python3 "$check" batch.out/d1/report.html batch.out/d1/out.trace batch.out/d1/out.rec
   try 0 python3 "$check" batch.out/d9/report.html batch.out/d9/out.trace batch.out/d9/out.rec
   shows batch.out/d9/report.html '--stop sum@100'
   shows batch.out/d7/report.html 'cyber: 7.rec: at 2137: Cut'
-  try 0 "$python" "$tool" batch.out
+  try 0 "$python" "$tool" --out batch.out
   says out 'written: batch.out/report.html: 200 drives'
   try 0 python3 "$check" batch.out/report.html
   shows batch.out/report.html '198 well, 2 failed, 0 refused, 0 not done, 0 unlike the good run.'
   cp -r batch.out last.out
   sed -i 's/^d3,0,32,0,64,96,/d3,0,32,0,60,92,/; s/^d200/d201/' last.out/summary.csv
-  try 0 "$python" "$tool" batch.out --last last.out
+  try 0 "$python" "$tool" --out batch.out --last last.out
   shows batch.out/report.html '64was 60'
   shows batch.out/report.html 'That run also had d201.'
-  try 0 "$python" "$tool" batch.out --table drives.csv --drive d1 --program none --good last.out
+  try 0 "$python" "$tool" --out batch.out --table drives.csv --drive d1 --program none --good last.out
   shows batch.out/d1/report.html 'Nothing differs: both runs have the same messages'
-  try 0 "$python" "$tool" batch.out --table drives.csv --drive d12 --program none
+  try 0 "$python" "$tool" --out batch.out --table drives.csv --drive d12 --program none
   shows batch.out/d12/report.html 'it is not done'
-  fails_in_one_line 1 "report.py: drives.csv: no drive d201" "$python" "$tool" batch.out --table drives.csv --drive d201
-  fails_in_one_line 1 "report.py: .*No such file or directory: 'none/summary.csv'" "$python" "$tool" none
+  fails_in_one_line 1 "pages.py: drives.csv: no drive d201" "$python" "$tool" --out batch.out --table drives.csv --drive d201
+  fails_in_one_line 1 "pages.py: .*No such file or directory: 'none/summary.csv'" "$python" "$tool" --out none
   pages+=("batch=$PWD/batch.out/report.html")
 }
 

@@ -1,1 +1,1 @@
-"""What tools/report.py and batch/report.py make their pages with."""
+"""What tools/report.py and batch/pages.py make their pages with."""

@@ -1,12 +1,12 @@
 #!/usr/bin/env python3
-"""Makes a page of a batch, or that of one of its drives; each is one HTML file that needs no network.
+"""Makes the page of a batch, or that of one of its drives; each is one HTML file that needs no network.
 
-    report.py DIR [--last DIR]
-    report.py DIR --table F --drive NAME [--program F] [--good DIR]
+    pages.py --out DIR [--last DIR]
+    pages.py --table F --drive NAME --out DIR [--program F] [--good DIR]
 
-The first writes DIR/report.html, a table by DIR/summary.csv, in which each drive that has a page is linked to it; --last is the folder of
-another batch, whose rows are set beside those of this one. The second writes DIR/NAME/report.html: for a drive whose play ended Done the page
-of tools/report.py, compared with the run in GOOD/NAME where there is one, and else a page that says what came of it.
+The first writes DIR/report.html, a table by DIR/summary.csv, in which each drive that has a page is linked to it; with --last the rows of
+another batch are beside those of this one. The second writes DIR/NAME/report.html: for a drive whose play ended with status 0 the page of
+tools/report.py, compared with the run in GOOD/NAME where there is one, and else a page that says what came of it.
 """
 import argparse
 import csv
@@ -21,6 +21,11 @@ UNJUDGED = ("", "no good run", "not done")  # what a drive's difference says whe
 STATES = {
     "well": ("✓", "well"), "failed": ("✗", "failed"), "refused": ("✗", "refused"), "undone": ("…", "not done"),
 }
+
+
+def page_path(folder, name=""):
+    """The page of a batch, or that of a drive."""
+    return os.path.join(folder, name, "report.html")
 
 
 def read_summary(folder):
@@ -52,7 +57,7 @@ def number_of(text):
 
 def view_of_row(folder, row, last):
     """What the page shows of a drive."""
-    state, page = state_of(row), os.path.join(row["drive"], "report.html")
+    state, page = state_of(row), page_path("", row["drive"])
     is_unlike = (row.get("difference") or "") not in UNJUDGED
     before = {it: number_of(last.get(it)) for it in NUMBERS} if last else {}
     numbers = {it: (number_of(row.get(it)), before.get(it)) for it in NUMBERS}
@@ -79,7 +84,7 @@ def write_batch(folder, last_folder):
         "processor": sum(it["numbers"]["processor"][0] or 0 for it in drives), "calls": sum(it["numbers"]["calls"][0] or 0 for it in drives),
         "gone": [name for name in last if name not in rows],
     }
-    path = os.path.join(folder, "report.html")
+    path = page_path(folder)
     write_page(path, render("batch.html", ["tables.js"], view))
     return f"written: {path}: {len(drives)} drives"
 
@@ -90,7 +95,7 @@ def words_of_drive(words, drive, folder):
     is_there = good and all(os.path.isfile(os.path.join(good, it)) for it in ("out.rec", "out.trace"))
     given = {it: drive.get(it) or None for it in ("dag", "record", "sched", "channels", "drop", "begin", "end", "stop")}
     files = {"out": os.path.join(folder, "out.rec"), "trace": os.path.join(folder, "out.trace")}
-    return argparse.Namespace(**given, **files, good=good if is_there else None, program=words.program, page=os.path.join(folder, "report.html"))
+    return argparse.Namespace(**given, **files, good=good if is_there else None, program=words.program, page=page_path(folder))
 
 
 def write_drive(words):
@@ -98,10 +103,10 @@ def write_drive(words):
     from reporting.asking import make_page
     from reporting.page import render, write_page
 
-    drives, folder = read_table(words.table), os.path.join(words.folder, words.drive)
+    drives, folder = read_table(words.table), os.path.join(words.out, words.drive)
     if words.drive not in drives:
         raise ValueError(f"{words.table}: no drive {words.drive}")
-    row, path = row_of(words.folder, words.drive), os.path.join(folder, "report.html")
+    row, path = row_of(words.out, words.drive), page_path(folder)
     fault = "it is not done" if row is None else None if row["status"] == 0 else row.get("line") or f"status {row['status']}"
     if fault is None:
         try:
@@ -117,7 +122,7 @@ def write_drive(words):
 
 def main():
     reader = argparse.ArgumentParser(description=__doc__.split("\n")[0])
-    reader.add_argument("folder", metavar="DIR", help="the folder of the batch")
+    reader.add_argument("--out", required=True, metavar="DIR", help="the folder of the batch")
     reader.add_argument("--last", default="", metavar="DIR", help="the folder of another batch, to be shown beside")
     reader.add_argument("--table", help="with --drive: the table of drives")
     reader.add_argument("--drive", metavar="NAME", help="the drive whose page is made")
@@ -127,12 +132,12 @@ def main():
     if bool(words.drive) != bool(words.table):
         reader.error("--drive and --table go together")
     try:
-        print(write_drive(words) if words.drive else write_batch(words.folder, words.last))
+        print(write_drive(words) if words.drive else write_batch(words.out, words.last))
     except ImportError as error:
-        print(f"report.py: {error}; pages are made by Jinja2 (python3-jinja2 of Debian)", file=sys.stderr)
+        print(f"pages.py: {error}; pages are made by Jinja2 (python3-jinja2 of Debian)", file=sys.stderr)
         return 1
     except (OSError, ValueError) as error:
-        print(f"report.py: {error}", file=sys.stderr)
+        print(f"pages.py: {error}", file=sys.stderr)
         return 1
     return 0
 
