@@ -81,7 +81,8 @@ def write_batch(folder, last_folder):
     view = {
         "title": f"Batch {os.path.basename(os.path.abspath(folder))}", "drives": drives, "counts": counts, "states": STATES,
         "unlike": sum(it["is_unlike"] for it in drives), "last": last_folder,
-        "processor": sum(it["numbers"]["processor"][0] or 0 for it in drives), "calls": sum(it["numbers"]["calls"][0] or 0 for it in drives),
+        "processor": sum(it["numbers"]["processor"][0] or 0 for it in drives),
+        "calls": sum(it["numbers"]["calls"][0] or 0 for it in drives),
         "gone": [name for name in last if name not in rows],
     }
     path = page_path(folder)
@@ -95,7 +96,8 @@ def words_of_drive(words, drive, folder):
     is_there = good and all(os.path.isfile(os.path.join(good, it)) for it in ("out.rec", "out.trace"))
     given = {it: drive.get(it) or None for it in ("dag", "record", "sched", "channels", "drop", "begin", "end", "stop")}
     files = {"out": os.path.join(folder, "out.rec"), "trace": os.path.join(folder, "out.trace")}
-    return argparse.Namespace(**given, **files, good=good if is_there else None, program=words.program, page=page_path(folder))
+    given |= {"good": good if is_there else None, "program": words.program, "page": page_path(folder)}
+    return argparse.Namespace(**given, **files)
 
 
 def write_drive(words):

@@ -403,6 +403,7 @@ report() {
   page_of beat drive/heartbeat.dag drive/drive.rec --program "$PWD/none"
   try 0 python3 "$check" beat.html beat.trace beat.rec
   shows beat.html 'CountComponent, timer, each 1,000 ms'
+  shows beat.html "its timer"
   pages=("drive=$PWD/drive.html" "burst=$PWD/burst.html")
   compares_runs
   shows_verdicts

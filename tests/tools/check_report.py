@@ -3,8 +3,8 @@
 
     check_report.py PAGE [TRACE RECORD]
 
-Prints nothing where all is well; of a page alone it is looked at what any page has to be. The trace is read here by its lines, and nothing is taken from the tools that made the page, but for the
-reader of records.
+Prints nothing where all is well. Of a page alone it looks at what any page has to be. The trace is read here by its lines, and nothing is
+taken from the tools that made the page, but for the reader of records.
 """
 import json
 import os
@@ -195,16 +195,21 @@ def check_component(lane, data, told, times):
             fail(f"{name}: its counts {counts} are not those of its calls")
 
 
+def rows_of(page, caption):
+    """The rows of the table whose caption begins so."""
+    return next(table["rows"][1:] for table in page.tables if table["caption"].startswith(caption))
+
+
 def check_tables(page, told, times):
     """The tables of components and channels have the counts of the trace and the record."""
-    rows = {it[0].split("\n")[0]: it for table in page.tables if table["caption"].startswith("What each component") for it in table["rows"][1:]}
+    rows = {it[0].split("\n")[0]: it for it in rows_of(page, "What each component")}
     for name, calls in told.calls.items():
         skips = [after[0] - before[0] - 1 for before, after in zip([(0,), *calls], calls)]
         want = [len(calls), sum(it[3] is not None for it in calls), sum(skips), max(skips, default=0)]
         cells = [int(it.replace(",", "")) for it in [rows[name][4], rows[name][5], rows[name][7], rows[name][8]]]
         if cells != want:
             fail(f"the table has {cells} of {name}, and the trace {want}")
-    rows = {it[0]: it for table in page.tables if table["caption"].startswith("What each channel") for it in table["rows"][1:]}
+    rows = {it[0]: it for it in rows_of(page, "What each channel")}
     for channel, its in times.items():
         steps = sorted(after - before for before, after in zip(its, its[1:]))
         period = steps[len(steps) // 2] if len(steps) > 1 else 0

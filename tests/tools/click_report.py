@@ -32,7 +32,8 @@ class Timeline:
     def state(self):
         """What the canvas says of itself."""
         data = self.page.run("({...document.getElementById('canvas').dataset})")
-        return {key: float(data[key]) for key in ("begin", "end", "left", "right", "top", "laneHeight")} | {"mark": data["mark"], "lane": data["lane"]}
+        numbers = {key: float(data[key]) for key in ("begin", "end", "left", "right", "top", "laneHeight")}
+        return numbers | {"mark": data["mark"], "lane": data["lane"]}
 
     @property
     def span(self):
@@ -62,10 +63,11 @@ class Timeline:
     def colour(self, lane, time, share):
         """The colour that is drawn at a time of a lane."""
         x, y = self.place(lane, time, share)
-        return self.page.run(
-            "(() => { const canvas = document.getElementById('canvas'), box = canvas.getBoundingClientRect(), scale = canvas.width / box.width;"
-            f"return [...canvas.getContext('2d').getImageData(({x} - box.left) * scale, ({y} - box.top) * scale, 1, 1).data].slice(0, 3); }})()"
-        )
+        return self.page.run(f"""(() => {{
+            const canvas = document.getElementById('canvas'), box = canvas.getBoundingClientRect(), scale = canvas.width / box.width;
+            const [x, y] = [({x} - box.left) * scale, ({y} - box.top) * scale];
+            return [...canvas.getContext('2d').getImageData(x, y, 1, 1).data].slice(0, 3);
+        }})()""")
 
     def press(self, *keys):
         self.page.run("document.getElementById('canvas').focus({preventScroll: true})")
@@ -171,7 +173,8 @@ def drive(page):
     page.set_size(1280, 900)
     page.open(page.path)
     page.press("Tab")
-    look(page.run("document.activeElement.textContent") == "Skip to the timeline", "the first thing that Tab comes to isn't the way to the timeline")
+    first = page.run("document.activeElement.textContent")
+    look(first == "Skip to the timeline", f"the first thing that Tab comes to is {first}")
     sorts_by(page, "components", 4, ["limit", "late", "frames", "margin", "smooth"])
     sorts_by(page, "channels", 4, ["/limit/new", "/map/limit", "/camera/frame", "/late/frame", "/frames"])
     line = Timeline(page)
@@ -187,17 +190,20 @@ def sorts_by(page, section, column, first):
     head = f"document.querySelector('#{section} thead').rows[0].cells[{column}]"
     names = f"[...document.querySelector('#{section} tbody').rows].map((it) => it.cells[0].querySelector('bdi').textContent)"
     page.run(f"{head}.querySelector('button').click()")
-    look(page.run(names)[: len(first)] == first and page.run(f"{head}.ariaSort") == "ascending", f"{section} sorts to {page.run(names)}")
+    order = page.run(names)
+    look(order[: len(first)] == first and page.run(f"{head}.ariaSort") == "ascending", f"{section} sorts to {order}")
     page.run(f"{head}.querySelector('button').focus()")
     page.press("Enter")
-    look(page.run(f"{names}.at(-1)") == first[0] and page.run(f"{head}.ariaSort") == "descending", f"{section} sorts back to {page.run(names)}")
+    order = page.run(names)
+    look(order[-1] == first[0] and page.run(f"{head}.ariaSort") == "descending", f"{section} sorts back to {order}")
 
 
 def is_for_phones(page):
     """Nothing is wider than a phone but what scrolls by itself; fingers move, zoom and choose."""
     page.set_size(390, 844, True, 2)
     page.open(page.path)
-    look(page.run("document.documentElement.scrollWidth") == 390, f"the page is {page.run('document.documentElement.scrollWidth')} wide on a phone")
+    width = page.run("document.documentElement.scrollWidth")
+    look(width == 390, f"the page is {width} wide on a phone")
     low = page.run("[...document.querySelectorAll('.tools button')].filter((it) => it.offsetHeight < 44).length")
     look(low == 0, f"{low} buttons are too low for a finger")
     line = Timeline(page)
@@ -225,21 +231,23 @@ def names(page):
     page.set_size(1280, 900)
     page.open(page.path)
     text = page.run("document.body.innerText")
-    for name in ("</script><script>window.hacked = 1</script>", 'a "quoted" & <b>bold</b>\\nname', "right\\u202eleft\\u2028{{ 7 * 7 }}", "\\u2029<!--"):
+    tag = "<script>window.hacked = 1</script>"
+    for name in (f"</script>{tag}", 'a "quoted" & <b>bold</b>\\nname', "right\\u202eleft\\u2028{{ 7 * 7 }}", "\\u2029<!--"):
         look(name in text, f"the page doesn't have the text {name}")
     look(page.run("typeof window.hacked") == "undefined", "a name was run")
     strange = page.run("document.querySelectorAll('img, b, main svg svg, section script').length")
     look(strange == 0, f"names have become {strange} elements")
     line = Timeline(page)
     line.press("ArrowDown", "ArrowDown", "ArrowDown", "ArrowDown")
-    look(line.details()[0].startswith("Call ") and "</title><script>window.hacked = 1</script>" in line.details()[0], f"a call says {line.details()}")
+    look(line.details()[0].startswith("Call ") and f"</title>{tag}" in line.details()[0], f"a call says {line.details()}")
 
 
 def sampled(page):
     """The page of 60,000 messages that are passed on, of tests/tools/long_run.py."""
     page.set_size(1280, 900)
     page.open(page.path)
-    look("This timeline is sampled" in page.run("document.getElementById('timeline').innerText"), "the page doesn't say that it is sampled")
+    text = page.run("document.getElementById('timeline').innerText")
+    look("This timeline is sampled" in text, "the page doesn't say that it is sampled")
     line = Timeline(page)
     line.press("ArrowDown", "ArrowDown", *"+++++++++++++")
     number = int(line.state["mark"].split()[1])
@@ -270,7 +278,8 @@ def good(page):
     look(len(rows) == 2 and rows[1][:4] == ["total", "2", "0", "0"], f"the calls that differ are {rows[1:]}")
     page.run("[...document.querySelectorAll('#good button.link')].at(-1).click()")
     page.settle()
-    look(Timeline(page).details()[0] == "Call 3 of total (HoldComponent), triggered at 5 ns (time 6)", f"a call that is only here says {Timeline(page).details()}")
+    said = Timeline(page).details()
+    look(said[0] == "Call 3 of total (HoldComponent), triggered at 5 ns (time 6)", f"a call that is only here says {said}")
 
 
 def batch(page):
@@ -284,7 +293,11 @@ def batch(page):
     want = ["d19"] + [f"d{it}" for it in range(190, 200)]
     look(page.run(seen) == want and page.run(said) == "11 of 200 drives", f"a search finds {page.run(seen)}, {page.run(said)}")
     page.run("document.querySelector('[name=text]').value = ''")
-    choose = "(() => { const it = document.querySelector('[name=mark]'); it.value = '%s'; it.dispatchEvent(new Event('input', {bubbles: true})); })()"
+    choose = """(() => {
+        const it = document.querySelector('[name=mark]');
+        it.value = '%s';
+        it.dispatchEvent(new Event('input', {bubbles: true}));
+    })()"""
     page.run(choose % "failed")
     look(page.run(seen) == ["d7", "d11"], f"failed are {page.run(seen)}")
     page.run(choose % "")

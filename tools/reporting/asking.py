@@ -7,11 +7,11 @@ import subprocess
 from reporting.differences import compare
 from reporting.page import render, write_page
 from reporting.reading import parts_checked, parts_read, read_replay
-from reporting.view import verdict_of, view_of
+from reporting.view import OPTIONS, verdict_of, view_of
 
 TOP = os.path.dirname(os.path.dirname(os.path.dirname(os.path.abspath(__file__))))
 BUILT = os.path.join(TOP, "crates", "cyber", "out", "cyber")
-OPTIONS = ("channels", "drop", "begin", "end", "stop")
+SCRIPTS = ["tables.js", "timeline_run.js", "timeline_drawing.js", "timeline_marks.js", "timeline_hands.js"]
 
 
 def program_of(words):
@@ -85,5 +85,5 @@ def make_page(words):
         check.end()
     verdict = verdict_of((status, printed.decode("utf-8", "replace").strip()), verify.text)
     view = view_of(replay, words, verdict, wiring, comparison)
-    write_page(words.page, render("run.html", ["tables.js", "timeline.js"], view))
+    write_page(words.page, render("run.html", SCRIPTS, view))
     return verdict

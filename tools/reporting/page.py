@@ -10,6 +10,7 @@ from markupsafe import Markup
 from reporting import text
 
 FOLDER = os.path.dirname(os.path.abspath(__file__))
+FUNCTION = '(() => {{\n"use strict";\n\n{}}})();\n'  # all scripts of a page are in one function, and see each other's names
 # What could end the element that the data is in, or what older scripts take for the end of a line.
 ESCAPES = {ord(it): f"\\u{ord(it):04x}" for it in "<>&\u2028\u2029"}
 
@@ -43,11 +44,9 @@ def render(template, scripts, view):
     environment = Environment(
         loader=FileSystemLoader(FOLDER), autoescape=True, undefined=StrictUndefined, trim_blocks=True, lstrip_blocks=True
     )
-    environment.filters |= {
-        "shown": text.shown, "number": text.number, "duration": text.duration, "exact": text.exact, "rounded": text.rounded, "size": text.size, "date": text.date,
-        "json": json_text,
-    }
-    style, script = source_of(["page.css"]), source_of(scripts)
+    names = ("shown", "number", "duration", "exact", "rounded", "size", "date")
+    environment.filters |= {name: getattr(text, name) for name in names} | {"json": json_text}
+    style, script = source_of(["page.css"]), FUNCTION.format(source_of(scripts))
     assets = {"style": Markup(style), "script": Markup(script), "policy": policy_of(style, script)}
     return environment.get_template(template).render(**view, **assets)
 

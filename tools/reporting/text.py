@@ -2,7 +2,8 @@
 from datetime import datetime, timedelta, timezone
 
 LONGEST_NAME = 160
-UNITS = [(86_400_000_000_000, "d"), (3_600_000_000_000, "h"), (60_000_000_000, "min"), (1_000_000_000, "s"), (1_000_000, "ms"), (1_000, "µs")]
+SECOND = 10**9
+UNITS = [(86_400 * SECOND, "d"), (3_600 * SECOND, "h"), (60 * SECOND, "min"), (SECOND, "s"), (10**6, "ms"), (10**3, "µs")]
 EPOCH = datetime(1970, 1, 1, tzinfo=timezone.utc)
 DATES = (946_684_800_000_000_000, 4_102_444_800_000_000_000)  # times from 2000 to 2100 are taken for times of a day
 
@@ -37,7 +38,7 @@ def duration(nanoseconds):
         return "0 s"
     for size, unit in UNITS[3:]:
         if left >= size:
-            if left >= 100 * 1_000_000_000:
+            if left >= 100 * SECOND:
                 break
             return f"{sign}{rounded(left / size, 4)} {unit}"
     if left < 1_000:

@@ -11,6 +11,7 @@ from reporting.text import duration, exact, number, rounded, shown
 GAPS_SHOWN = 8
 CALLS_SHOWN = 10
 PLOTS = 120
+OPTIONS = ("channels", "drop", "begin", "end", "stop")  # that choose what is played
 
 
 class Verdict(NamedTuple):
@@ -84,11 +85,12 @@ def lag_histogram(title, lags):
     """How far behind its trigger each output is, None where all are as far."""
     if len(lags) < 2:
         return None
-    summary = f"Least {duration(min(lags))}, median {duration(charts.quantile(lags, 0.5))}, 99 % within {duration(charts.quantile(lags, 0.99))}"
+    middle, most = (duration(charts.quantile(lags, it)) for it in (0.5, 0.99))
+    summary = f"Least {duration(min(lags))}, median {middle}, 99 % within {most}, greatest {duration(max(lags))}."
     bars = charts.histogram(lags)
     # A bar of more than one nanosecond is named by where it begins and where the next one does.
     bars = [it._replace(high=it.high + 1) for it in bars] if bars[0].high > bars[0].low else bars
-    return Histogram(title, "outputs", labelled(bars, exact), f"{summary}, greatest {duration(max(lags))}.")
+    return Histogram(title, "outputs", labelled(bars, exact), summary)
 
 
 def skip_histogram(measures):
@@ -96,7 +98,8 @@ def skip_histogram(measures):
     if not measures.skips:
         return None
     times = sum(measures.skips.values())
-    summary = f"{number(measures.skipped)} skipped, {number(times)} {'time' if times == 1 else 'times'}; at most {number(measures.longest_skip)} in a row."
+    how_often = f"{number(times)} {'time' if times == 1 else 'times'}"
+    summary = f"{number(measures.skipped)} skipped, {how_often}; at most {number(measures.longest_skip)} in a row."
     return Histogram("Tuples skipped in a row", "times", labelled(charts.histogram(measures.skips), number), summary)
 
 
@@ -105,7 +108,8 @@ def waiting_histogram(measures):
     if not measures.waiting or max(measures.waiting) == 0:
         return None
     behind = sum(count for waiting, count in measures.waiting.items() if waiting)
-    summary = f"{number(behind)} of {number(measures.calls)} calls took a tuple that was not the newest; at most {number(max(measures.waiting))} were newer."
+    summary = f"{number(behind)} of {number(measures.calls)} calls took a tuple that was not the newest"
+    summary += f"; at most {number(max(measures.waiting))} were newer."
     return Histogram("Newer tuples at a call", "calls", labelled(charts.histogram(measures.waiting), number), summary)
 
 
@@ -113,7 +117,7 @@ def histograms_of(measures):
     """All histograms of a component, None for those that would have one bar."""
     yield lag_histogram("Lag of outputs", measures.lags)
     if measures.delays != measures.lags:
-        yield lag_histogram("Clock when outputs were sent", measures.delays)
+        yield lag_histogram("Outputs sent after", measures.delays)
     yield skip_histogram(measures)
     yield waiting_histogram(measures)
 
@@ -143,6 +147,7 @@ def channel_row(replay, channel, measures):
         "name": channel.name,
         "kind": channel.kind,
         "maker": maker.name if maker else None,
+        "is_ticks": any(part.interval is not None and part.readers == [channel.name] for _, part in replay.components),
         "readers": [component.name for component, part in replay.components if channel.name in part.readers],
         "measures": measures,
         "since": measures.first - replay.first if measures.count else None,
@@ -156,13 +161,15 @@ def graph_of(replay):
     names = dict.fromkeys(replay.channels)
     for _, part in replay.components:
         names |= dict.fromkeys(part.readers + ([part.out] if part.out is not None else []))
-    nodes = [graph.node_of("channel", shown(it), f"{len(replay.channels[it].times) if it in replay.channels else 0:,} messages") for it in names]
+    counts = {name: len(it.times) for name, it in replay.channels.items()}
+    nodes = [graph.node_of("channel", shown(it), f"{counts.get(it, 0):,} messages") for it in names]
     places = {name: place for place, name in enumerate(names)}
     edges = []
     for component, part in replay.components:
         here = len(nodes)
         kind = "timer" if part.interval is not None else "component"
-        nodes.append(graph.node_of(kind, shown(component.name), f"{shown(part.kind) or 'unknown class'}, {len(component.positions):,} calls"))
+        note = f"{shown(part.kind) or 'unknown class'}, {len(component.positions):,} calls"
+        nodes.append(graph.node_of(kind, shown(component.name), note))
         edges += [graph.Edge(places[name], here, role == 0) for role, name in enumerate(part.readers)]
         edges += [graph.Edge(here, places[part.out], True)] if part.out is not None else []
     return graph.lay_out(nodes, edges)
@@ -218,10 +225,10 @@ def comparison_view(replay, comparison):
     """What differs from a good run, as the page shows it."""
     if comparison is None:
         return None
-    calls = [
-        {"difference": it, "only_here": calls_shown(replay, it.component, it.only_here), "changed": calls_shown(replay, it.component, it.changed)}
-        for it in comparison.calls
-    ]
+    calls = []
+    for it in comparison.calls:
+        only_here, changed = (calls_shown(replay, it.component, numbers) for numbers in (it.only_here, it.changed))
+        calls.append({"difference": it, "only_here": only_here, "changed": changed})
     return {
         "folder": comparison.folder, "is_same": comparison.is_same, "is_same_tape": comparison.is_same_tape,
         "channels": comparison.channels, "calls": calls, "missing": comparison.missing,
@@ -233,13 +240,13 @@ def is_sampled(timeline):
 
 
 def view_of(replay, words, verdict, wiring, comparison):
-    """The page as a dictionary: `words` are those that the tool was called with, `wiring` is what `check` printed or why it wasn't asked."""
+    """The page as a dictionary. `words` are those of the tool's call, and `wiring` has what `check` printed, or why it wasn't asked."""
     channel_measures = {name: measure_channel(it) for name, it in replay.channels.items()}
     timeline = Timeline(replay)
     clocks = clocks_of(replay)
-    components = [
-        component_row(it, part, measure_component(it, timeline.begins[part.name], clocks.get(part.name, ()))) for it, part in replay.components
-    ]
+    components = []
+    for it, part in replay.components:
+        components.append(component_row(it, part, measure_component(it, timeline.begins[part.name], clocks.get(part.name, ()))))
     data = timeline.data(channel_measures)
     lanes = {item.name: place for place, (kind, item) in enumerate(timeline.lanes) if kind == "channel"}
     component_lanes = {item[0].name: place for place, (kind, item) in enumerate(timeline.lanes) if kind == "component"}
@@ -249,7 +256,7 @@ def view_of(replay, words, verdict, wiring, comparison):
         "verdict": verdict,
         "replay": replay,
         "files": [file_of(*it) for it in files_of(words)],
-        "options": [(name, shown(getattr(words, name))) for name in ("channels", "drop", "begin", "end", "stop") if getattr(words, name)],
+        "options": [(name, shown(getattr(words, name))) for name in OPTIONS if getattr(words, name)],
         "wiring": wiring,
         "facts": [
             ("Messages played", trace.played), ("Shadowed", trace.shadowed), ("Calls", trace.calls),
