@@ -77,7 +77,7 @@ def make_page(words):
     verify, check = Question(program, verify_command(words)), Question(program, check_command(words))
     try:
         parts, wiring = wiring_of(words, check)
-        replay = read_replay(words.trace, words.out, parts)
+        replay = read_replay(words.trace, words.out, parts, has_digests=bool(words.good))
         comparison = compare(replay, words.out, words.good) if words.good else None
         status, printed = verify.answer()
     finally:

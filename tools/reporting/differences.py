@@ -1,4 +1,5 @@
 """What is different in another run, taken for good: the first difference of each channel, and the calls that only one of them has."""
+import filecmp
 import os
 from array import array
 from dataclasses import dataclass, field
@@ -61,7 +62,7 @@ class CallDifference:
 
 
 def digests_of(path):
-    """By channel, the time of each message and a number that tells its content from others in all likelihood."""
+    """By channel, the time of each message and a number that tells its content from others in all likelihood, for this process."""
     found = {}
     with opened(path) as data:
         header_of(data)
@@ -98,9 +99,12 @@ def messages_at(path, wanted):
     return found
 
 
-def compare_records(path, good_path):
-    """The first difference of each channel of two records that has one."""
-    here, good = digests_of(path), digests_of(good_path)
+def compare_records(replay, path, good_path):
+    """The first difference of each channel that has one, of a run with digests, whose record is at a path, and of another record."""
+    if filecmp.cmp(path, good_path, shallow=False):
+        return []
+    here = {it.name.encode("utf-8", "surrogateescape"): (it.times, it.digests) for it in replay.channels.values()}
+    good = digests_of(good_path)
     empty = (array("Q"), array("q"))
     pairs = {channel: (here.get(channel, empty), good.get(channel, empty)) for channel in dict.fromkeys([*here, *good])}
     wanted = {channel: index for channel, (one, other) in pairs.items() if (index := first_unlike(one, other)) is not None}
@@ -172,7 +176,7 @@ def compare(replay, record_path, folder):
     pairs = [(it, others[name]) for name, it in ones.items() if name in others]
     calls = [difference for one, other in pairs if not has_same_calls(one, other) and (difference := compare_calls(one, other))]
     missing = [name for name in [*ones, *others] if (name in ones) != (name in others)]
-    channels = compare_records(record_path, os.path.join(folder, "out.rec"))
+    channels = compare_records(replay, record_path, os.path.join(folder, "out.rec"))
     return Comparison(folder, channels, calls, missing, is_same_tape(replay.trace, good))
 
 

@@ -47,6 +47,7 @@ class Channel:
     description: bytes = b""  # of its type
     step: int = 0  # each how many messages a content is kept, 0 where none is
     samples: list = field(default_factory=list)  # times and contents of messages that are no whole numbers
+    digests: array = field(default_factory=lambda: array("q"))  # of the contents, where they are to be compared
 
     @property
     def has_values(self):
@@ -123,7 +124,7 @@ def channels_of(trace, data):
     return found
 
 
-def read_channels(trace, path):
+def read_channels(trace, path, has_digests=False):
     """The channels of the record at a path, which has to be that of a trace's tape, in the order of the tape."""
     names = [it.encode("utf-8", "surrogateescape") for it in trace.channels]
     tape, value_of = zip(trace.tape_channels, trace.tape_sequences), Values().of
@@ -142,6 +143,8 @@ def read_channels(trace, path):
             channel.values.append(value or 0)
             channel.valued.append(value is not None)
             channel.size += len(content)
+            if has_digests:
+                channel.digests.append(hash(content))
             if value is None and channel.step and (sequence - 1) % channel.step == 0 and len(content) <= LARGEST_SAMPLE:
                 channel.samples.append((time, content))
         if next(tape, None) is not None:
@@ -209,11 +212,14 @@ def check_tuples(replay):
                 raise ValueError(f"component {component.name}: a call on a message that {channel.name} doesn't have")
 
 
-def read_replay(trace_path, record_path, parts):
-    """The run of a trace and a record with these components; a ValueError tells of files that make no run."""
+def read_replay(trace_path, record_path, parts, has_digests=False):
+    """The run of a trace and a record with these components, with digests of its contents where it is to be compared.
+
+    A ValueError tells of files that make no run.
+    """
     trace = read_trace(trace_path)
     try:
-        channels = read_channels(trace, record_path)
+        channels = read_channels(trace, record_path, has_digests)
     except ValueError as error:
         raise ValueError(f"{record_path}: {error}") from None
     replay = Replay(trace, channels, parts)
