@@ -83,10 +83,10 @@ class Timeline:
             next_one = next((it for it in waiting if done.issuperset(set(it[1].readers) & set(replay.makers))), waiting[0])
             waiting.remove(next_one)
             found.append(("component", next_one))
-            out = replay.channels.get(next_one[1].out)
-            if out is not None and out.name not in done:
-                done.add(out.name)
-                found.append(("channel", out))
+            out = next_one[1].out
+            if out in replay.channels and out not in done:
+                found.append(("channel", replay.channels[out]))
+            done.add(out)
         return found
 
     def share(self, marks, counts):

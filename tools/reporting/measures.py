@@ -112,7 +112,7 @@ def measure_component(component, begins, clocks):
     """The numbers of a component whose calls begin at these times, and whose outputs were sent at these clocks."""
     made = [(begin, time) for begin, time, output in zip(begins, component.times, component.outputs) if output]
     lags = Counter(time - begin for begin, time in made)
-    # Behind the last message the clock stands still here, and outputs that were held back are sent once it would pass their time.
+    # The clock of the last played message is the last one here, and held outputs behind it are sent when it would pass their time.
     delays = Counter(max(clock, time) - begin for (begin, time), clock in zip(made, clocks))
     return ComponentMeasures(
         calls=len(component.positions),

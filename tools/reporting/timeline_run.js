@@ -10,7 +10,7 @@ const data = JSON.parse(document.getElementById("timeline-data").textContent);
 const first = BigInt(data.first);
 
 const MARGIN = 0.02; // of the run's time, on both sides of it
-const NARROW = 620; // below this width names stand above their lanes
+const NARROW = 620; // below this width names are above their lanes
 const REACH = 9; // pixels from a mark within which it is pointed at
 const CROWDED = 3; // pixels a mark, below which marks are drawn as counts
 const BIN = 5; // pixels of a count

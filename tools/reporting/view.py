@@ -4,10 +4,12 @@ import os
 from typing import NamedTuple
 
 from reporting import charts, fields, graph
-from reporting.lanes import Timeline
+from reporting.lanes import MARKS, Timeline
 from reporting.measures import GAP, clocks_of, measure_channel, measure_component
+from reporting.page import json_text
 from reporting.text import duration, exact, number, rounded, shown
 
+MOST_DATA = 2_800_000  # bytes of the timeline, so that a page has less than 5,000,000
 GAPS_SHOWN = 8
 CALLS_SHOWN = 10
 PLOTS = 120
@@ -235,19 +237,26 @@ def comparison_view(replay, comparison):
     }
 
 
-def is_sampled(timeline):
-    return any("counts" in lane for lane in timeline["lanes"])
+def timeline_of(replay, measures):
+    """The timeline, what the page's script reads of it, and that as a text. Of a run whose marks take much room there are fewer."""
+    marks = MARKS
+    while True:
+        timeline = Timeline(replay, marks)
+        data = timeline.data(measures)
+        text = json_text(data)
+        if len(text) <= MOST_DATA or marks < 1000:
+            return timeline, data, text
+        marks = marks * MOST_DATA // len(text) * 9 // 10
 
 
 def view_of(replay, words, verdict, wiring, comparison):
     """The page as a dictionary. `words` are those of the tool's call, and `wiring` has what `check` printed, or why it wasn't asked."""
     channel_measures = {name: measure_channel(it) for name, it in replay.channels.items()}
-    timeline = Timeline(replay)
+    timeline, data, text = timeline_of(replay, channel_measures)
     clocks = clocks_of(replay)
     components = []
     for it, part in replay.components:
         components.append(component_row(it, part, measure_component(it, timeline.begins[part.name], clocks.get(part.name, ()))))
-    data = timeline.data(channel_measures)
     lanes = {item.name: place for place, (kind, item) in enumerate(timeline.lanes) if kind == "channel"}
     component_lanes = {item[0].name: place for place, (kind, item) in enumerate(timeline.lanes) if kind == "component"}
     trace, (plots, left) = replay.trace, plots_of(replay)
@@ -269,7 +278,7 @@ def view_of(replay, words, verdict, wiring, comparison):
         "graph": graph_of(replay),
         "plots": plots, "plots_left": left,
         "comparison": comparison_view(replay, comparison),
-        "timeline": data, "is_sampled": is_sampled(data), "piece": duration(replay.span // data["pieces"]),
+        "timeline": text, "is_sampled": any("counts" in lane for lane in data["lanes"]), "piece": duration(replay.span // data["pieces"]),
         "gap": GAP,
     }
 
