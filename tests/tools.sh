@@ -579,7 +579,7 @@ clicks_in_pages() {
     skip 'clicks in pages' 'no Chromium'
     return
   fi
-  try 0 timeout 300 python3 "$top/tests/tools/click_report.py" "${pages[@]}"
+  try 0 timeout 900 python3 "$top/tests/tools/click_report.py" "${pages[@]}"
   [ ! -s out ]
   count $? "$name: $(cat out)"
 }

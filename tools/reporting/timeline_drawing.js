@@ -84,7 +84,7 @@ const binsOfCounts = (counts) => {
 
 const greatest = (bins) => bins.reduce((most, it) => Math.max(most, it), 0);
 
-// Bars for the counts of bins, of which the greatest is as high as the room; they stand on a line, or on other bars.
+// Bars for the counts of bins, of which the greatest is as high as the room, on a line or on other bars.
 const drawBins = (bins, most, base, height, colour, below) => {
   const origin = firstBin();
   context.fillStyle = colour;

@@ -65,7 +65,7 @@ class Histogram(NamedTuple):
 
 
 def labelled(bars, text):
-    """The bars of a histogram with what stands below each."""
+    """The bars of a histogram, each with its label."""
     most = max(it.count for it in bars)
     return [
         {"label": text(it.low) if it.low == it.high else f"{text(it.low)} to {text(it.high)}", "count": it.count, "share": it.count / most}
