@@ -19,6 +19,7 @@ class Settings:
     out: str = "batch.out"
     good: str = ""
     verify: str = ""
+    reports: str = ""
 
 
 def settings_of(config):
@@ -30,6 +31,8 @@ def settings_of(config):
     drives = read_table(settings.table)
     check_good(settings, drives)
     check_verify(settings.verify)
+    if settings.reports not in ("", "yes"):
+        raise ValueError(f"reports={settings.reports}: this may be yes, or is left out")
     return settings, drives
 
 

@@ -1,6 +1,6 @@
 #!/usr/bin/env bash
 # Tests what stands around the program: the gate itself, front/, tools/, release/ and batch/. Usage: tests/tools.sh [--install] [SECTION...],
-# by default all of front, gate, timeline, pictures, messages, why_not, release and batch.
+# by default all of front, gate, timeline, pictures, messages, why_not, report, release and batch.
 # What a section needs beside Python's standard library is taken from the machine. With --install it is installed else: by apt-get where
 # root asks for it on a Debian, or by pip into a virtual environment in $TOOLS_ENVIRONMENT (by default in the user's cache). Where it is
 # not to be had the section is skipped, which is said. Without --install nothing is installed.
@@ -591,6 +591,236 @@ $d' --stop control@8
   try 0 python3 "$top/tools/why_not.py" --help
 }
 
+# Makes the record and the trace of a run of examples, by their rules, and its page.
+page_of() { # the name of the run, its DAG file and its record in examples, and further words of the tool
+  (cd "$top" && python3 tests/replay.py "$OLDPWD/$1.rec" "$OLDPWD/$1.trace" "$OLDPWD/line" --dag "examples/$2" --record "examples/$3")
+  try 0 env -C "$top" "$python" tools/report.py --dag "examples/$2" --record "examples/$3" --out "$PWD/$1.rec" --trace "$PWD/$1.trace" \
+    "${@:4}" "$PWD/$1.html"
+}
+
+# A program that answers `verify` and `check` as it is told to.
+answering() { # its file, the status and the line of `verify`, and the text of `check`
+  printf '%s\n' '#!/bin/sh' "if [ \"\$1\" = check ]; then cat <<'T'; exit; fi" "$4" T \
+    "if [ $2 = 0 ]; then echo '$3'; else echo '$3' >&2; fi" "exit $2" >"$1"
+  chmod +x "$1"
+}
+
+# Looks that a page has a text somewhere, whatever is between its words.
+shows() { # the page, and the text
+  "$python" - "$@" <<'P'
+import re, sys
+from html.parser import HTMLParser
+page = HTMLParser()
+texts = []
+page.handle_data = texts.append
+page.feed(open(sys.argv[1], encoding="utf-8").read())
+sys.exit(" ".join(sys.argv[2].split()) not in " ".join("".join(texts).split()))
+P
+  count $? "$name: $1 doesn't have '$2'"
+}
+
+report() {
+  local check="$top/tests/tools/check_report.py" pages
+  patience=300
+  if ! find_python jinja2 python3-jinja2 jinja2; then
+    skip report 'no Jinja2'
+    return
+  fi
+  begin 'pages of a drive, of a burst and of timers have what their traces and records have'
+  page_of drive drive/drive.dag drive/drive.rec --program "$PWD/none"
+  try 0 python3 "$check" drive.html drive.trace drive.rec
+  shows drive.html 'Not verified'
+  page_of burst burst/burst.dag burst/burst.rec --program "$PWD/none"
+  try 0 python3 "$check" burst.html burst.trace burst.rec
+  shows burst.html '5 skipped, 1 time; at most 5 in a row.'
+  page_of beat drive/heartbeat.dag drive/drive.rec --program "$PWD/none"
+  try 0 python3 "$check" beat.html beat.trace beat.rec
+  shows beat.html 'CountComponent, timer, each 1,000 ms'
+  shows beat.html "its timer"
+  pages=("drive=$PWD/drive.html" "burst=$PWD/burst.html")
+  compares_runs
+  shows_verdicts
+  shows_names
+  shows_some_of_many
+  shows_fields
+  shows_no_message
+  refuses_runs
+  shows_batches
+  clicks_in_pages
+}
+
+compares_runs() {
+  begin 'a page says what is different in a good run'
+  page_of burst burst/burst.dag burst/burst.rec --program "$PWD/none"
+  mkdir same good
+  cp burst.rec same/out.rec
+  cp burst.trace same/out.trace
+  page_of burst burst/burst.dag burst/burst.rec --program "$PWD/none" --good "$PWD/same"
+  shows burst.html 'Nothing differs: both runs have the same messages, the same calls and the same tape.'
+  echo 'out: "/total"
+delay: 5' >total.conf
+  sed "s#examples/burst/total.conf#$PWD/total.conf#" "$top/examples/burst/burst.dag" >other.dag
+  (cd "$top" && python3 tests/replay.py "$OLDPWD/good/out.rec" "$OLDPWD/good/out.trace" "$OLDPWD/line" --dag "$OLDPWD/other.dag" \
+    --record examples/burst/burst.rec)
+  page_of burst burst/burst.dag burst/burst.rec --program "$PWD/none" --good "$PWD/good"
+  try 0 python3 "$check" burst.html burst.trace burst.rec
+  shows burst.html 'First difference of each channel'
+  pages+=("good=$PWD/burst.html")
+  tac good/out.rec >good/bad
+  mv good/bad good/out.rec
+  fails_in_one_line 1 'report: .*' env -C "$top" "$python" tools/report.py --dag examples/burst/burst.dag --record examples/burst/burst.rec \
+    --out "$PWD/burst.rec" --trace "$PWD/burst.trace" --good "$PWD/good" "$PWD/bad.html"
+  [ ! -e bad.html ]
+  count $? "$name: there is a page"
+}
+
+shows_verdicts() {
+  local wiring='component "control" class TheirOwn library "x.so" reads "/speed" queue 3 writes "/control"
+component "total" class HoldComponent reads "/speed" queue 3 writes "/total" overflow OLDEST
+context "default_grp" processors 2 order "control" "total"
+ok'
+  begin 'a page has the verdict of the program and the wiring that it prints, with classes that nobody knows'
+  answering lawful 0 'lawful: played 8, shadowed 0, calls 8, written 16' "$wiring"
+  page_of burst burst/burst.dag burst/burst.rec --program "$PWD/lawful"
+  says out 'written: .*/burst.html: a lawful run'
+  shows burst.html 'A lawful run cyber verify says that a lawful run has this trace and this record. lawful: played 8, shadowed 0, calls 8, written 16'
+  shows burst.html 'TheirOwn, 3 calls'
+  shows burst.html 'context "default_grp" processors 2 order "control" "total"'
+  try 0 python3 "$check" burst.html burst.trace burst.rec
+  answering refusing 1 'cyber: x.trace: not a lawful run' "$wiring"
+  page_of burst burst/burst.dag burst/burst.rec --program "$PWD/refusing"
+  says out 'written: .*/burst.html: refused'
+  shows burst.html 'cyber: x.trace: not a lawful run'
+  answering lacking 6 'cyber: out of memory' ''
+  page_of burst burst/burst.dag burst/burst.rec --program "$PWD/lacking" --stop 'total@9'
+  says out 'written: .*/burst.html: not verified'
+  shows burst.html 'cyber: out of memory'
+  shows burst.html '--stop total@9'
+  try 0 python3 "$check" burst.html burst.trace burst.rec
+  if [ -x "$program" ]; then
+    page_of burst burst/burst.dag burst/burst.rec --program "$program"
+    says out 'written: .*/burst.html: a lawful run'
+    shows burst.html 'lawful: played 8, shadowed 0, calls 8, written 16'
+  fi
+}
+
+shows_names() {
+  begin 'names that could mean something to a page are texts'
+  python3 "$top/tests/tools/hostile_names.py" .
+  python3 "$top/tests/replay.py" out.rec out.trace line --dag names.dag --record names.rec
+  try 0 "$python" "$top/tools/report.py" --dag names.dag --record names.rec --out out.rec --trace out.trace --program none names.html
+  try 0 python3 "$check" names.html out.trace out.rec
+  pages+=("names=$PWD/names.html")
+}
+
+shows_some_of_many() {
+  begin 'the page of sixty thousand calls has some of them, takes less than 100 MB and has less than 5 MB'
+  python3 "$top/tests/tools/long_run.py" 60000 long
+  passing /in /out ''
+  try 0 python3 "$top/tests/tools/measure.py" usage "$python" "$top/tools/report.py" --dag pass.dag --record long.rec --out long.rec \
+    --trace long.trace --program none long.html
+  [ "$(sed -n 's/^memory //p' usage)" -lt 100000000 ]
+  count $? "$name: $(cat usage)"
+  try 0 python3 "$check" long.html long.trace long.rec
+  pages+=("sampled=$PWD/long.html")
+}
+
+# A DAG file of one component that passes messages on.
+passing() { # from which channel, to which, and of which type
+  printf '%s\n' 'module_config { components { class_name: "PassComponent" config { name: "pass"' \
+    "config_file_path: 'pass.conf' readers { channel: '$1' } } } }" >pass.dag
+  printf '%s\n' "out: '$2'" "out_type: '$3'" >pass.conf
+}
+
+shows_fields() {
+  begin 'numbers in messages of described types are plotted'
+  if ! "$python" -c 'import google.protobuf' 2>/dev/null; then
+    skip 'plots of described messages' 'no Protocol Buffers package'
+    return
+  fi
+  "$python" "$top/tests/tools/described_record.py" in.rec
+  passing /chassis /copy demo.Chassis
+  python3 "$top/tests/replay.py" out.rec out.trace line --dag pass.dag --record in.rec
+  try 0 "$python" "$top/tools/report.py" --dag pass.dag --record in.rec --out out.rec --trace out.trace --program none page.html
+  shows page.html '/chassis speed 2 numbers, from 1.5 to 3.25'
+  shows page.html '/copy speed 2 numbers, from 1.5 to 3.25'
+  try 0 python3 "$check" page.html out.trace out.rec
+}
+
+shows_no_message() {
+  begin 'a run without a message has a page'
+  passing /in /out ''
+  PYTHONPATH="$top/tools" python3 -c 'from record import record; import sys; sys.stdout.buffer.write(record([]))' >in.rec
+  python3 "$top/tests/replay.py" out.rec out.trace line --dag pass.dag --record in.rec
+  try 0 "$python" "$top/tools/report.py" --dag pass.dag --record in.rec --out out.rec --trace out.trace --program none page.html
+  try 0 python3 "$check" page.html out.trace out.rec
+  pages+=("empty=$PWD/page.html")
+}
+
+refuses_runs() {
+  local call=("$python" "$top/tools/report.py" --dag pass.dag --record in.rec --program none)
+  begin 'what is no replay is refused in one line, and leaves no page'
+  cp "$top/examples/pass/one.rec" in.rec
+  python3 "$top/tests/replay.py" out.rec out.trace line --record in.rec --pass /in /out
+  passing /in /out ''
+  echo x >text
+  fails_in_one_line 1 'report: text: line 1: not a trace' "${call[@]}" --out out.rec --trace text page.html
+  fails_in_one_line 1 'report: text: not a record' "${call[@]}" --out text --trace out.trace page.html
+  fails_in_one_line 1 'report: in.rec: fewer messages .*' "${call[@]}" --out in.rec --trace out.trace page.html
+  fails_in_one_line 1 "report: .*No such file or directory: 'none'" "${call[@]}" --out none --trace out.trace page.html
+  fails_in_one_line 1 "report: .*No such file or directory: 'none/out.trace'" "${call[@]}" --out out.rec --trace out.trace --good none page.html
+  [ ! -e page.html ]
+  count $? "$name: there is a page"
+  try 0 python3 "$top/tests/tools/damaged.py" 12 out.trace "${call[@]}" --out out.rec --trace FILE page.html
+  try 0 python3 "$top/tests/tools/damaged.py" 12 out.rec "${call[@]}" --out FILE --trace out.trace page.html
+  try 0 "$python" "$top/tools/report.py" --help
+}
+
+shows_batches() {
+  local tool="$top/batch/pages.py" drive
+  begin 'the page of a batch has its rows, and a page for each drive'
+  python3 "$top/tests/tools/drives.py" 200 .
+  python3 "$top/tests/tools/summed_up.py" drives.csv batch.out
+  for drive in d1 d7 d9; do
+    try 0 "$python" "$tool" --out batch.out --table drives.csv --drive "$drive" --program none
+  done
+  try 0 python3 "$check" batch.out/d1/report.html batch.out/d1/out.trace batch.out/d1/out.rec
+  try 0 python3 "$check" batch.out/d9/report.html batch.out/d9/out.trace batch.out/d9/out.rec
+  shows batch.out/d9/report.html '--stop sum@100'
+  shows batch.out/d7/report.html 'cyber: 7.rec: at 2137: Cut'
+  try 0 "$python" "$tool" --out batch.out
+  says out 'written: batch.out/report.html: 200 drives'
+  try 0 python3 "$check" batch.out/report.html
+  shows batch.out/report.html '198 well, 2 failed, 0 refused, 0 not done, 0 unlike the good run.'
+  cp -r batch.out last.out
+  sed -i 's/^d3,0,32,0,64,96,/d3,0,32,0,60,92,/; s/^d200/d201/' last.out/summary.csv
+  try 0 "$python" "$tool" --out batch.out --last last.out
+  shows batch.out/report.html '64was 60'
+  shows batch.out/report.html 'That run also had d201.'
+  try 0 "$python" "$tool" --out batch.out --table drives.csv --drive d1 --program none --good last.out
+  shows batch.out/d1/report.html 'Nothing differs: both runs have the same messages'
+  try 0 "$python" "$tool" --out batch.out --table drives.csv --drive d12 --program none
+  shows batch.out/d12/report.html 'it is not done'
+  fails_in_one_line 1 "pages.py: drives.csv: no drive d201" "$python" "$tool" --out batch.out --table drives.csv --drive d201
+  fails_in_one_line 1 "pages.py: .*No such file or directory: 'none/summary.csv'" "$python" "$tool" --out none
+  pages+=("batch=$PWD/batch.out/report.html")
+}
+
+clicks_in_pages() {
+  begin 'in a browser, pages zoom, move, sort and filter, and load nothing'
+  if ! has_browser && ! { install_packages chromium && has_browser; }; then
+    skip 'clicks in pages' 'no Chromium'
+    return
+  fi
+  try 0 timeout 900 python3 "$top/tests/tools/click_report.py" "${pages[@]}"
+  [ ! -s out ]
+  count $? "$name: $(cat out)"
+}
+
+has_browser() {
+  command -v chromium chromium-browser google-chrome >/dev/null
+}
+
 . "$top/tests/tools/front.sh"
 
 release() {
@@ -979,7 +1209,7 @@ if [ "${1:-}" = --install ]; then
   install=yes
   shift
 fi
-[ $# -gt 0 ] || set -- front gate timeline pictures messages why_not release batch
+[ $# -gt 0 ] || set -- front gate timeline pictures messages why_not report release batch
 for section in "$@"; do
   "$section"
 done

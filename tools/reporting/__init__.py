@@ -1,0 +1,1 @@
+"""What tools/report.py and batch/pages.py make their pages with."""

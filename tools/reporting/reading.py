@@ -1,0 +1,230 @@
+"""A replay as its files tell it together: the trace, the messages of its record, and the components of its DAG file."""
+import re
+from array import array
+from collections import Counter
+from dataclasses import dataclass, field
+
+from dag import read_components
+from record import each_message, forms_of, header_of, opened, whole_of
+from trace import Component, read_trace, unquoted
+
+LONGEST_WHOLE = 11  # bytes of a content that is nothing but a whole number: a tag and a varint
+KNOWN_CONTENTS = 50_000  # contents whose number is remembered
+SAMPLES, ALL_SAMPLES = 1_000, 20_000  # contents of described messages that are kept of a channel, and of all
+LARGEST_SAMPLE = 65_536  # bytes
+WORD = re.compile(rb'"(?:[^"\\]|\\.)*"|\S+')
+HAS_ONE_VALUE = ("class", "queue", "every", "overflow")
+
+
+def text_of(name):
+    """A name in bytes as the trace's reader gives it."""
+    return name.decode("utf-8", "surrogateescape")
+
+
+@dataclass
+class Part:
+    """What the DAG file says of a component. Any class is as good as another here."""
+
+    name: str
+    kind: str = ""
+    readers: list = field(default_factory=list)  # the channels that it reads
+    out: str = None
+    queue: int = 1
+    overflow: str = "NEWEST"
+    interval: int = None  # in milliseconds, of a timer component
+
+
+@dataclass
+class Channel:
+    """The messages of a channel, in columns: message k is entry k - 1 of each."""
+
+    name: str
+    kind: str = ""  # the name of its type
+    times: array = field(default_factory=lambda: array("Q"))
+    values: array = field(default_factory=lambda: array("q"))  # 0 where a message is no whole number
+    valued: bytearray = field(default_factory=bytearray)  # 1 where it is one
+    size: int = 0  # bytes of all contents
+    description: bytes = b""  # of its type
+    step: int = 0  # each how many messages a content is kept, 0 where none is
+    samples: list = field(default_factory=list)  # times and contents of messages that are no whole numbers
+    digests: array = field(default_factory=lambda: array("q"))  # of the contents, where they are to be compared
+
+    @property
+    def has_values(self):
+        return any(self.valued)
+
+
+def part_of(line):
+    """The component that a line of `cyber check` tells of, None for another line. Keywords that aren't known are left out."""
+    words = WORD.findall(line)
+    if words[:1] not in ([b"component"], [b"timer"]):
+        return None
+    found, key = {}, "name"
+    for word in words[1:]:
+        if word.startswith(b'"'):
+            found.setdefault(key, []).append(unquoted(word[1:-1]))
+        elif key in HAS_ONE_VALUE and key not in found:
+            found[key] = [word.decode("utf-8", "replace")]
+        else:
+            key = word.decode("utf-8", "replace")
+    if not found.get("name"):
+        return None
+    name = found["name"][0]
+    one = {key: found[key][0] for key in HAS_ONE_VALUE if found.get(key)}
+    readers = ["@timer/" + name] if words[0] == b"timer" else found.get("reads", [])
+    interval = int(one["every"]) if one.get("every", "").isdigit() else None
+    queue = int(one["queue"]) if one.get("queue", "").isdigit() else 1
+    out = found.get("writes", [None])[0]
+    return Part(name, one.get("class", ""), readers, out, queue, one.get("overflow", "NEWEST"), interval)
+
+
+def parts_checked(text):
+    """The components in what `cyber check` printed, in bytes."""
+    return [part for line in text.splitlines() if (part := part_of(line))]
+
+
+def parts_read(path):
+    """The components of a DAG file, as tools/dag.py reads it."""
+    found = []
+    for it in read_components(path):
+        readers, out = [text_of(name) for name in it.readers], text_of(it.out) if it.out is not None else None
+        found.append(Part(text_of(it.name), it.kind, readers, out, it.queue, it.overflow.decode(), it.interval))
+    return found
+
+
+class Values:
+    """Gives the numbers of contents that are whole numbers; most contents of a record come more than once."""
+
+    def __init__(self):
+        self.known = {}
+
+    def of(self, content):
+        """The number, or None."""
+        if not 2 <= len(content) <= LONGEST_WHOLE or content[0] != 8:
+            return None
+        value = self.known.get(content, self)
+        if value is self:
+            value = whole_of(content)
+            if len(self.known) < KNOWN_CONTENTS:
+                self.known[content] = value
+        return value
+
+
+def channels_of(trace, data):
+    """The channels of a trace, with the types that a record has for them."""
+    forms, counts = forms_of(data), Counter(trace.tape_channels)
+    described = {kind: description for kind, description in forms.values() if kind and description}
+    found = []
+    for number, name in enumerate(trace.channels):
+        kind, description = forms.get(name.encode("utf-8", "surrogateescape"), (b"", b""))
+        channel = Channel(name, text_of(kind), description=description or described.get(kind, b""))
+        if channel.description:
+            channel.step = -(-counts[number] // min(SAMPLES, max(ALL_SAMPLES // len(trace.channels), 1)))
+        found.append(channel)
+    return found
+
+
+def read_channels(trace, path, has_digests=False):
+    """The channels of the record at a path, which has to be that of a trace's tape, in the order of the tape."""
+    names = [it.encode("utf-8", "surrogateescape") for it in trace.channels]
+    tape, value_of = zip(trace.tape_channels, trace.tape_sequences), Values().of
+    with opened(path) as data:
+        header_of(data)
+        channels = channels_of(trace, data)
+        for name, time, content in each_message(data):
+            number, sequence = next(tape, (None, 0))
+            if number is None or names[number] != name:
+                raise ValueError("not the record of this trace")
+            channel = channels[number]
+            channel.times.append(time)
+            if len(channel.times) != sequence:
+                raise ValueError("not the record of this trace, whose tape has other numbers")
+            value = value_of(content)
+            channel.values.append(value or 0)
+            channel.valued.append(value is not None)
+            channel.size += len(content)
+            if has_digests:
+                channel.digests.append(hash(content))
+            if value is None and channel.step and (sequence - 1) % channel.step == 0 and len(content) <= LARGEST_SAMPLE:
+                channel.samples.append((time, content))
+        if next(tape, None) is not None:
+            raise ValueError("fewer messages than the trace's tape has")
+    return channels
+
+
+class Replay:
+    """A run: its trace, its channels by name, and what is known of its components."""
+
+    def __init__(self, trace, channels, parts):
+        self.trace, self.channels = trace, {it.name: it for it in channels}
+        known = {it.name: it for it in parts}
+        self.components = [(it, known.get(it.name) or Part(it.name)) for it in trace.components]
+        self.makers = {part.out: component for component, part in self.components if part.out is not None}
+        times = [it.times for it in channels if it.times]
+        self.first = min(map(min, times), default=0)
+        self.last = max(map(max, times), default=0)
+
+    @property
+    def span(self):
+        """How long it is by the times of its messages, in nanoseconds, and at least one."""
+        return max(self.last - self.first, 1)
+
+    def readers_of(self, component, part):
+        """The channel of each reader of a component, None for one that isn't known or has no messages."""
+        known = [self.channels.get(name) for name in part.readers]
+        return (known + [None] * component.readers)[: max(component.readers, len(known))]
+
+    def begins_of(self, component, part):
+        """The time of each call's trigger; where its channel isn't known the time of the output, or else of the call before."""
+        readers = self.readers_of(component, part)
+        if component.width and readers[0] is not None:
+            times = readers[0].times
+            return array("Q", [times[it - 1] for it in component.sequences[:: component.width]])
+        found, last = array("Q"), self.first
+        for output, time in zip(component.outputs, component.times):
+            last = time if output else last
+            found.append(last)
+        return found
+
+    def skips_of(self, component, part):
+        """The times of the triggers of the tuples that calls jumped over, where the trigger's channel is known."""
+        readers = self.readers_of(component, part)
+        if not component.skipped or readers[0] is None:
+            return array("Q")
+        times, before = readers[0].times, component.sequences[0] - component.positions[0]
+        found, last = array("Q"), 0
+        for position in component.positions:
+            if position != last + 1:
+                found.extend(times[last + before : position - 1 + before])
+            last = position
+        return found
+
+
+def check_tuples(replay):
+    """Raises a ValueError where a call is on messages that their channels don't have."""
+    for component, part in replay.components:
+        for role, channel in enumerate(replay.readers_of(component, part)[: component.width]):
+            if channel is None:
+                continue
+            numbers, last = component.sequences[role :: component.width], len(channel.times)
+            before = numbers[0] - component.positions[0]  # how many messages came before the first tuple
+            if max(numbers) > last or role == 0 and not 0 <= before <= last - component.positions[-1]:
+                raise ValueError(f"component {component.name}: a call on a message that {channel.name} doesn't have")
+
+
+def read_replay(trace_path, record_path, parts, has_digests=False):
+    """The run of a trace and a record with these components, with digests of its contents where it is to be compared.
+
+    A ValueError tells of files that make no run.
+    """
+    trace = read_trace(trace_path)
+    try:
+        channels = read_channels(trace, record_path, has_digests)
+    except ValueError as error:
+        raise ValueError(f"{record_path}: {error}") from None
+    replay = Replay(trace, channels, parts)
+    try:
+        check_tuples(replay)
+    except ValueError as error:
+        raise ValueError(f"{trace_path}: {error}") from None
+    return replay
