@@ -29,6 +29,16 @@ makes_a_large_play() {
   rm -r files first
 }
 
+# As many messages as may be asked for.
+makes_the_largest_play() {
+  begin 'makes a play of 1048576 messages'
+  run make 1048576 m
+  grep -q '^done: played 1048576, shadowed 0, calls ' out
+  count $? "$name: standard output got '$(head -c 200 out err)'"
+  is_lawful files m.out m.trace --dag m.dag --record m.record
+  rm -r files
+}
+
 # Makes a play where a file can't be made.
 makes_without() { # what befalls it, the prefix, what stands behind it in the file's name, and a command that does it
   begin "makes a play where $1"
@@ -42,6 +52,7 @@ for count in 1 2 3 4 00000000000000000005 30000; do
   makes_as_described "$count"
 done
 makes_a_large_play
+makes_the_largest_play
 makes_without 'the folder is not there' missing/m .adder.conf ''
 makes_without 'the DAG file is a folder' m .dag 'mkdir m.dag'
 makes_without 'the record is a folder' m .record 'mkdir m.record'

@@ -108,6 +108,18 @@ end FINISHED next 2' ]
   count $? "$name: the trace begins with $(head -n 6 files/trace)"
 }
 
+# Two messages and 4,194,302 ticks, of which the component puts none out.
+plays_as_many_ticks_as_may_be() {
+  begin 'plays 4194304 messages and ticks'
+  one_timer 1 'out: "/n" lo: 0 hi: 0'
+  sed -i 's/CountComponent/FilterComponent/' files/d.dag
+  recorded '[(b"/a", 1000000, content_of(1)), (b"/a", 4194302000000, content_of(1))]' '{}'
+  run play --serial --dag d.dag --record in.rec --out out.rec --trace trace
+  ends 0 'done: played 4194304, shadowed 0, calls 4194302, written 4194304' ''
+  is_lawful files out.rec trace --dag d.dag --record in.rec
+  rm -r files
+}
+
 checks_a_timer() {
   begin 'checks a timer component'
   one_timer 20 'out: "/n" on_overflow: OLDEST'
@@ -121,8 +133,11 @@ plays_ticks_among_messages
 plays_ticks_on_threads
 writes_ticks_without_a_type
 stops_a_timer
+plays_as_many_ticks_as_may_be
 checks_a_timer
 refuses_a_timer 'ticks of an interval of 0' 1 'd.dag: ZeroInterval 0' 0 'out: "/n"' '[(b"/a", 1, content_of(1))]'
 refuses_a_timer 'a component that writes ticks' 1 'd.dag: TimerWritten 0 0' 1 'out: "@timer/t"' '[(b"/a", 1, content_of(1))]'
 refuses_a_timer 'more ticks than are played' 5 'in.rec: limit TooManyPlayed passed: 9223372036857' 1 'out: "/n"' \
   '[(b"/a", 0, content_of(1)), (b"/a", 9223372036854775808, content_of(1))]'
+refuses_a_timer 'one tick more than may be played' 5 'in.rec: limit TooManyPlayed passed: 4194305' 1 'out: "/n"' \
+  '[(b"/a", 1000000, content_of(1)), (b"/a", 4194303000000, content_of(1))]'
