@@ -50,6 +50,7 @@ fn kind_of(fault: &Fault) -> &'static str {
         Fault::TraceTooLarge { .. } => "TraceTooLarge",
         Fault::BadLine { .. } => "BadLine",
         Fault::Unlawful => "Unlawful",
+        Fault::Also { .. } => "Also",
         Fault::Differs { .. } => "Differs",
     }
 }
