@@ -282,7 +282,8 @@ other_names() {
   is_also ':' "${PLAY/out.rec/./p.conf}" ./p.conf p.conf
   is_also 'ln -s p.conf trace' "$PLAY" trace p.conf
   is_also 'ln d.dag trace' "$PLAY" trace d.dag
-  is_also 'echo >s.conf "policy: \"classic\"" ; ln s.conf out.rec' "$PLAY --sched s.conf" out.rec s.conf 1
+  is_also 'echo >s.conf "scheduler_conf { classic_conf { groups { name: \"g\" processor_num: 1 } } }"; ln s.conf out.rec' \
+    "$PLAY --sched s.conf" out.rec s.conf 1
   is_also 'ln -s in.rec out.rec' "$THREADS" out.rec in.rec
   is_also ':' "${RECOVER/out.rec/./done.rec}" ./done.rec done.rec
   is_also 'ln done.rec out.rec' "$RECOVER" out.rec done.rec
