@@ -13,12 +13,12 @@ use std::thread::Threads;
 /// The calls that make the record which is played.
 const CALLS_BEFORE: u64 = 2;
 
-/// A size, a read of the header and of a head and a body of each of four sections, the making of the
-/// record, its seven pieces, the making of the trace and its piece.
-const CALLS: usize = 20;
+/// A size, a read of the header and four of the sections, of 16, 32 and 64 bytes and of the index; the
+/// making of the record, its seven pieces, the making of the trace and its piece.
+const CALLS: usize = 16;
 
 /// The first call that puts a piece of the record.
-const FIRST_PUT: usize = 12;
+const FIRST_PUT: usize = 8;
 
 /// Where the pieces before each piece of the record end; the last one is put over the first.
 const ENDS: [usize; 7] = [0, 2064, 2089, 2115, 2139, 2182, 2271];
@@ -53,8 +53,8 @@ fn record_at(alloc: Global, piece: usize, keep: usize) -> Result<Vec<u8>, Fail> 
 // What is told where this call fails.
 fn line_at(call: usize) -> &'static [u8] {
     match call {
-        1..=10 => b"cyber: in.rec: the store failed\n".as_slice(),
-        11..=18 => b"cyber: out.rec: the store failed\n".as_slice(),
+        1..=6 => b"cyber: in.rec: the store failed\n".as_slice(),
+        7..=14 => b"cyber: out.rec: the store failed\n".as_slice(),
         _ => b"cyber: t.txt: the store failed\n".as_slice(),
     }
 }
@@ -62,8 +62,8 @@ fn line_at(call: usize) -> &'static [u8] {
 // The record that stands where this call failed and kept so many bytes.
 fn record_after(alloc: Global, call: usize, keep: usize) -> Result<Option<Vec<u8>>, Fail> {
     Ok(match call {
-        1..=11 => None,
-        12..=18 => Some(record_at(alloc, call - FIRST_PUT, keep)?),
+        1..=7 => None,
+        8..=14 => Some(record_at(alloc, call - FIRST_PUT, keep)?),
         _ => Some(out_record(alloc)?),
     })
 }

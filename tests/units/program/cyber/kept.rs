@@ -172,12 +172,12 @@ fn failing_at(
 
 #[test]
 fn fails_each_call_in_turn(rt: HostRuntime) -> Result<(), Fail> {
-    // A size, the header, and a head and a body of each of four sections; the making of the file,
-    // and its six pieces.
+    // A size, the header, and four reads of the sections; the making of the file, and its six
+    // pieces.
     for words in [RECOVER.as_slice(), &SPLIT] {
-        for call in 1..=17 {
+        for call in 1..=13 {
             let ran = failing_at(&rt, rt.alloc(), words, call)?;
-            let line = if call <= 10 {
+            let line = if call <= 6 {
                 b"cyber: in.rec: the store failed\n".as_slice()
             } else {
                 b"cyber: out.rec: the store failed\n"
@@ -185,7 +185,7 @@ fn fails_each_call_in_turn(rt: HostRuntime) -> Result<(), Fail> {
             ends(&rt, &ran, Status::StoreFault, b"", line);
             holds(&rt, &ran, "in.rec", &in_record(rt.alloc())?);
         }
-        let ran = failing_at(&rt, rt.alloc(), words, 18)?;
+        let ran = failing_at(&rt, rt.alloc(), words, 14)?;
         assert_eq!(rt; ran.status, Status::Done);
     }
     Ok(())

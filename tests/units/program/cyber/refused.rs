@@ -70,7 +70,7 @@ fn passes_the_whole_sections_of_a_cut_record(rt: HostRuntime) -> Result<(), Fail
 fn refuses_a_record_that_broke_off(rt: HostRuntime) -> Result<(), Fail> {
     let alloc = rt.alloc();
     let mut store = store_of(alloc, &in_record(alloc)?)?;
-    store.fail_at(18, 20)?;
+    store.fail_at(14, 20)?;
     let broken = run(&rt, alloc, &PASS, store)?;
     assert_eq!(rt; broken.status, Status::StoreFault);
     assert_eq!(rt;
@@ -203,8 +203,8 @@ fn faults_where_a_refusal_is_not_told(rt: HostRuntime) -> Result<(), Fail> {
         ([].as_slice(), 0, 1, b"".as_slice()),
         (PASS.as_slice(), 0, 1, b"".as_slice()),
         (PASS.as_slice(), 3, 1, b"".as_slice()),
-        (PASS.as_slice(), 13, 2, b"cyber: ".as_slice()),
-        (PASS.as_slice(), 13, 3, b"cyber: out.rec".as_slice()),
+        (PASS.as_slice(), 9, 2, b"cyber: ".as_slice()),
+        (PASS.as_slice(), 9, 3, b"cyber: out.rec".as_slice()),
     ] {
         let mut err = MemSink::new(alloc);
         err.fail_at(write)?;

@@ -10,13 +10,13 @@ use std::test::Fail;
 /// The calls that make the files of the chain.
 const CALLS_BEFORE: u64 = 8;
 
-/// A size and a read of each of three files, a size of the record, a read of its header and of a
-/// head and a body of each of its four sections, the making of the record, its eight pieces, the
-/// making of the trace and its piece.
-const CALLS: usize = 27;
+/// A size and a read of each of three files, a size of the record, a read of its header and four of
+/// its sections, of 16, 32 and 64 bytes and of the index; the making of the record, its eight pieces,
+/// the making of the trace and its piece.
+const CALLS: usize = 23;
 
 /// The first call that puts a piece of the record.
-const FIRST_PUT: usize = 18;
+const FIRST_PUT: usize = 14;
 
 /// Where the pieces before each piece of the record end; the last one is put over the first.
 const ENDS: [usize; 8] = [0, 2064, 2088, 2112, 2136, 2160, 2212, 2318];
@@ -34,8 +34,8 @@ fn line_of(call: usize) -> &'static [u8] {
         1 | 2 => b"cyber: d.dag: the store failed\n".as_slice(),
         3 | 4 => b"cyber: p.conf: the store failed\n".as_slice(),
         5 | 6 => b"cyber: r.conf: the store failed\n".as_slice(),
-        7..=16 => b"cyber: a.rec: the store failed\n".as_slice(),
-        17..=25 => b"cyber: out.rec: the store failed\n".as_slice(),
+        7..=12 => b"cyber: a.rec: the store failed\n".as_slice(),
+        13..=21 => b"cyber: out.rec: the store failed\n".as_slice(),
         _ => b"cyber: t.txt: the store failed\n".as_slice(),
     }
 }
@@ -61,8 +61,8 @@ fn stands(rt: &impl Abort, alloc: Global, ran: &Ran, call: usize, keep: usize) -
     assert_eq!(rt; ran.err.bytes(), line_of(call), "{call}");
     assert_eq!(rt; ran.out.bytes(), b"".as_slice(), "{call}");
     let record = match call {
-        1..=17 => None,
-        18..=25 => Some(record_at(alloc, call - FIRST_PUT, keep)?),
+        1..=13 => None,
+        14..=21 => Some(record_at(alloc, call - FIRST_PUT, keep)?),
         _ => Some(out_record(alloc)?),
     };
     let want = record.as_ref().map(|bytes| bytes.as_slice());

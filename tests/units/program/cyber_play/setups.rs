@@ -68,8 +68,8 @@ fn told(alloc: Global, answer: Result<Replay, SetupError>) -> Result<String, Fai
     })
 }
 
-// Of each file the size is asked, and then it is read; of the record the header, and the head and
-// the body of each section, of which it has four.
+// Of each file the size is asked, and then it is read; of the record the header, and then by four
+// reads its four sections.
 #[test]
 fn names_the_file_whose_call_failed(rt: HostRuntime) -> Result<(), Fail> {
     let alloc = rt.alloc();
@@ -83,8 +83,8 @@ fn names_the_file_whose_call_failed(rt: HostRuntime) -> Result<(), Fail> {
         (7, "a.rec Store"),
         (8, "a.rec Store"),
         (9, "a.rec Store"),
-        (16, "a.rec Store"),
-        (17, "set up"),
+        (12, "a.rec Store"),
+        (13, "set up"),
     ] {
         let mut store = chain_store(alloc)?;
         store.fail_at(CALLS_BEFORE + call, 0)?;
