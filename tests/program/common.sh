@@ -64,6 +64,20 @@ one_component() { # the class, the fields behind its name, and the component fil
   printf '%s\n' "$3" >files/p.conf
 }
 
+# Writes a DAG of components that read the same channels, and a component file for each.
+side_by_side() { # their class, how many, and the channels
+  local class=$1 count=$2 readers='' channel k
+  shift 2
+  for channel in "$@"; do
+    readers+=" readers { channel: \"$channel\" }"
+  done
+  for ((k = 0; k < count; k++)); do
+    echo "out: \"/o$k\"" >"files/p$k.conf"
+    echo "components { class_name: \"$class\" config { name: \"p$k\" config_file_path: \"p$k.conf\"$readers } }"
+  done >components
+  echo "module_config { $(cat components) }" >files/d.dag
+}
+
 # What components read, a command that writes a scheduler file, one that makes a cycle, and the words of a drive.
 READS_A='config_file_path: "p.conf" readers { channel: "/a" }'
 READS_IN='config_file_path: "p.conf" readers { channel: "/in" }'

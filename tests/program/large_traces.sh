@@ -1,4 +1,4 @@
-# A part of tests/program.sh, which reads it: `verify` of traces that are large in one thing. Each ends with what its files bring about, and
+# A part of tests/program.sh, which reads it: `verify` of traces and records that are large in one thing. Each ends with what its files bring about, and
 # not with want of memory. What a trace says beyond the first lines here is never written by a play.
 
 # Writes a trace of the first play of `pass` with further lines: so many calls behind its one, and then lines of the tape.
@@ -31,6 +31,21 @@ verifies_many_shadowed() {
   run play --serial "${PASS_FILES[@]}"
   ends 0 'done: played 1, shadowed 1000001, calls 1, written 2' ''
   verifies 0 'lawful: played 1, shadowed 1000001, calls 1, written 2' '' "${PASS_FILES[@]}"
+  rm -r files
+}
+
+# The one message has 128 MiB, and each of 17 components passes it on, so the record that is compared has 2.25 GiB. That takes ten seconds.
+verifies_a_record_above_2_gib() {
+  begin 'verifies a record that has more than 2 GiB'
+  mkdir files
+  side_by_side PassComponent 17 /a
+  python3 "$top/tests/large.py" files/in.rec content 134217728
+  run play --serial --dag d.dag --record in.rec --out out.rec --trace trace
+  ends 0 'done: played 1, shadowed 0, calls 17, written 18' ''
+  [ "$(stat -c %s files/out.rec)" -gt 2147483648 ]
+  count $? "$name: the record has $(stat -c %s files/out.rec) bytes"
+  run verify --dag d.dag --record in.rec --out out.rec --trace trace
+  ends 0 'lawful: played 1, shadowed 0, calls 17, written 18' ''
   rm -r files
 }
 
@@ -72,6 +87,7 @@ finds_a_bad_line_behind_many() {
 
 verifies_many_calls
 verifies_many_shadowed
+verifies_a_record_above_2_gib
 verifies_many_channels
 reads_many_names
 finds_a_bad_line_behind_many

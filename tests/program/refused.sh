@@ -1,19 +1,5 @@
 # A part of tests/program.sh, which reads it: files that are refused, each with its line, and files that are as large as may be.
 
-# Writes a DAG of components that read the same channels, and a component file for each.
-side_by_side() { # their class, how many, and the channels
-  local class=$1 count=$2 readers='' channel k
-  shift 2
-  for channel in "$@"; do
-    readers+=" readers { channel: \"$channel\" }"
-  done
-  for ((k = 0; k < count; k++)); do
-    echo "out: \"/o$k\"" >"files/p$k.conf"
-    echo "components { class_name: \"$class\" config { name: \"p$k\" config_file_path: \"p$k.conf\"$readers } }"
-  done >components
-  echo "module_config { $(cat components) }" >files/d.dag
-}
-
 # The record has one message more than may be played, which comes last.
 plays_as_many_as_may_be_played() {
   begin 'plays as many messages as may be played, and refuses to play one more'
