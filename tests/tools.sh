@@ -1120,7 +1120,7 @@ refuses_settings() {
   head -n 1 drives.csv >empty.csv
   mkdir empty
   local batch=("${call[@]}" --config program="$program")
-  fails_in_one_line 1 'batch: no such setting: prgram, treads; there are table, program, out, good, verify' "${batch[@]}" prgram=x treads=4
+  fails_in_one_line 1 'batch: no such setting: prgram, treads; there are table, program, out, good, verify, reports' "${batch[@]}" prgram=x treads=4
   fails_in_one_line 1 'batch: empty.csv: no drives' "${batch[@]}" table=empty.csv
   fails_in_one_line 1 "batch: .*No such file or directory: 'none.csv'" "${batch[@]}" table=none.csv
   fails_in_one_line 1 'batch: good=god: no such folder' "${batch[@]}" good=god
