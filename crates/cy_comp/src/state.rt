@@ -12,6 +12,6 @@ pub enum State {
         /// That time, in nanoseconds.
         until: u64,
     },
-    /// It had its last call.
+    /// It is never resumed again: it had its last call, or a stop ended it.
     Finished,
 }

@@ -15,7 +15,8 @@ pub struct PlayList {
     /// The places in their file of the messages that come from one, in the order in which they are
     /// played; a place is counted in messages from 0.
     pub places: Items<u32>,
-    /// How many messages of the file are not played, since the channel is written by a component.
+    /// How many messages of the file are not played, since a component writes their channel or it
+    /// carries the ticks of a timer.
     pub shadowed: u32,
     /// The times never fall.
     pub ghost timed: { IsTimed tokens },
