@@ -1,5 +1,5 @@
 -- A routine after one more call.
-use Rattle.std.proofs.Common.{ℕ, ◌+◌, ◌-◌, ◌≡◌, ◌≤◌, List, [], ◌∷◌, ◌++◌, length, Option, refl, sym, ap, ◌∙◌, arith, length-append}
+use Rattle.std.proofs.Common.{ℕ, ◌+◌, ◌-◌, ◌≡◌, List, [], ◌∷◌, ◌++◌, Option, refl, sym, ap, ◌∙◌}
 use Rattle.cy_msg.specs.declared.token.Tuple.{Tuple}
 use Rattle.cy_comp.specs.declared.kind.Kind.{Kind}
 use Rattle.cy_comp.specs.declared.state.State.{State}
@@ -20,7 +20,7 @@ tuples_of-push : (calls : List Call) (x : Call) → tuples_of (calls ++ x ∷ []
 tuples_of-push [] x = refl
 tuples_of-push (y ∷ rest) x = ap (λ ts. y.tuple ∷ ts) (tuples_of-push rest x)
 
-cursor_after-push : (calls : List Call) (x : Call) → cursor_after (calls ++ x ∷ []) ≡ x.position + 1
+pub cursor_after-push : (calls : List Call) (x : Call) → cursor_after (calls ++ x ∷ []) ≡ x.position + 1
 cursor_after-push [] x = refl
 cursor_after-push (y ∷ []) x = refl
 cursor_after-push (y ∷ z ∷ rest) x = cursor_after-push (z ∷ rest) x
@@ -46,13 +46,12 @@ taken_is k j s calls items pending out spare position tail tuple outcome kind pu
     ∙ ap (λ (o : Option Out). seen_as k s (calls ++ record { position = position; tail = tail; tuple = tuple; out = o } ∷ []) o (spare - 1)) same
 
 -- what its fields keep
-pub keeps : (b next : BodyView) (cursor after : ℕ) (calls items : List Call) (x : Call) (spare room wide : ℕ) → IsRoutine b cursor calls spare room → 1 ≤ spare
-    → next.kind ≡ b.kind → next.kept ≡ (step b.kind b.kept x.tuple).0 → items ≡ calls ++ x ∷ [] → after ≡ x.position + 1 → wide ≡ room
-    → IsRoutine next after items (spare - 1) wide
-keeps b next cursor after calls items x spare room wide r some kind kept more at same = record {
+pub keeps : (b next : BodyView) (cursor after : ℕ) (calls items : List Call) (x : Call) → IsRoutine b cursor calls
+    → next.kind ≡ b.kind → next.kept ≡ (step b.kind b.kept x.tuple).0 → items ≡ calls ++ x ∷ [] → after ≡ x.position + 1
+    → IsRoutine next after items
+keeps b next cursor after calls items x r kind kept more at = record {
   kept = kept ∙ ap (λ k. (step b.kind k x.tuple).0) r.kept ∙ sym (kept_after-push b.kind (opening_of b.kind) (tuples_of calls) x.tuple)
       ∙ ap (λ ts. kept_after b.kind (opening_of b.kind) ts) (sym (ap tuples_of more ∙ tuples_of-push calls x))
       ∙ ap (λ k. kept_after k (opening_of k) (tuples_of items)) (sym kind);
   behind = at ∙ sym (ap cursor_after more ∙ cursor_after-push calls x);
-  fits = omega (arith, ap length more, length-append calls (x ∷ []), r.fits, same);
 }

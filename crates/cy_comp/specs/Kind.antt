@@ -1,5 +1,5 @@
 -- What a class asks of its component's wiring and parameters.
-use Rattle.std.specs.Prelude.{ℕ, ◌&&◌, Bool, true, nat_le}
+use Rattle.std.specs.Prelude.{ℕ, ◌&&◌, Bool, true, false, nat_le}
 use Rattle.cy_comp.specs.declared.kind.Kind.{Kind}
 use Rattle.cy_comp.specs.declared.kind.Kind.TheVariants as kind
 use Rattle.cy_comp.specs.declared.kind.TheConstants.{MOST_WINDOW}
@@ -14,3 +14,8 @@ abbrev pub is_kind_in_range : Kind → Bool
 is_kind_in_range (kind.Window n) = nat_le 1 n && nat_le n MOST_WINDOW
 is_kind_in_range (kind.Take n) = nat_le 1 n && nat_le n 4294967295
 is_kind_in_range _ = true
+
+-- Whether components of the class hold their outputs back.
+abbrev pub holds_outputs : Kind → Bool
+holds_outputs (kind.Hold delay) = true
+holds_outputs _ = false

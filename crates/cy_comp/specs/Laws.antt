@@ -1,11 +1,17 @@
 -- What the components of all classes have in common.
-use Rattle.std.specs.Prelude.{ℕ, ◌≡◌, ◌≤◌, ◌⊎◌, ℤ, List, [], ◌∷◌, ◌++◌, slice_get, Some, None}
+use Rattle.std.specs.Prelude.{ℕ, ◌≡◌, ◌≢◌, ◌≤◌, ◌<◌, ◌⊎◌, ◌↔◌, ℤ, true, List, [], ◌∷◌, ◌++◌, slice_get}
+use Rattle.std.specs.Prelude.{Some, None}
 use Rattle.cy_msg.specs.declared.token.Token.{Token}
 use Rattle.cy_msg.specs.declared.token.Tuple.{Tuple}
 use Rattle.cy_msg.specs.Tuple.{first_of, messages_of}
+use Rattle.cy_fuse.specs.declared.overflow.Overflow.{Overflow}
+use Rattle.cy_fuse.specs.Fusion.{Arrival}
 use Rattle.cy_comp.specs.declared.kind.Kind.{Kind}
+use Rattle.cy_comp.specs.declared.call.Call.{Call}
 use Rattle.cy_comp.specs.declared.call.Outcome.{Outcome}
 use Rattle.cy_comp.specs.declared.call.Outcome.TheVariants.{Emit, Hold, Last}
+use Rattle.cy_comp.specs.Kind.{holds_outputs}
+use Rattle.cy_comp.specs.Calls.{held_until, LawfulCalls}
 use Rattle.cy_comp.specs.Step.{held_within, passed_at, made_at, last_wake, outcome_after}
 
 -- A message of a tuple.
@@ -43,3 +49,15 @@ pub data IsAnswer (tuples : List Tuple) (tuple : Tuple) : Outcome → Type 0 whe
 abbrev pub OutcomesAreAnswers : Type 0
 OutcomesAreAnswers = (k : Kind) (earlier : List Tuple) (tuple : Tuple)
     → IsAnswer (earlier ++ tuple ∷ []) tuple (outcome_after k earlier tuple)
+
+-- Whatever its class, an output of a component is held back exactly where the class says so.
+abbrev pub HoldsByClass : Type 0
+HoldsByClass = (k : Kind) (earlier : List Tuple) (tuple : Tuple)
+    → (held_until (Some (outcome_after k earlier tuple)) ≢ None) ↔ (holds_outputs k ≡ true)
+
+-- Lawful calls take their tuples in order, each at most once.
+abbrev pub PositionsRise : Type 0
+PositionsRise = (k : Kind) (arrivals : List Arrival) (readers queue : ℕ) (overflow : Overflow)
+    (calls : List Call) → LawfulCalls k arrivals readers queue overflow calls
+    → (m n : ℕ) (x y : Call) → slice_get calls m ≡ Some x → slice_get calls n ≡ Some y → m < n
+    → x.position < y.position

@@ -1,3 +1,5 @@
+pub mod CallsView
+pub mod Rows
 pub mod Class
 pub mod Keeping
 pub mod Sums

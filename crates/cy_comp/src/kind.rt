@@ -42,3 +42,15 @@ pub enum Kind {
         n: u32,
     },
 }
+
+impl Kind {
+    ghost use Rattle.std.specs.Prelude.{◌≡◌};
+    ghost use Rattle.cy_comp.specs.Kind.{holds_outputs};
+
+    /// Whether components of the class hold their outputs back.
+    pub fn holds_outputs(self) -> bool
+        ensures { result ≡ holds_outputs self }
+    {
+        matches!(self, Kind::Hold { .. })
+    }
+}

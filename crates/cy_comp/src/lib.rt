@@ -6,8 +6,8 @@
 
 mod body;
 mod call;
+mod calls;
 mod class;
-mod ended;
 mod error;
 mod kind;
 mod laws;
@@ -20,10 +20,10 @@ mod wiring;
 
 pub use body::{Body, Component};
 pub use call::{Call, Out, Outcome};
-pub use ended::next_cursor;
+pub use calls::Calls;
 pub use error::CompError;
 pub use kind::{Kind, MOST_WINDOW};
-pub use laws::outcomes_are_answers;
+pub use laws::{holds_by_class, outcomes_are_answers, positions_rise};
 pub use plan::Plan;
 pub use routine::Routine;
 pub use state::State;

@@ -5,7 +5,8 @@ ghost use Rattle.cy_comp.specs.Step.{out_of};
 ghost use Rattle.cy_comp.specs.Calls.{cursor_after};
 ghost use Rattle.cy_comp.specs.Routine.{new_routine, answer_to, MayTake, taken as after_call};
 
-use crate::{Body, Call, CompError, Component, Kind, Out, Outcome, State};
+use crate::calls::CallList;
+use crate::{Body, Call, Calls, CompError, Component, Kind, Out, Outcome, State};
 use cy_fuse::Cursor;
 use cy_msg::Tuple;
 use std::alloc::Global;
@@ -18,13 +19,11 @@ pub struct Routine {
     body: Body,
     state: State,
     cursor: Cursor,
-    calls: Vec<Call>,
+    calls: CallList,
     pending: Option<Out>,
-    spare: u32,
 }
 
 impl Model for Routine {
-    ghost use Rattle.std.specs.Prelude.{vec_capacity};
     ghost use Rattle.cy_comp.specs.Routine.{RoutineView};
 
     ghost Value = { RoutineView };
@@ -34,13 +33,12 @@ impl Model for Routine {
     ghost view = { λ r. record {
       kind = r.body.kind;
       state = r.state;
-      calls = r.calls.items;
+      calls = r.calls.made;
       pending = r.pending;
-      spare = r.spare;
+      spare = r.calls.spare;
     } };
 
-    ghost invariant = { λ r.
-        IsRoutine r.body r.cursor r.calls.items r.spare (vec_capacity r.calls) };
+    ghost invariant = { λ r. IsRoutine r.body r.cursor r.calls.made };
 }
 
 impl Routine {
@@ -53,9 +51,8 @@ impl Routine {
             body: Body::new(alloc, kind)?,
             state: State::Ready,
             cursor: Cursor::new(),
-            calls: Vec::with_capacity(alloc, spare as usize)?,
+            calls: CallList::with_room(alloc, spare)?,
             pending: None,
-            spare,
         })
     }
 
@@ -74,10 +71,10 @@ impl Routine {
     }
 
     /// Its calls, in order.
-    pub fn calls(&self) -> &[Call]
-        ensures { result.now ≡ self.now.calls }
+    pub fn calls(&self) -> Calls<'_>
+        ensures { result ≡ self.now.calls }
     {
-        self.calls.as_slice()
+        self.calls.calls()
     }
 
     /// The output that waits to be sent, or none where none waits.
@@ -104,7 +101,7 @@ impl Routine {
     {
         let outcome = self.body.step(&tuple);
         let out = output_of(&outcome);
-        self.calls.push_reserved(Call {
+        self.calls.push(&Call {
             position,
             tail,
             tuple,
@@ -112,7 +109,6 @@ impl Routine {
         });
         self.pending = out;
         self.cursor = Cursor::at(position + 1);
-        self.spare -= 1;
         outcome
     }
 

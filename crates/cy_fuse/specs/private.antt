@@ -1,2 +1,3 @@
+pub mod Arriving
 pub mod Caching
 pub mod Visiting

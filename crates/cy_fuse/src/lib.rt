@@ -7,6 +7,7 @@
 //! whatever it finds in place of an item that isn't kept any more.
 #![tactic(auto)]
 
+mod arrived;
 mod cache;
 mod cursor;
 mod error;
@@ -15,6 +16,7 @@ mod laws;
 mod overflow;
 mod visitor;
 
+pub use arrived::Arrived;
 pub use cache::CacheBuffer;
 pub use cursor::Cursor;
 pub use error::FuseError;

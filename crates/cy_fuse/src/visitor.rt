@@ -6,25 +6,13 @@ ghost use Rattle.cy_msg.specs.declared.token.Tuple.TheVariants.{One};
 ghost use Rattle.cy_fuse.specs.Visitor.{prepared, arrived, visited, position_at, index_after};
 ghost use Rattle.cy_fuse.specs.private.Visiting.{message_at, tuple_at, JoinsLast};
 
-use crate::{CacheBuffer, Cursor, FuseError, Overflow, fetch_at};
+use crate::{Arrived, CacheBuffer, Cursor, FuseError, Overflow, fetch_at};
 use cy_msg::{Token, Tuple};
 use std::alloc::Global;
 use std::marker::Model;
 
 // The most readers that a component has.
 const MOST_ROLES: usize = 4;
-
-// What is appended where an arrival is to stand.
-const BLANK: (u8, Token) = (
-    0,
-    Token {
-        channel: 0,
-        seq: 0,
-        time: 0,
-        whole: None,
-        origin: None,
-    },
-);
 
 /// The arrivals at a component, and the last tuples that they make. Contracts see it as a
 /// `VisitorView`: how many tuples it keeps, how many readers it has, where a fetch goes on whose
@@ -34,7 +22,7 @@ pub struct Visitor {
     roles: u8,
     overflow: Overflow,
     spare: u32,
-    arrivals: Vec<(u8, Token)>,
+    arrivals: Vec<Arrived>,
     // The place of each reader's last arrival.
     last: [Option<u32>; MOST_ROLES],
     // The last tuples, each by the places of the arrivals that it joins.
@@ -94,7 +82,7 @@ impl Visitor {
     }
 
     /// All arrivals, in order: the reader that each message came to, and the message.
-    pub fn arrivals(&self) -> &[(u8, Token)]
+    pub fn arrivals(&self) -> &[Arrived]
         ensures { result.now ≡ self.now.arrivals }
     {
         self.arrivals.as_slice()
@@ -108,7 +96,7 @@ impl Visitor {
         ensures { self.new ≡ arrived self.old role token }
     {
         let place = self.arrivals.len() as u32;
-        append(&mut self.arrivals, role, token);
+        self.arrivals.push_reserved(Arrived::new(role, token));
         self.last[role as usize] = Some(place);
         self.spare -= 1;
         if role != 0 {
@@ -162,20 +150,6 @@ impl Visitor {
     }
 }
 
-// Appends an arrival. It is set where it stands: a pair that is made first and then copied is read
-// back in pieces of other widths than it was written in, for which the processor waits.
-fn append(arrivals: &mut Vec<(u8, Token)>, role: u8, token: Token)
-    requires { vec_len arrivals.old < vec_capacity arrivals.old }
-    ensures items { arrivals.new.items ≡ arrivals.old.items ++ (role, token) ∷ [] }
-    ensures room { vec_capacity arrivals.new ≡ vec_capacity arrivals.old }
-{
-    let place = arrivals.len();
-    arrivals.push_reserved(BLANK);
-    let arrival = &mut arrivals[place];
-    arrival.0 = role;
-    arrival.1 = token;
-}
-
 // The places of the tuple that an arrival of the first reader makes: it is joined with the last
 // arrival of each other reader, where each has one.
 fn joined(roles: u8, place: u32, last: &[Option<u32>; MOST_ROLES]) -> Option<[u32; MOST_ROLES]>
@@ -191,16 +165,16 @@ fn joined(roles: u8, place: u32, last: &[Option<u32>; MOST_ROLES]) -> Option<[u3
 }
 
 // The message of the arrival at a place.
-fn message(arrivals: &[(u8, Token)], place: u32) -> Token
+fn message(arrivals: &[Arrived], place: u32) -> Token
     requires { IsSome (message_at arrivals.now place) }
     ensures { message_at arrivals.now place ≡ Some result }
 {
-    arrivals[place as usize].1
+    arrivals[place as usize].message()
 }
 
 // The tuple of the messages at these places.
 #[inline(always)]
-fn tuple_of(roles: u8, arrivals: &[(u8, Token)], places: [u32; MOST_ROLES]) -> Tuple
+fn tuple_of(roles: u8, arrivals: &[Arrived], places: [u32; MOST_ROLES]) -> Tuple
     requires roles { (1 ≤ roles) × (roles ≤ 4) }
     requires there { IsSome (tuple_at roles arrivals.now places) }
     ensures { tuple_at roles arrivals.now places ≡ Some result }

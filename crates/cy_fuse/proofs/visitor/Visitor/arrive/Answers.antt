@@ -1,4 +1,4 @@
-use Rattle.std.proofs.Common.{◌<◌, ◌≤◌, ap, arith, List, ℕ}
+use Rattle.std.proofs.Common.{◌<◌, ◌≤◌, ◌++◌, ◌∷◌, [], ◌∙◌, ap, arith, List, ℕ}
 use Rattle.cy_fuse.specs.Cache.{Cache}
 use Rattle.cy_fuse.specs.Visitor.{VisitorView}
 use Rattle.cy_fuse.proofs.Fusing.{fused-few}
@@ -18,8 +18,8 @@ invariant_of-self c =
     (record {
       coming = record { visitor = c.self.invariant; known = within; some = room };
       place_is = omega (arith, c.len-place.ensures, c.self.inside.arrivals.ok.0);
-      items_are = c.append.ensures.items;
-      room_is = c.append.ensures.room;
+      items_are = c.push_reserved.ensures.items ∙ ap (λ a. c.self.inside.arrivals.items ++ a ∷ []) c.new.ensures;
+      room_is = c.push_reserved.ensures.capacity;
     })
     c.if-role-ne0.true
 
@@ -31,8 +31,8 @@ invariant_of-self-in-Some c =
     (record {
       coming = record { visitor = c.self.invariant; known = within; some = room };
       place_is = omega (arith, c.len-place.ensures, c.self.inside.arrivals.ok.0);
-      items_are = c.append.ensures.items;
-      room_is = c.append.ensures.room;
+      items_are = c.push_reserved.ensures.items ∙ ap (λ a. c.self.inside.arrivals.items ++ a ∷ []) c.new.ensures;
+      room_is = c.push_reserved.ensures.capacity;
     })
     c.joined.result c.joined.ensures c.in-Some.places c.in-Some.is)
 
@@ -44,7 +44,7 @@ invariant_of-self-in_default c =
     (record {
       coming = record { visitor = c.self.invariant; known = within; some = room };
       place_is = omega (arith, c.len-place.ensures, c.self.inside.arrivals.ok.0);
-      items_are = c.append.ensures.items;
-      room_is = c.append.ensures.room;
+      items_are = c.push_reserved.ensures.items ∙ ap (λ a. c.self.inside.arrivals.items ++ a ∷ []) c.new.ensures;
+      room_is = c.push_reserved.ensures.capacity;
     })
     c.joined.result c.joined.ensures c.in_default.is

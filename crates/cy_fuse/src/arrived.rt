@@ -1,0 +1,76 @@
+// A message that came to a reader, in little memory.
+ghost use Rattle.std.specs.Prelude.{◌≡◌};
+
+use cy_msg::Token;
+use std::marker::Model;
+
+/// A message and the number of the reader that it came to, in 32 bytes; a `Token` alone takes 40.
+/// Contracts see it as an `Arrival`.
+#[derive(Drop)]
+pub struct Arrived {
+    time: u64,
+    whole: i64,
+    channel: u32,
+    seq: u32,
+    origin: u32,
+    has_whole: bool,
+    has_origin: bool,
+    role: u8,
+}
+
+impl Model for Arrived {
+    ghost use Rattle.cy_fuse.specs.Fusion.{Arrival};
+
+    ghost Value = { Arrival };
+
+    ghost use Rattle.cy_fuse.specs.private.Arriving.{given};
+
+    ghost view = { λ a. (a.role, record {
+      channel = a.channel;
+      seq = a.seq;
+      time = a.time;
+      whole = given a.has_whole a.whole;
+      origin = given a.has_origin a.origin;
+    }) };
+}
+
+impl Arrived {
+    /// A message that came to the reader of this number.
+    #[inline(always)]
+    pub fn new(role: u8, message: Token) -> Self
+        ensures { result ≡ (role, message) }
+    {
+        Arrived {
+            time: message.time,
+            whole: message.whole.unwrap_or(0),
+            channel: message.channel,
+            seq: message.seq,
+            origin: message.origin.unwrap_or(0),
+            has_whole: message.whole.is_some(),
+            has_origin: message.origin.is_some(),
+            role,
+        }
+    }
+
+    /// The number of the reader.
+    #[inline(always)]
+    pub fn role(&self) -> u8
+        ensures { result ≡ self.now.0 }
+    {
+        self.role
+    }
+
+    /// The message.
+    #[inline(always)]
+    pub fn message(&self) -> Token
+        ensures { result ≡ self.now.1 }
+    {
+        Token {
+            channel: self.channel,
+            seq: self.seq,
+            time: self.time,
+            whole: if self.has_whole { Some(self.whole) } else { None },
+            origin: if self.has_origin { Some(self.origin) } else { None },
+        }
+    }
+}
