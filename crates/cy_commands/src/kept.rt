@@ -16,8 +16,8 @@ use cy_tools::{File, ToolError};
 use itoa::Buffer;
 use std::alloc::Global;
 
-/// As many bytes as a line has at most that tells of messages: two numbers of 20 digits, and 40 around
-/// them.
+/// As many bytes as a line has at most that tells of messages: two numbers of 20 digits, and 40
+/// around them.
 pub(crate) const LINE_ROOM: usize = 80;
 
 /// Tests that what is written is another file than what is read, and not standard output.

@@ -1,6 +1,6 @@
 -- What the components of all classes have in common.
-use Rattle.std.specs.Prelude.{ℕ, ◌≡◌, ◌≢◌, ◌≤◌, ◌<◌, ◌⊎◌, ◌↔◌, ℤ, true, List, [], ◌∷◌, ◌++◌, slice_get}
-use Rattle.std.specs.Prelude.{Some, None}
+use Rattle.std.specs.Prelude.{ℕ, ◌≡◌, ◌≢◌, ◌≤◌, ◌<◌, ◌⊎◌, ◌↔◌, ℤ, true, List, [], ◌∷◌, ◌++◌}
+use Rattle.std.specs.Prelude.{slice_get, Some, None}
 use Rattle.cy_msg.specs.declared.token.Token.{Token}
 use Rattle.cy_msg.specs.declared.token.Tuple.{Tuple}
 use Rattle.cy_msg.specs.Tuple.{first_of, messages_of}

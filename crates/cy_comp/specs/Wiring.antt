@@ -28,8 +28,8 @@ trigger_after plans zero c = Some c
 trigger_after plans (suc n) c = option_and_then (trigger_after plans n) (trigger_of plans c)
 
 -- What a component keeps to that is triggered by ticks of its own, one each so many milliseconds:
--- the ticks stand on the one channel that it reads, which no component writes, and one of them waits
--- at most.
+-- the ticks stand on the one channel that it reads, which no component writes, and at most one of
+-- them waits.
 pub record IsTimer (plans : List Plan) (a : Plan) (interval : ℕ) : Type 0 where
   pub some : 1 ≤ interval
   pub reader : length a.readers ≡ 1

@@ -20,7 +20,7 @@ pub struct Plan {
     pub out: u32,
     /// The type of the messages on that channel.
     pub out_type: Text,
-    /// Each how many milliseconds a tick comes to the channel that it reads; none where it reads what
-    /// others send.
+    /// How many milliseconds lie between the ticks on the channel that it reads; none where it reads
+    /// what others send.
     pub interval: Option<u32>,
 }

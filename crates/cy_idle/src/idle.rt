@@ -348,8 +348,8 @@ impl Idle {
     }
 
     /// The player waits until no component is busy, or until there is news for its deputy, other
-    /// than was seen. Whether one of both came before a second was over: a gate may hold a component
-    /// until another one is called.
+    /// than was seen. Whether one of both came before a second was over: a gate may hold a
+    /// component until another one is called.
     pub fn await_turn<R: Wait>(&self, rt: &R, seen: u64) -> bool {
         if self.turns_soon(seen) {
             return true;

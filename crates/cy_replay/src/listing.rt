@@ -139,8 +139,8 @@ fn with_ticks(
 }
 
 /// All that is played of a record: its messages that a filter lets through and that stand neither
-/// on a channel that a component writes nor on one of ticks, in the order of play, with the ticks of
-/// the wiring's timers among them; or a fault of the record.
+/// on a channel that a component writes nor on one of ticks, in the order of play, with the ticks
+/// of the wiring's timers among them; or a fault of the record.
 pub(crate) fn list_all(
     alloc: Global,
     name: &str,

@@ -3,7 +3,7 @@ ghost use Rattle.std.specs.Prelude.{◌≡◌};
 ghost use Rattle.cy_table.specs.Hold.{outputs_in};
 
 use crate::pass::TableError;
-use cy_comp::{Call, Out, Outcome, Routine, State};
+use cy_comp::{Calls, Out, Outcome, Routine, State};
 use cy_fuse::Cursor;
 use cy_msg::Tuple;
 use std::alloc::Global;
@@ -122,8 +122,8 @@ impl CountedRoutine {
 }
 
 // How many calls have an output.
-fn count(calls: &[Call]) -> usize
-    ensures { result ≡ outputs_in calls.now }
+fn count(calls: Calls<'_>) -> usize
+    ensures { result ≡ outputs_in calls.entry }
 {
-    calls.iter().filter(|call| call.out.is_some()).count()
+    calls.filter(|call| call.out.is_some()).count()
 }

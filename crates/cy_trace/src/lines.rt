@@ -6,7 +6,6 @@ ghost use Rattle.std.specs.List.{flat_map};
 ghost use Rattle.std.specs.Fmt.{decimal};
 ghost use Rattle.cy_msg.specs.declared.token.Token.{Token};
 ghost use Rattle.cy_fuse.specs.Fusion.{Arrival};
-ghost use Rattle.cy_comp.specs.Calls.{cursor_after};
 ghost use Rattle.cy_trace.specs.TraceText.{title, played_line, roles_text, value_text, out_text};
 ghost use Rattle.cy_trace.specs.TraceText.{seqs_text, call_line, call_lines, end_line};
 ghost use Rattle.cy_trace.specs.TraceText.{component_text, overflow_word, tape_line, told};
@@ -17,8 +16,8 @@ ghost use Rattle.cy_trace.specs.private.OutsAfter.{outs_after};
 use crate::numeral::{Numeral, put_kept};
 use crate::page::{ROOM, put_byte, put_number, put_signed, put_word};
 use crate::start::{LineStart, are_short, line_starts, put_start};
-use cy_comp::{Call, Out, Plan, next_cursor};
-use cy_fuse::Overflow;
+use cy_comp::{Call, Calls, Out, Plan};
+use cy_fuse::{Arrived, Overflow};
 use cy_msg::{Names, Token, Tuple, push_quoted};
 use itoa::{Buffer, Integer};
 use std::alloc::{AllocError, Global};
@@ -188,34 +187,36 @@ fn outs_of(call: &Call) -> usize
 fn put_calls(
     page: &mut [u8; ROOM],
     before: usize,
-    calls: &[Call],
+    calls: Calls<'_>,
     numeral: &mut Numeral,
 ) -> (usize, usize)
-    requires countable { before + length calls.now < 2 ^ 64 }
-    requires room { 195 * length calls.now ≤ 4096 }
-    ensures text { take result.0 page.new ≡ call_lines before calls.now }
+    requires countable { before + length calls < 2 ^ 64 }
+    requires room { 195 * length calls ≤ 4096 }
+    ensures text { take result.0 page.new ≡ call_lines before calls.entry }
     ensures end { result.0 ≤ 4096 }
-    ensures after { result.1 ≡ outs_after before calls.now }
+    ensures after { result.1 ≡ outs_after before calls.entry }
 {
     let mut at = 0;
     let mut after = before;
-    for call in calls {
-        at = put_call(page, at, after, call, numeral);
-        after += outs_of(call);
+    let mut rest = calls;
+    while let Some(call) = rest.next() {
+        at = put_call(page, at, after, &call, numeral);
+        after += outs_of(&call);
     }
     (at, after)
 }
 
 // Calls, from a component's first one on.
-fn push_call_lines(to: &mut Vec<u8>, calls: &[Call]) -> Result<(), AllocError>
-    ensures { OnOk result (to.new.items ≡ to.old.items ++ call_lines 0 calls.now) }
+fn push_call_lines(to: &mut Vec<u8>, calls: Calls<'_>) -> Result<(), AllocError>
+    ensures { OnOk result (to.new.items ≡ to.old.items ++ call_lines 0 calls.entry) }
 {
     let mut page = [0; ROOM];
     let mut numeral = Numeral::zero();
     let mut before = 0;
     let mut rest = calls;
     while !rest.is_empty() {
-        let (some, others) = rest.split_at(rest.len().min(AT_ONCE));
+        let some = rest.len().min(AT_ONCE);
+        let (some, others) = rest.split_at(some);
         let (end, after) = put_calls(&mut page, before, some, &mut numeral);
         to.extend_from_slice(&page[..end])?;
         before = after;
@@ -225,7 +226,7 @@ fn push_call_lines(to: &mut Vec<u8>, calls: &[Call]) -> Result<(), AllocError>
 }
 
 // A digit for each arrival, its role.
-fn push_roles(to: &mut Vec<u8>, arrivals: &[(u8, Token)]) -> Result<(), AllocError>
+fn push_roles(to: &mut Vec<u8>, arrivals: &[Arrived]) -> Result<(), AllocError>
     requires { (n : ℕ) (a : Arrival) → slice_get arrivals.now n ≡ Some a → a.0 < 10 }
     ensures { OnOk result (to.new.items ≡ to.old.items ++ roles_text arrivals.now) }
 {
@@ -236,28 +237,27 @@ fn push_roles(to: &mut Vec<u8>, arrivals: &[(u8, Token)]) -> Result<(), AllocErr
 }
 
 // The digits alone, none where there is no arrival.
-fn push_digits(to: &mut Vec<u8>, arrivals: &[(u8, Token)]) -> Result<(), AllocError>
+fn push_digits(to: &mut Vec<u8>, arrivals: &[Arrived]) -> Result<(), AllocError>
     requires { (n : ℕ) (a : Arrival) → slice_get arrivals.now n ≡ Some a → a.0 < 10 }
     ensures { OnOk result (to.new.items ≡ to.old.items
         ++ map (λ (a : Arrival). 48 + a.0) arrivals.now) }
 {
     to.reserve(arrivals.len())?;
-    for (role, _) in arrivals {
-        to.push(b'0' + *role)?;
+    for arrival in arrivals {
+        to.push(b'0' + arrival.role())?;
     }
     Ok(())
 }
 
 // Whether a component has ended, and where its next fetch would begin.
-fn push_end_line(to: &mut Vec<u8>, ended: bool, calls: &[Call]) -> Result<(), AllocError>
-    ensures { OnOk result (to.new.items ≡ to.old.items
-        ++ end_line ended (cursor_after calls.now)) }
+fn push_end_line(to: &mut Vec<u8>, ended: bool, next: u128) -> Result<(), AllocError>
+    ensures { OnOk result (to.new.items ≡ to.old.items ++ end_line ended next) }
 {
     let state = if ended { "FINISHED" } else { "DATA_WAIT" };
     to.extend_from_slice(b"end ")?;
     to.extend_from_slice(state.as_bytes())?;
     to.extend_from_slice(b" next ")?;
-    push_number(to, next_cursor(calls))?;
+    push_number(to, next)?;
     to.extend_from_slice(b"\n")
 }
 
@@ -287,13 +287,13 @@ pub(crate) fn push_component(
     to: &mut Vec<u8>,
     version: u32,
     plan: &Plan,
-    arrivals: &[(u8, Token)],
-    calls: &[Call],
+    arrivals: &[Arrived],
+    calls: Calls<'_>,
     ended: bool,
 ) -> Result<(), AllocError>
     requires { (n : ℕ) (a : Arrival) → slice_get arrivals.now n ≡ Some a → a.0 < 10 }
     ensures { OnOk result (to.new.items ≡ to.old.items
-        ++ component_text version plan.now arrivals.now calls.now ended) }
+        ++ component_text version plan.now arrivals.now calls.entry ended) }
 {
     to.extend_from_slice(b"component ")?;
     push_quoted(to, plan.name.as_str().as_bytes(), true)?;
@@ -301,8 +301,9 @@ pub(crate) fn push_component(
     to.extend_from_slice(b"\nroles ")?;
     push_roles(to, arrivals)?;
     to.extend_from_slice(b"\n")?;
+    let next = calls.next_cursor();
     push_call_lines(to, calls)?;
-    push_end_line(to, ended, calls)
+    push_end_line(to, ended, next)
 }
 
 // A message of the tape, but for what the lines of its channel begin with.

@@ -15,7 +15,7 @@ ghost use Rattle.cy_trace.specs.TraceText.{trace_text as text_of, version_of};
 use crate::TraceError;
 use crate::lines::{push_component, push_head, push_tape_lines};
 use crate::typed::trace_is_read_back;
-use cy_comp::{Call, Plan, State, Wiring};
+use cy_comp::{Calls, Plan, State, Wiring};
 use cy_fuse::Overflow;
 use cy_msg::Bytes;
 use std::alloc::{AllocError, Global};
@@ -149,10 +149,10 @@ fn has_ended(world: &World, component: u32) -> bool
 
 /// The calls of a component of a world whose run has come to its end. Nobody holds a croutine
 /// there, so none of them is still to be stepped.
-pub(crate) fn calls_of(world: &World, component: u32) -> &[Call]
+pub(crate) fn calls_of(world: &World, component: u32) -> Calls<'_>
     requires quiet { Quiet (plain_of world.now) }
     requires known { component < length (plain_of world.now).routes }
-    ensures { result.now ≡ (plain_of world.now).calls component }
+    ensures { result ≡ (plain_of world.now).calls component }
 {
     world.sound();
     world.routine(component).calls()

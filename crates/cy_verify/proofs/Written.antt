@@ -5,7 +5,8 @@ use Rattle.std.specs.List.{find, list_any}
 use Rattle.cy_comp.specs.declared.plan.Plan.{Plan}
 use Rattle.wake_core.specs.declared.route.Route.{Route}
 use Rattle.wake_core.specs.Run.{route_of, routes_of, writes_from}
-use Rattle.cy_verify.specs.private.Passes.{is_hold, held_on}
+use Rattle.cy_verify.specs.private.Passes.{held_on}
+use Rattle.cy_comp.specs.Kind.{holds_outputs}
 
 some_is : {X : Type 0} {a b : X} → Some a ≡ Some b → a ≡ b
 some_is e = cc
@@ -24,7 +25,7 @@ held_written [] first channel = refl
 held_written (p ∷ plans) first channel = by (p.out == channel) (held_written plans (first + 1) channel)
   where
     by : (b : Bool) → is_some (held_on plans channel) ≡ is_some (writes_from (first + 1) (routes_of plans) channel)
-        → is_some (option_map (λ (p : Plan). is_hold p.kind) (cond b (Some p) (find (λ (p : Plan). p.out == channel) plans))) ≡ is_some (cond b (Some first) (writes_from (first + 1) (routes_of plans) channel))
+        → is_some (option_map (λ (p : Plan). holds_outputs p.kind) (cond b (Some p) (find (λ (p : Plan). p.out == channel) plans))) ≡ is_some (cond b (Some first) (writes_from (first + 1) (routes_of plans) channel))
     by true rest = refl
     by false rest = rest
 
@@ -46,7 +47,7 @@ pub record IsHeldBy (plans : List Plan) (channel : ℕ) (holds : Bool) : Type 0 
   pub plan : Plan
   pub at : slice_get plans place ≡ Some plan
   pub writes : plan.out ≡ channel
-  pub is : is_hold plan.kind ≡ holds
+  pub is : holds_outputs plan.kind ≡ holds
 
 pub held_by : (plans : List Plan) (channel : ℕ) (holds : Bool) → held_on plans channel ≡ Some holds → IsHeldBy plans channel holds
 held_by [] channel holds e = cc
@@ -56,28 +57,28 @@ held_by (p ∷ plans) channel holds e = elim (eqb_tells p.out channel) [
     plan = p;
     at = refl;
     writes = h.1;
-    is = some_is (ap (λ b. option_map (λ (p : Plan). is_hold p.kind) (cond b (Some p) (find (λ (p : Plan). p.out == channel) plans))) (sym h.0) ∙ e);
+    is = some_is (ap (λ b. option_map (λ (p : Plan). holds_outputs p.kind) (cond b (Some p) (find (λ (p : Plan). p.out == channel) plans))) (sym h.0) ∙ e);
   }
   | inr h ↦
-      let rest = held_by plans channel holds (ap (λ b. option_map (λ (p : Plan). is_hold p.kind) (cond b (Some p) (find (λ (p : Plan). p.out == channel) plans))) (sym h.0) ∙ e) in
+      let rest = held_by plans channel holds (ap (λ b. option_map (λ (p : Plan). holds_outputs p.kind) (cond b (Some p) (find (λ (p : Plan). p.out == channel) plans))) (sym h.0) ∙ e) in
       record { place = suc rest.place; plan = rest.plan; at = rest.at; writes = rest.writes; is = rest.is }
 ]
 
 held_some : (plans : List Plan) (c : ℕ) (p : Plan) → slice_get plans c ≡ Some p → held_on plans p.out ≢ None
 held_some [] c p at = λ none. cc
 held_some (q ∷ plans) zero p at = λ none. elim (eqb_tells q.out p.out) [
-  | inl h ↦ some_none (sym (ap (λ b. option_map (λ (p : Plan). is_hold p.kind) (cond b (Some q) (find (λ (r : Plan). r.out == p.out) plans))) h.0) ∙ none)
+  | inl h ↦ some_none (sym (ap (λ b. option_map (λ (p : Plan). holds_outputs p.kind) (cond b (Some q) (find (λ (r : Plan). r.out == p.out) plans))) h.0) ∙ none)
   | inr h ↦ h.1 (ap (λ (r : Plan). r.out) (some_is at))
 ]
   where
-    some_none : Some (is_hold q.kind) ≡ None → ⊥
+    some_none : Some (holds_outputs q.kind) ≡ None → ⊥
     some_none e = cc
 held_some (q ∷ plans) (suc c) p at = λ none. elim (eqb_tells q.out p.out) [
-  | inl h ↦ some_none (sym (ap (λ b. option_map (λ (p : Plan). is_hold p.kind) (cond b (Some q) (find (λ (r : Plan). r.out == p.out) plans))) h.0) ∙ none)
-  | inr h ↦ held_some plans c p at (sym (ap (λ b. option_map (λ (p : Plan). is_hold p.kind) (cond b (Some q) (find (λ (r : Plan). r.out == p.out) plans))) h.0) ∙ none)
+  | inl h ↦ some_none (sym (ap (λ b. option_map (λ (p : Plan). holds_outputs p.kind) (cond b (Some q) (find (λ (r : Plan). r.out == p.out) plans))) h.0) ∙ none)
+  | inr h ↦ held_some plans c p at (sym (ap (λ b. option_map (λ (p : Plan). holds_outputs p.kind) (cond b (Some q) (find (λ (r : Plan). r.out == p.out) plans))) h.0) ∙ none)
 ]
   where
-    some_none : Some (is_hold q.kind) ≡ None → ⊥
+    some_none : Some (holds_outputs q.kind) ≡ None → ⊥
     some_none e = cc
 
 -- No two components write one channel.
@@ -95,17 +96,17 @@ plan_at (q ∷ plans) zero x at = (q, refl, some_is at)
 plan_at (q ∷ plans) (suc c) x at = plan_at plans c x at
 
 -- A component's channel is written by it, held back or not.
-pub held_own : (plans : List Plan) → HasOwnOuts (routes_of plans) → (c : ℕ) (x : Route) → slice_get (routes_of plans) c ≡ Some x → held_on plans x.out ≡ Some (is_hold x.kind)
+pub held_own : (plans : List Plan) → HasOwnOuts (routes_of plans) → (c : ℕ) (x : Route) → slice_get (routes_of plans) c ≡ Some x → held_on plans x.out ≡ Some (holds_outputs x.kind)
 held_own plans own c x at =
     let r = plan_at plans c x at in
     let some = held_some plans c r.0 r.1 in
     by (held_on plans x.out) refl (λ none. some (ap (λ (y : Route). held_on plans y.out) r.2 ∙ none))
   where
-    by : (o : Option Bool) → held_on plans x.out ≡ o → held_on plans x.out ≢ None → o ≡ Some (is_hold x.kind)
+    by : (o : Option Bool) → held_on plans x.out ≡ o → held_on plans x.out ≢ None → o ≡ Some (holds_outputs x.kind)
     by None e some = absurd (some e)
     by (Some b) e some =
         let h = held_by plans x.out b e in
         let there = route_at plans h.place h.plan h.at in
         let same : h.place ≡ c = own h.place c (route_of h.plan) x there at h.writes in
         let is : route_of h.plan ≡ x = some_is (sym there ∙ ap (slice_get (routes_of plans)) same ∙ at) in
-        ap (λ k. Some k) (sym h.is ∙ ap (λ (y : Route). is_hold y.kind) is)
+        ap (λ k. Some k) (sym h.is ∙ ap (λ (y : Route). holds_outputs y.kind) is)

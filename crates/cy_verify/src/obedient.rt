@@ -10,7 +10,7 @@ ghost use Rattle.wake_core.specs.Run.{routes_of, writes_from};
 ghost use Rattle.cy_verify.specs.private.Passes.{IsEarly, late_from, TakesFrom};
 ghost use Rattle.cy_verify.specs.private.Passes.{HasOneLate};
 
-use cy_comp::{Call, Plan};
+use cy_comp::{Call, Calls, Plan};
 use cy_msg::{Token, Tuple};
 
 // The most readers that a component has.
@@ -88,11 +88,11 @@ fn has_late(call: &Call, before: [usize; MOST_READERS]) -> bool
 }
 
 // How many calls have a late message in their tuples, where so many of each reader are early.
-fn count_late(calls: &[Call], before: [usize; MOST_READERS]) -> usize
+fn count_late(calls: Calls<'_>, before: [usize; MOST_READERS]) -> usize
     ensures { result ≡ length
-        (filter (λ (x : Call). late_from 0 (messages_of x.tuple) before) calls.now) }
+        (filter (λ (x : Call). late_from 0 (messages_of x.tuple) before) calls.entry) }
 {
-    calls.iter().filter(|call| has_late(call, before)).count()
+    calls.filter(|call| has_late(call, before)).count()
 }
 
 // How many of each reader's messages stand in a part of the tape.
@@ -113,13 +113,13 @@ pub(crate) fn obeys(
     plans: &[Plan],
     after: u32,
     readers: &[u32],
-    calls: &[Call],
+    calls: Calls<'_>,
     tape: &[Token],
 ) -> bool
     requires few { length readers.now ≤ 4 }
     requires numbered { IsNumbered tape.now }
-    requires stand { TakesFrom readers.now calls.now tape.now }
-    ensures { Decides result (HasOneLate (routes_of plans.now) after calls.now tape.now) }
+    requires stand { TakesFrom readers.now calls tape.now }
+    ensures { Decides result (HasOneLate (routes_of plans.now) after calls.entry tape.now) }
 {
     let early = &tape[..early_part(plans, after, tape)];
     count_late(calls, counts_of(readers, early)) <= 1

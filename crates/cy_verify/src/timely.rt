@@ -3,21 +3,11 @@ ghost use Rattle.std.specs.Prelude.{◌≡◌, nat_lt, max, ◌==◌, Option, So
 ghost use Rattle.std.specs.Prelude.{option_map};
 ghost use Rattle.std.specs.Bool.{Decides};
 ghost use Rattle.std.specs.List.{find};
-ghost use Rattle.cy_verify.specs.private.Passes.{is_hold, held_on, later_of, is_later, IsApart};
+ghost use Rattle.cy_verify.specs.private.Passes.{held_on, later_of, is_later, IsApart};
 ghost use Rattle.cy_verify.specs.private.Passes.{in_time, held_then};
 
-use cy_comp::{Kind, Plan};
+use cy_comp::Plan;
 use cy_msg::Token;
-
-// Whether a component holds its outputs back.
-fn holds(kind: Kind) -> bool
-    ensures { result ≡ is_hold kind }
-{
-    match kind {
-        Kind::Hold { .. } => true,
-        _ => false,
-    }
-}
 
 // The component that writes a channel.
 fn writer_of(plans: &[Plan], channel: u32) -> Option<&Plan>
@@ -31,7 +21,7 @@ fn held_of(plans: &[Plan], channel: u32) -> Option<bool>
     ensures { result ≡ held_on plans.now channel }
 {
     let plan = writer_of(plans, channel)?;
-    Some(holds(plan.kind))
+    Some(plan.kind.holds_outputs())
 }
 
 /// Whether each played message behind an output that was held back has a later time.

@@ -21,8 +21,8 @@ info_known = placed (codes "file") ∷ []
 abbrev pub info_asked : Options → Option InfoWords
 info_asked o = option_map (λ file. record { file = file }) (o (codes "file"))
 
--- `check`, `info`, `play`, `make`, `verify`, `recover` and `split`, each with its words; `pass` is a
--- play, and the words of `verify` are those of the play that is judged.
+-- `check`, `info`, `play`, `make`, `verify`, `recover` and `split`, each with its words; `pass` is
+-- a play, and the words of `verify` are those of the play that is judged.
 pub data Command : Type 0 where
   Check : (words : CheckWords) → Command
   Info : (words : InfoWords) → Command

@@ -5,9 +5,8 @@ use Rattle.std.specs.Prelude.{slice_get, slice_index}
 use Rattle.std.specs.List.{find}
 use Rattle.cy_msg.specs.declared.token.Token.{Token}
 use Rattle.cy_msg.specs.Tuple.{messages_of}
-use Rattle.cy_comp.specs.declared.kind.Kind.{Kind}
-use Rattle.cy_comp.specs.declared.kind.Kind.TheVariants.{Hold}
 use Rattle.cy_comp.specs.declared.call.Call.{Call}
+use Rattle.cy_comp.specs.Kind.{holds_outputs}
 use Rattle.cy_comp.specs.declared.plan.Plan.{Plan}
 use Rattle.wake_core.specs.declared.route.Route.{Route}
 use Rattle.wake_core.specs.Run.{played_of}
@@ -16,15 +15,10 @@ use Rattle.cy_trace.specs.TraceText.{version_of}
 use Rattle.cy_trace.specs.declared.trace.Trace.{Trace}
 use Rattle.cy_trace.specs.declared.trace.TraceComponent.{TraceComponent}
 
--- Whether a component of this class holds its outputs back.
-abbrev pub is_hold : Kind → Bool
-is_hold (Hold delay) = true
-is_hold _ = false
-
 -- Whether the component that writes a channel holds its outputs back, where one writes it.
 abbrev pub held_on : List Plan → ℕ → Option Bool
 held_on plans channel =
-    option_map (λ (p : Plan). is_hold p.kind) (find (λ (p : Plan). p.out == channel) plans)
+    option_map (λ (p : Plan). holds_outputs p.kind) (find (λ (p : Plan). p.out == channel) plans)
 
 -- The later of a time and that before it, where there was any.
 abbrev pub later_of : Option ℕ → ℕ → ℕ

@@ -6,7 +6,7 @@ ghost use Rattle.wake_core.specs.private.Sent.{AreCounted};
 
 use super::opening::{Unheld, held_by_nobody};
 use crate::{CoreError, Parts, World};
-use cy_comp::{Call, Routine};
+use cy_comp::{Calls, Routine};
 use cy_msg::Items;
 use std::alloc::Global;
 
@@ -102,8 +102,8 @@ fn sent_of(routine: &Routine) -> u32
 }
 
 // How many outputs calls have.
-fn outputs_of(calls: &[Call]) -> usize
-    ensures { result ≡ outputs_of calls.now }
+fn outputs_of(calls: Calls<'_>) -> usize
+    ensures { result ≡ outputs_of calls.entry }
 {
-    calls.iter().filter(|call| call.out.is_some()).count()
+    calls.filter(|call| call.out.is_some()).count()
 }

@@ -4,6 +4,7 @@ ghost use Rattle.cy_comp.specs.Calls.{output};
 
 use crate::World;
 use cy_comp::{Out, Routine};
+use cy_fuse::Arrived;
 use cy_msg::{Stop, Token};
 
 impl World {
@@ -16,7 +17,7 @@ impl World {
 
     /// What arrived at a component, in order: the number of the reader that each message came to,
     /// and the message.
-    pub fn arrivals(&self, component: u32) -> &[(u8, Token)]
+    pub fn arrivals(&self, component: u32) -> &[Arrived]
         requires { component < length (plain_of self.now).routes }
         ensures arrivals { result.now ≡ (plain_of self.now).arrivals component }
         ensures roles { (n : ℕ) (a : Arrival) → slice_get result.now n ≡ Some a → a.0 < 4 }
