@@ -4,5 +4,6 @@ pub mod Step
 pub mod Laws
 pub mod Body
 pub mod Calls
+pub mod Options
 pub mod Routine
 pub mod Wiring

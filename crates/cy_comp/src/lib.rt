@@ -1,7 +1,8 @@
 //! Components: their classes, what a call of one gives, and how they are wired to channels.
 //!
 //! `specs/Step` has what each class answers, `specs/Calls` which calls are lawful and what they put
-//! out, `specs/Laws` what all classes have in common, `specs/Wiring` what a wiring keeps.
+//! out, `specs/Laws` what all classes have in common, `specs/Wiring` what a wiring keeps, and
+//! `specs/Options` what else component files say.
 #![tactic(auto)]
 
 mod body;
@@ -12,6 +13,7 @@ mod error;
 mod kind;
 mod laws;
 mod messages;
+mod options;
 mod plan;
 mod routine;
 mod state;
@@ -24,6 +26,7 @@ pub use calls::Calls;
 pub use error::CompError;
 pub use kind::{Kind, MOST_WINDOW};
 pub use laws::{holds_by_class, outcomes_are_answers, positions_rise};
+pub use options::Options;
 pub use plan::Plan;
 pub use routine::Routine;
 pub use state::State;

@@ -1,5 +1,5 @@
 // A component's place in a wiring.
-use crate::Kind;
+use crate::{Kind, Options};
 use cy_fuse::Overflow;
 use cy_msg::{Items, Text};
 
@@ -18,8 +18,8 @@ pub struct Plan {
     pub overflow: Overflow,
     /// The number of the channel that it writes.
     pub out: u32,
-    /// The type of the messages on that channel.
-    pub out_type: Text,
+    /// What its file says beside these.
+    pub options: Options,
     /// How many milliseconds lie between the ticks on the channel that it reads; none where it reads
     /// what others send.
     pub interval: Option<u32>,

@@ -1,4 +1,4 @@
--- What a component file says, and the first cause for which it is refused.
+-- The fields of a component file, what it says, and the first cause for which it is refused.
 use Rattle.std.specs.Prelude.{ℕ, ℤ, pos, ◌≡◌, not, List, [], ◌∷◌, map, codes, Option}
 use Rattle.std.specs.Prelude.{Some, None, is_none, unwrap_or, option_map, if◌then◌else◌}
 use Rattle.std.specs.Str.{bytes_eq}
@@ -7,12 +7,15 @@ use Rattle.cy_config.specs.Kinds.{whole_of, is_within}
 use Rattle.cy_config.specs.Lookups.{last_under, text_under, whole_under}
 use Rattle.cy_config.specs.Checks.{first_misfit, unknown_paths}
 use Rattle.cy_config.specs.Refusals.{first_of}
+use Rattle.cy_config.specs.Tables.{single}
+use Rattle.cy_config.specs.declared.field.Field.{Field}
+use Rattle.cy_config.specs.declared.field.Kind.TheVariants as field_kind
 use Rattle.cy_fuse.specs.declared.overflow.Overflow.{Overflow}
 use Rattle.cy_fuse.specs.declared.overflow.Overflow.TheVariants.{Newest, Oldest}
 use Rattle.cy_comp.specs.declared.kind.Kind.{Kind}
-use Rattle.cy_dag.specs.Classes.{kind_of, parameters_of}
-use Rattle.cy_dag.specs.Format.{config_field}
+use Rattle.cy_dag.specs.Classes.{Parameter, kind_of, parameters_of}
 use Rattle.cy_dag.specs.DagFile.{text_in, refuse_if}
+use Rattle.cy_dag.specs.Options.{Row, field_among, option_rows, options_in, refusal_among}
 use Rattle.cy_dag.specs.declared.class.Class.{Class}
 use Rattle.cy_dag.specs.declared.config.Config.{Config}
 use Rattle.cy_dag.specs.declared.error.DagError.{DagError}
@@ -60,10 +63,43 @@ abbrev pub parameter_refusal : ℕ → List ℕ → ℤ → ℤ → Fields → O
 parameter_refusal component name least most file =
     given_refusal component name least most (last_under name file)
 
+-- The channel that a component writes may not be missing.
+abbrev pub out_refusal : ℕ → Fields → Option DagError
+out_refusal component file =
+    refuse_if (is_none (text_under (codes "out") file)) (Missing component (codes "out"))
+
+-- The fields that the file of each class has.
+abbrev pub file_rows : List Row
+file_rows =
+    record { name = codes "out"; field = single field_kind.Text; refusal = out_refusal }
+    ∷ record {
+      name = codes "on_overflow";
+      field = single field_kind.Anything;
+      refusal = overflow_refusal;
+    }
+    ∷ []
+
+-- The parameters of a class.
+abbrev pub parameter_row : Parameter → Row
+parameter_row p = record {
+  name = p.name;
+  field = single field_kind.Anything;
+  refusal = λ component file. parameter_refusal component p.name p.least p.most file;
+}
+
+abbrev pub parameter_rows : Class → List Row
+parameter_rows c = map parameter_row (parameters_of c)
+
+-- All fields of a file of a class, in the order in which they are judged.
+abbrev pub tables_of : Class → List (List Row)
+tables_of c = file_rows ∷ parameter_rows c ∷ option_rows c ∷ []
+
+abbrev pub config_field : Class → List ℕ → Option (Field Class)
+config_field c name = first_of (map (λ rows. field_among rows name) (tables_of c))
+
 -- Why the parameters of a class are refused.
 abbrev pub kind_refusal : ℕ → Class → Fields → Option DagError
-kind_refusal component c file =
-    first_of (map (λ p. parameter_refusal component p.name p.least p.most file) (parameters_of c))
+kind_refusal component c file = refusal_among (parameter_rows c) component file
 
 -- A class with its parameters.
 abbrev pub kind_in : Class → Fields → Kind
@@ -71,19 +107,14 @@ kind_in c file = kind_of c (λ name. value_of name file)
 
 -- The first cause for which the fields of a class are refused, where each is of its kind.
 abbrev pub values_refusal : ℕ → Class → Fields → Option DagError
-values_refusal component c file = first_of (
-    refuse_if (is_none (text_under (codes "out") file)) (Missing component (codes "out"))
-    ∷ overflow_refusal component file
-    ∷ kind_refusal component c file
-    ∷ [])
+values_refusal component c file =
+    first_of (map (λ rows. refusal_among rows component file) (tables_of c))
 
 -- The first cause for which the file of a component is refused.
 abbrev pub class_refusal : ℕ → Class → Fields → Option DagError
 class_refusal component c file = first_of (
     option_map (λ path. Shape path) (first_misfit config_field c [] file)
-    ∷ refuse_if (is_none (text_under (codes "out") file)) (Missing component (codes "out"))
-    ∷ overflow_refusal component file
-    ∷ kind_refusal component c file
+    ∷ values_refusal component c file
     ∷ [])
 
 abbrev pub config_refusal : ℕ → Option Class → Fields → Option DagError
@@ -96,7 +127,7 @@ config_of c file = record {
   kind = kind_in c file;
   overflow = unwrap_or (overflow_of file) Newest;
   out = text_in (codes "out") file;
-  out_type = text_in (codes "out_type") file;
+  options = options_in c file;
   unknown = unknown_paths config_field c [] file;
 }
 

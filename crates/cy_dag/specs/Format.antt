@@ -1,10 +1,8 @@
--- The fields of a DAG file and of component files.
-use Rattle.std.specs.Prelude.{ℕ, List, [], ◌∷◌, map, codes, Option}
+-- The fields of a DAG file.
+use Rattle.std.specs.Prelude.{ℕ, List, [], ◌∷◌, codes, Option}
 use Rattle.cy_config.specs.Tables.{Rows, single, repeated, u32_kind, field_in}
 use Rattle.cy_config.specs.declared.field.Kind.TheVariants as kind
 use Rattle.cy_config.specs.declared.field.Field.{Field}
-use Rattle.cy_dag.specs.Classes.{parameters_of}
-use Rattle.cy_dag.specs.declared.class.Class.{Class}
 use Rattle.cy_dag.specs.declared.format.DagMessage.{DagMessage}
 use Rattle.cy_dag.specs.declared.format.DagMessage.TheVariants.{File, Module, Component, Settings}
 use Rattle.cy_dag.specs.declared.format.DagMessage.TheVariants.{Reader, TimerComponent}
@@ -76,18 +74,3 @@ rows_of TimerSettings = timer_settings_rows
 
 abbrev pub dag_field : DagMessage → List ℕ → Option (Field DagMessage)
 dag_field m name = field_in (rows_of m) name
-
--- A component file: its channel, the type of its messages, what is done where a tuple isn't kept
--- any more, and the parameters of its class. The last two are judged by themselves.
-abbrev pub parameter_rows : Class → Rows Class
-parameter_rows c = map (λ p. (p.name, single kind.Anything)) (parameters_of c)
-
-abbrev pub config_rows : Class → Rows Class
-config_rows c =
-    (codes "out", single kind.Text)
-    ∷ (codes "out_type", single kind.Text)
-    ∷ (codes "on_overflow", single kind.Anything)
-    ∷ parameter_rows c
-
-abbrev pub config_field : Class → List ℕ → Option (Field Class)
-config_field c name = field_in (config_rows c) name

@@ -3,6 +3,7 @@ pub mod ConfigFile
 pub mod DagFile
 pub mod FaultText
 pub mod Format
+pub mod Options
 pub mod Refusals
 pub mod Triggers
 pub mod Wiring

@@ -77,7 +77,7 @@ plan_of names p = record {
   queue = queue_of_first p.0.readers;
   overflow = p.1.overflow;
   out = number_in names p.1.out;
-  out_type = p.1.out_type;
+  options = p.1.options;
   interval = p.0.interval;
 }
 

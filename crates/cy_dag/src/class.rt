@@ -1,9 +1,8 @@
 // The classes of components: their names and their parameters.
 ghost use Rattle.std.specs.Prelude.{◌≡◌, is_some, IfOk, IfErr, None};
-ghost use Rattle.cy_config.specs.Tables.{field_in};
 ghost use Rattle.cy_dag.specs.Classes.{class_named, readers_needed};
-ghost use Rattle.cy_dag.specs.ConfigFile.{kind_in, kind_refusal};
-ghost use Rattle.cy_dag.specs.Format.{parameter_rows};
+ghost use Rattle.cy_dag.specs.ConfigFile.{kind_in, kind_refusal, parameter_rows};
+ghost use Rattle.cy_dag.specs.Options.{field_among};
 ghost use Rattle.cy_dag.specs.Refusals.{IsDue};
 ghost use Rattle.cy_dag.specs.Wiring.{IsKindOf};
 ghost use Rattle.cy_dag.specs.declared.class.Class.TheVariants.{Filter};
@@ -67,7 +66,7 @@ impl Class {
 
     // Whether it has a parameter of a name.
     pub(crate) fn has_parameter(self, name: &str) -> bool
-        ensures { result ≡ is_some (field_in (parameter_rows self) name.now) }
+        ensures { result ≡ is_some (field_among (parameter_rows self) name.now) }
     {
         match self {
             Class::Filter => name == "lo" || name == "hi",

@@ -6,6 +6,7 @@ ghost use Rattle.cy_dag.specs.ConfigFile.{IsConfig, class_refusal, config_of, co
 ghost use Rattle.cy_dag.specs.ConfigFile.{kind_in, overflow_named, overflow_of, overflow_refusal};
 ghost use Rattle.cy_dag.specs.ConfigFile.{parameter_refusal, value_of, values_refusal};
 ghost use Rattle.cy_dag.specs.DagFile.{text_in};
+ghost use Rattle.cy_dag.specs.Options.{options_in};
 ghost use Rattle.cy_dag.specs.Refusals.{IsDue};
 ghost use Rattle.cy_dag.specs.Wiring.{IsKindOf, IsOfClass};
 ghost use Rattle.cy_dag.specs.declared.error.DagError.TheVariants as dag_error;
@@ -13,7 +14,7 @@ ghost use Rattle.cy_dag.specs.declared.error.DagError.TheVariants as dag_error;
 use crate::DagError;
 use crate::class::Class;
 use crate::component::{missing, text};
-use cy_comp::Kind;
+use cy_comp::{Kind, Options};
 use cy_config::{check, last_under, text_under};
 use cy_fuse::Overflow;
 use cy_msg::{Items, Text};
@@ -29,8 +30,8 @@ pub struct Config {
     pub overflow: Overflow,
     /// The channel that it writes.
     pub out: Text,
-    /// The type of the messages on that channel, empty where the file has none.
-    pub out_type: Text,
+    /// What it says beside these.
+    pub options: Options,
     /// The paths of the fields that are not known, in the order of the file.
     pub unknown: Items<Text>,
 }
@@ -66,11 +67,11 @@ fn read_config(alloc: Global, tree: &Tree, component: u32, class: Class) -> Resu
 {
     let unknown = check(alloc, class, tree)?;
     match values(alloc, tree, component, class) {
-        Ok((kind, overflow, out, out_type)) => Ok(Config {
+        Ok((kind, overflow, out, options)) => Ok(Config {
             kind,
             overflow,
             out,
-            out_type,
+            options,
             unknown,
         }),
         Err(error) => {
@@ -81,17 +82,17 @@ fn read_config(alloc: Global, tree: &Tree, component: u32, class: Class) -> Resu
 }
 
 // What it says but for unknown fields: the class with its parameters, what is done on overflow,
-// the channel and its type.
+// the channel, and the options.
 fn values(
     alloc: Global,
     tree: &Tree,
     component: u32,
     class: Class,
-) -> Result<(Kind, Overflow, Text, Text), DagError>
+) -> Result<(Kind, Overflow, Text, Options), DagError>
     ensures accepted { IfOk result (λ _. values_refusal component class tree.now ≡ None) }
     ensures values { IfOk result (λ v. (v.0 ≡ kind_in class tree.now)
         × (overflow_of tree.now ≡ Some v.1) × (v.2 ≡ text_in (codes "out") tree.now)
-        × (v.3 ≡ text_in (codes "out_type") tree.now)) }
+        × (v.3 ≡ options_in class tree.now)) }
     ensures of_class { IfOk result (λ v. IsKindOf class v.0) }
     ensures refused { IfErr result (IsDue (values_refusal component class tree.now)) }
 {
@@ -101,7 +102,7 @@ fn values(
     let overflow = overflow_of(tree, component)?;
     let kind = class.kind(alloc, tree, component)?;
     let out = text(alloc, tree, "out")?;
-    Ok((kind, overflow, out, text(alloc, tree, "out_type")?))
+    Ok((kind, overflow, out, class.options(alloc, tree, component)?))
 }
 
 // What is done on overflow: a fetch goes on at the newest where the file doesn't say.

@@ -1,6 +1,7 @@
 // The fields of a DAG file and of component files.
 ghost use Rattle.std.specs.Prelude.{◌≡◌};
-ghost use Rattle.cy_dag.specs.Format.{config_field, dag_field};
+ghost use Rattle.cy_dag.specs.ConfigFile.{config_field};
+ghost use Rattle.cy_dag.specs.Format.{dag_field};
 ghost use Rattle.cy_dag.specs.declared.format.DagMessage.TheVariants.{Component, File, Module};
 ghost use Rattle.cy_dag.specs.declared.format.DagMessage.TheVariants.{Reader, Settings};
 ghost use Rattle.cy_dag.specs.declared.format.DagMessage.TheVariants.{TimerComponent};
@@ -124,10 +125,10 @@ impl Described for Class {
 
     fn field(self, name: &str) -> Option<Field<Class>> {
         match name {
-            "out" | "out_type" => Some(Field::single(Kind::Text)),
+            "out" => Some(Field::single(Kind::Text)),
             "on_overflow" => Some(Field::single(Kind::Anything)),
             _ if self.has_parameter(name) => Some(Field::single(Kind::Anything)),
-            _ => None,
+            _ => self.option(name),
         }
     }
 }

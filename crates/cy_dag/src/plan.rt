@@ -47,7 +47,7 @@ fn plan(
         queue: queue_of_first(readers),
         overflow: config.overflow,
         out: number_in(names, config.out.as_str()),
-        out_type: Text::new(alloc, config.out_type.as_str())?,
+        options: config.options.copy(alloc)?,
         interval: component.interval,
     })
 }

@@ -41,7 +41,7 @@ has_ticks plans number = list_any
 -- One that a component writes has the type of that component's messages and an empty description,
 -- one of ticks has neither, and any other has what it has in the record that was read.
 abbrev pub as_written : List ℕ → List Known → Bool → Option Plan → Channel
-as_written name channels ticks (Some plan) = channel_made name plan.out_type []
+as_written name channels ticks (Some plan) = channel_made name plan.options.out_type []
 as_written name channels true None = channel_made name [] []
 as_written name channels false None = as_read name (known_as name channels)
 

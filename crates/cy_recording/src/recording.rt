@@ -82,7 +82,7 @@ fn form_of<'a>(played: &Played<'a>, channel: u32) -> (&'a str, &'a [u8])
 {
     let plans = played.wiring.plans.as_slice();
     if let Some(plan) = writer_of(plans, channel) {
-        return (plan.out_type.as_str(), &[]);
+        return (plan.options.out_type.as_str(), &[]);
     }
     if has_ticks(plans, channel) {
         return ("", &[]);

@@ -18,6 +18,7 @@ use Rattle.cy_msg.specs.declared.stop.Stop.{Stop}
 use Rattle.cy_fuse.specs.declared.overflow.Overflow.TheVariants.{Newest}
 use Rattle.cy_comp.specs.declared.kind.Kind.TheVariants.{Pass}
 use Rattle.cy_comp.specs.declared.plan.Plan.{Plan}
+use Rattle.cy_comp.specs.Options.{options_with}
 use Rattle.cy_comp.specs.Wiring.{IsWiring}
 use Rattle.cy_sched.specs.Placing.{numbers_below}
 use Rattle.cy_dag.specs.Wiring.{plans_of, named}
@@ -207,7 +208,7 @@ few_up_to time (t ∷ rest) = by (nat_le t.time time) (few_up_to time rest)
     by false few = omega (arith, few)
 
 no_plan : Plan
-no_plan = record { name = []; kind = Pass; readers = []; queue = 1; overflow = Newest; out = 0; out_type = []; interval = None }
+no_plan = record { name = []; kind = Pass; readers = []; queue = 1; overflow = Newest; out = 0; options = options_with []; interval = None }
 
 pub stop_within : (asked : Option StopAt) (w : Wired) (tokens : List Token) (s : Stop) → stop_of asked w tokens ≡ Some s → (s.component < length w.plans) × (s.after ≤ length tokens)
 stop_within None w tokens s given = absurd cc

@@ -4,6 +4,7 @@ use Rattle.std.specs.Prelude.{codes, None}
 use Rattle.cy_store.specs.Reads.{Reads, Accepts, Refuses}
 use Rattle.cy_fuse.specs.declared.overflow.Overflow.TheVariants.{Newest}
 use Rattle.cy_comp.specs.declared.kind.Kind.TheVariants.{Pass}
+use Rattle.cy_comp.specs.Options.{options_with}
 use Rattle.cy_dag.specs.DagFile.{count_of}
 use Rattle.cy_dag.specs.Wiring.{named, number_in}
 use Rattle.cy_dag.specs.declared.config.Config.{Config}
@@ -31,7 +32,13 @@ pass_component from = record {
 -- It writes the other channel, in messages of some type.
 abbrev pub pass_config : (to message_type : List ℕ) → Config
 pass_config to message_type =
-    record { kind = Pass; overflow = Newest; out = to; out_type = message_type; unknown = [] }
+    record {
+      kind = Pass;
+      overflow = Newest;
+      out = to;
+      options = options_with message_type;
+      unknown = [];
+    }
 
 -- It alone, placed by the default scheduler.
 abbrev pub passing : (from to message_type : List ℕ) → Configured
@@ -56,7 +63,7 @@ pass_wired names from to message_type = record {
     queue = 1;
     overflow = Newest;
     out = number_in names to;
-    out_type = message_type;
+    options = options_with message_type;
     interval = None;
   } ∷ [];
 }

@@ -7,7 +7,7 @@ ghost use Rattle.cy_replay.specs.Steps.{configured};
 
 use crate::read::default_scheduler;
 use crate::{Configuration, SetupError};
-use cy_comp::Kind;
+use cy_comp::{Kind, Options};
 use cy_dag::{Config, Dag, DagComponent, DagReader};
 use cy_fuse::Overflow;
 use cy_msg::{Items, NamesError, Text};
@@ -15,12 +15,12 @@ use cy_reader::Record;
 use std::alloc::Global;
 
 // The type that a record has for a channel.
-fn type_of(alloc: Global, recorded: &Record, channel: &str) -> Result<Text, NamesError>
-    ensures { IfOk result (λ t. t ≡ type_read recorded.now channel.now) }
+fn type_of<'a>(recorded: &'a Record, channel: &str) -> &'a str
+    ensures { result.now ≡ type_read recorded.now channel.now }
 {
     match recorded.channel_named(channel) {
-        Some(known) => Text::new(alloc, known.message_type.as_str()),
-        None => Text::new(alloc, ""),
+        Some(known) => known.message_type.as_str(),
+        None => "",
     }
 }
 
@@ -56,14 +56,14 @@ fn pass_dag(alloc: Global, from: &str) -> Result<Dag, NamesError>
 }
 
 // What a component file says of it.
-fn pass_config(alloc: Global, to: &str, message_type: Text) -> Result<Config, NamesError>
-    ensures { IfOk result (λ c. c ≡ config_of to.now message_type) }
+fn pass_config(alloc: Global, to: &str, message_type: &str) -> Result<Config, NamesError>
+    ensures { IfOk result (λ c. c ≡ config_of to.now message_type.now) }
 {
     Ok(Config {
         kind: Kind::Pass,
         overflow: Overflow::Newest,
         out: Text::new(alloc, to)?,
-        out_type: message_type,
+        options: Options::with_type(alloc, message_type)?,
         unknown: Items::new(Vec::new(alloc)),
     })
 }
@@ -77,8 +77,7 @@ fn pass_configs(
 ) -> Result<Items<Config>, NamesError>
     ensures { IfOk result (λ c. c ≡ config_of to.now (type_read recorded.now from.now) ∷ []) }
 {
-    let message_type = type_of(alloc, recorded, from)?;
-    let config = pass_config(alloc, to, message_type)?;
+    let config = pass_config(alloc, to, type_of(recorded, from))?;
     Ok(Items::new(vec![in alloc; config]?))
 }
 

@@ -11,7 +11,7 @@ ghost use Rattle.wake_core_tests.specs.Groups.{Shows};
 ghost use Rattle.wake_core_tests.specs.Runs.{passing as passing_route, summing as summing_route};
 ghost use Rattle.wake_core_tests.specs.Runs.{stop_after_one};
 
-use cy_comp::{Kind, Plan, Wiring};
+use cy_comp::{Kind, Options, Plan, Wiring};
 use cy_fuse::Overflow;
 use cy_msg::{Items, Names, Stop, Text};
 use std::alloc::Global;
@@ -108,9 +108,16 @@ fn plan(alloc: Global, kind: Kind, readers: &[u32], queue: u32, out: u32) -> Res
         queue,
         overflow: Overflow::Newest,
         out,
-        out_type: text(alloc, "")?,
+        options: options(alloc)?,
         interval: None,
     })
+}
+
+// The options of a file that has none.
+fn options(alloc: Global) -> Result<Options, CoreError>
+    ensures { IfErr result (λ e. e ≡ CoreError.Memory) }
+{
+    Options::with_type(alloc, "").map_err(|_| CoreError::Memory)
 }
 
 // A copy of a text.

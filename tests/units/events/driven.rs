@@ -1,6 +1,6 @@
 // Drives a world by its events: which events may happen, that each does, and what holds after it.
 use crate::{Phase, World, finish};
-use cy_comp::{Kind, Outcome, Plan, State, Wiring};
+use cy_comp::{Kind, Options, Outcome, Plan, State, Wiring};
 use cy_fuse::Overflow;
 use cy_msg::{ContextPlan, Items, Names, Placement, Stop, Text, Token, Tuple};
 use std::test::Fail;
@@ -57,7 +57,7 @@ fn wiring(rt: &HostRuntime, channels: &[&str], rows: &[Row]) -> Result<Wiring, F
             queue: *queue,
             overflow: Overflow::Newest,
             out: *out,
-            out_type: Text::new(rt.alloc(), "")?,
+            options: Options::with_type(rt.alloc(), "")?,
             interval: None,
         })?;
     }

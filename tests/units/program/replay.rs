@@ -1,6 +1,6 @@
 // Records of tapes, byte by byte.
 use crate::records::HEADER_END;
-use cy_comp::{Kind, Plan, Wiring};
+use cy_comp::{Kind, Options, Plan, Wiring};
 use cy_fuse::Overflow;
 use cy_msg::{Items, Names, PlayList, Text, Token};
 use cy_reader::{Record, load_whole};
@@ -83,7 +83,7 @@ pub fn pass_wiring(rt: &HostRuntime) -> Result<Wiring, Fail> {
         queue: 1,
         overflow: Overflow::Newest,
         out: 1,
-        out_type: Text::new(rt.alloc(), "U")?,
+        options: Options::with_type(rt.alloc(), "U")?,
         interval: None,
     };
     Ok(Wiring::of_one(names, Items::new(vec![in rt.alloc(); plan]?)))

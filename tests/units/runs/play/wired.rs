@@ -1,5 +1,5 @@
 // Wirings, written row by row.
-use cy_comp::{Kind, Plan, Wiring};
+use cy_comp::{Kind, Options, Plan, Wiring};
 use cy_fuse::Overflow;
 use cy_msg::{Items, Names, Text};
 use std::str;
@@ -29,7 +29,7 @@ fn plan(rt: &HostRuntime, inputs: u32, row: u8, kind: Kind, readers: &[u32]) -> 
         queue: 1,
         overflow: Overflow::Newest,
         out: inputs + u32::from(row),
-        out_type: Text::new(rt.alloc(), "")?,
+        options: Options::with_type(rt.alloc(), "")?,
         interval: None,
     })
 }

@@ -1,5 +1,5 @@
 // A table of one component.
-use cy_comp::{Kind, Plan, Wiring};
+use cy_comp::{Kind, Options, Plan, Wiring};
 use cy_fuse::Overflow;
 use cy_msg::{Items, Names, Text};
 use cy_table::{FlagTable, Pass};
@@ -18,7 +18,7 @@ fn pass_wiring(rt: &HostRuntime) -> Result<Wiring, Fail> {
         queue: 1,
         overflow: Overflow::Newest,
         out: 1,
-        out_type: Text::new(rt.alloc(), "T")?,
+        options: Options::with_type(rt.alloc(), "T")?,
         interval: None,
     };
     Ok(Wiring::of_one(names, Items::new(vec![in rt.alloc(); plan]?)))

@@ -308,7 +308,7 @@ fn config(rt: &HostRuntime, class: &str, text: &str) -> Result<String, Fail> {
         "{:?} {} {}",
         config.kind,
         config.out.as_str(),
-        config.out_type.as_str()
+        config.options.out_type.as_str()
     )?;
     if config.overflow == Overflow::Oldest {
         line.push_str(" OLDEST")?;

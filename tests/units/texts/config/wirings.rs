@@ -49,7 +49,7 @@ fn line_of(rt: &HostRuntime, wiring: &Wiring) -> Result<String, Fail> {
         for reader in plan.readers.as_slice() {
             line.push_str(format!(in rt.alloc(); " {reader}")?.as_str())?;
         }
-        let out_type = plan.out_type.as_str();
+        let out_type = plan.options.out_type.as_str();
         line.push_str(format!(in rt.alloc(); " to {} {out_type}", plan.out)?.as_str())?;
         if plan.overflow == Overflow::Oldest {
             line.push_str(" OLDEST")?;

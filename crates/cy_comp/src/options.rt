@@ -1,0 +1,36 @@
+// What a component file may say beside the class, the channel and the overflow.
+ghost use Rattle.std.specs.Prelude.{◌≡◌, IfOk, IfErr};
+ghost use Rattle.cy_comp.specs.Options.{options_with};
+
+use cy_msg::{NamesError, Text};
+use std::alloc::Global;
+
+/// What the file of a component may say beside its class, its channel and its overflow. It goes
+/// whole from the file into a wiring.
+#[derive(Drop)]
+pub struct Options {
+    /// The type of the messages on its channel, empty where the file has none.
+    pub out_type: Text,
+}
+
+impl Options {
+    /// The options of a file that has none but the type of the messages. The only error is `Memory`.
+    pub fn with_type(alloc: Global, out_type: &str) -> Result<Self, NamesError>
+        ensures options { IfOk result (λ options. options ≡ options_with out_type.now) }
+        ensures memory { IfErr result (λ e. e ≡ NamesError.Memory) }
+    {
+        Ok(Options {
+            out_type: Text::new(alloc, out_type)?,
+        })
+    }
+
+    /// A copy. The only error is `Memory`.
+    pub fn copy(&self, alloc: Global) -> Result<Self, NamesError>
+        ensures copy { IfOk result (λ options. options ≡ self.now) }
+        ensures memory { IfErr result (λ e. e ≡ NamesError.Memory) }
+    {
+        Ok(Options {
+            out_type: Text::new(alloc, self.out_type.as_str())?,
+        })
+    }
+}

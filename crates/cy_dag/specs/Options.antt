@@ -1,0 +1,39 @@
+-- What a component file may say beside its class, its channel and its overflow.
+use Rattle.std.specs.Prelude.{ℕ, List, [], ◌∷◌, map, codes, Option, None}
+use Rattle.cy_text.specs.Fields.{Fields}
+use Rattle.cy_comp.specs.declared.options.Options.{Options}
+use Rattle.cy_config.specs.Refusals.{first_of}
+use Rattle.cy_config.specs.Tables.{single, field_in}
+use Rattle.cy_config.specs.declared.field.Field.{Field}
+use Rattle.cy_config.specs.declared.field.Kind.TheVariants as kind
+use Rattle.cy_dag.specs.DagFile.{text_in}
+use Rattle.cy_dag.specs.declared.class.Class.{Class}
+use Rattle.cy_dag.specs.declared.error.DagError.{DagError}
+
+-- A field that a component file may have: its name, what it may hold, and why a file is refused
+-- whose values are of their kinds, by the number of its component.
+pub record Row : Type 0 where
+  pub name : List ℕ
+  pub field : Field Class
+  pub refusal : ℕ → Fields → Option DagError
+
+-- The field of a name among some.
+abbrev pub field_among : List Row → List ℕ → Option (Field Class)
+field_among rows name = field_in (map (λ row. (row.name, row.field)) rows) name
+
+-- The first cause for which one of some fields is refused.
+abbrev pub refusal_among : List Row → ℕ → Fields → Option DagError
+refusal_among rows component file = first_of (map (λ row. row.refusal component file) rows)
+
+-- Any value of its kind is taken.
+abbrev pub any_taken : ℕ → Fields → Option DagError
+any_taken component file = None
+
+-- The options that the file of a class may have.
+abbrev pub option_rows : Class → List Row
+option_rows c =
+    record { name = codes "out_type"; field = single kind.Text; refusal = any_taken } ∷ []
+
+-- What a file of a class says of them.
+abbrev pub options_in : Class → Fields → Options
+options_in c file = record { out_type = text_in (codes "out_type") file }

@@ -1,0 +1,42 @@
+// What a component file may say beside its class, its channel and its overflow.
+ghost use Rattle.std.specs.Prelude.{◌≡◌, IfOk, IfErr, None};
+ghost use Rattle.cy_dag.specs.Options.{field_among, option_rows, options_in, refusal_among};
+ghost use Rattle.cy_dag.specs.Refusals.{IsDue};
+
+use crate::DagError;
+use crate::class::Class;
+use crate::component::text;
+use cy_comp::Options;
+use cy_config::{Field, Kind};
+use cy_text::Tree;
+use std::alloc::Global;
+
+impl Class {
+    // The option of a name, where a file of this class may have one.
+    pub(crate) fn option(self, name: &str) -> Option<Field<Class>>
+        ensures { result ≡ field_among (option_rows self) name.now }
+    {
+        match name {
+            "out_type" => Some(Field::single(Kind::Text)),
+            _ => None,
+        }
+    }
+
+    // What the file of a component of this class says of its options.
+    pub(crate) fn options(
+        self,
+        alloc: Global,
+        tree: &Tree,
+        component: u32,
+    ) -> Result<Options, DagError>
+        ensures accepted { IfOk result (λ _.
+            refusal_among (option_rows self) component tree.now ≡ None) }
+        ensures options { IfOk result (λ options. options ≡ options_in self tree.now) }
+        ensures refused { IfErr result (IsDue
+            (refusal_among (option_rows self) component tree.now)) }
+    {
+        Ok(Options {
+            out_type: text(alloc, tree, "out_type")?,
+        })
+    }
+}
