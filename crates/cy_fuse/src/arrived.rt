@@ -25,13 +25,16 @@ impl Model for Arrived {
 
     ghost use Rattle.cy_fuse.specs.private.Arriving.{given};
 
-    ghost view = { λ a. (a.role, record {
-      channel = a.channel;
-      seq = a.seq;
-      time = a.time;
-      whole = given a.has_whole a.whole;
-      origin = given a.has_origin a.origin;
-    }) };
+    ghost view = { λ a. (
+      a.role,
+      record {
+        channel = a.channel;
+        seq = a.seq;
+        time = a.time;
+        whole = given a.has_whole a.whole;
+        origin = given a.has_origin a.origin;
+      },
+    ) };
 }
 
 impl Arrived {
@@ -69,8 +72,16 @@ impl Arrived {
             channel: self.channel,
             seq: self.seq,
             time: self.time,
-            whole: if self.has_whole { Some(self.whole) } else { None },
-            origin: if self.has_origin { Some(self.origin) } else { None },
+            whole: if self.has_whole {
+                Some(self.whole)
+            } else {
+                None
+            },
+            origin: if self.has_origin {
+                Some(self.origin)
+            } else {
+                None
+            },
         }
     }
 }
