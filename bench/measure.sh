@@ -16,20 +16,26 @@ repository() { # the folder of this repository, the program, and the crates
   echo "$program: $*" >>crates.txt
 }
 
-# The best time of nine runs, and the most memory that any took.
+# The best time of nine runs, with the processor time of that run in user mode and in the kernel, and the most memory that any run took.
 measure() { # a name, the bytes that are read and written, and the command
   local name=$1 bytes=$2
   shift 2
   python3 - "$name" "$bytes" "$@" <<'P'
 import resource, subprocess, sys, time
 name, count, command = sys.argv[1], int(sys.argv[2]), sys.argv[3:]
-times = []
+runs = []
 for _ in range(9):
+    before = resource.getrusage(resource.RUSAGE_CHILDREN)
     began = time.perf_counter()
     subprocess.run(command, check=True, stdout=subprocess.DEVNULL)
-    times.append(time.perf_counter() - began)
-best = min(times)
-peak = resource.getrusage(resource.RUSAGE_CHILDREN).ru_maxrss / 1024
-print(f"{name}: {best * 1000:.1f} ms, peak {peak:.1f} MB, {count / best / 1e6:.1f} MB/s read and written")
+    took = time.perf_counter() - began
+    after = resource.getrusage(resource.RUSAGE_CHILDREN)
+    runs.append((took, after.ru_utime - before.ru_utime, after.ru_stime - before.ru_stime))
+best, user, kernel = min(runs)
+peak = after.ru_maxrss / 1024
+print(
+    f"{name}: {best * 1000:.1f} ms (user {user * 1000:.0f}, kernel {kernel * 1000:.0f}), peak {peak:.1f} MB, "
+    f"{count / best / 1e6:.1f} MB/s read and written"
+)
 P
 }

@@ -17,4 +17,6 @@ mkdir "$work/copy"
 # The program itself, since the launcher first looks whether it is up to date.
 measure "cyber make 1000000" "$bytes" "$top/crates/cyber/out/cyber" make 1000000 "$work/m"
 measure "cyber play --serial" "$bytes" "$top/crates/cyber/out/cyber" "${words[@]}"
+plain_pages=glibc.malloc.hugetlb=0:glibc.malloc.mmap_max=0:glibc.malloc.top_pad=67108864
+GLIBC_TUNABLES=$plain_pages measure "cyber play --serial, without large pages" "$bytes" "$top/crates/cyber/out/cyber" "${words[@]}"
 measure "cp of what it writes" "$((2 * written))" cp "$work/out.record" "$work/out.trace" "$work/copy"
