@@ -10,7 +10,7 @@ from record import fields_of
 
 DEEPEST = 4  # messages in messages have columns of their own up to here
 WELL_KNOWN = "google.protobuf."  # types with a form of their own in JSON
-FAULTS = (KeyError, TypeError, ValueError, DecodeError, RecursionError, RuntimeWarning, SystemError)
+FAULTS = (AttributeError, KeyError, TypeError, ValueError, DecodeError, RecursionError, RuntimeWarning, SystemError)
 
 # Of bytes that are a message only up to some place the package warns, and gives that message: here that is a fault. Where it is written in C
 # the warning comes as the cause of a SystemError.
@@ -143,13 +143,21 @@ def message_of(kind, content):
         return None
 
 
+def has_bytes(value):
+    """Whether there are bytes in what was made of a message: some implementations of the package give them for a string that isn't UTF-8."""
+    if isinstance(value, dict):
+        return any(map(has_bytes, value.values()))
+    return any(map(has_bytes, value)) if isinstance(value, list) else isinstance(value, bytes)
+
+
 def dictionary_of(kind, content):
     """The message of a class that some bytes hold, as a dictionary, or None where they hold none."""
     message = message_of(kind, content)
     try:
-        return None if message is None else json_format.MessageToDict(message, preserving_proto_field_name=True)
+        found = None if message is None else json_format.MessageToDict(message, preserving_proto_field_name=True)
     except (json_format.Error, *FAULTS):
         return None
+    return None if has_bytes(found) else found
 
 
 def is_repeated(field):

@@ -167,7 +167,10 @@ class Comparison:
         messages = [record.message(channel, it) for record, it in zip(self.records, (one, other))]
         if not any(it is None for it in messages):
             fields = Fields(self.rules)
-            found = next(fields.messages(*messages), None)
+            try:
+                found = next(fields.messages(*messages), None)
+            except UnicodeDecodeError:  # a string that isn't UTF-8, in some implementations of the package
+                return differing_bytes(one, other)
             if found:
                 name, mine, theirs = found
                 return f"{name} {cut(mine, LONGEST_VALUE)} and {cut(theirs, LONGEST_VALUE)}"

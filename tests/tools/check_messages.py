@@ -137,8 +137,10 @@ def check_rows(chance, count):
              b"/old": (b"old.Scan", OLD_DESCRIPTION), b"/old/copy": (b"old.Scan", b"")}
     of = {b"/scan": "demo.Scan", b"/copy": "demo.Scan", b"/old": "old.Scan", b"/old/copy": "old.Scan"}
     tape = [(channel, 10 * k, contents[kind][k]) for k in range(count) for channel, kind in of.items()]
-    bad = b"\x0d\x00"  # a number of four bytes that is cut
-    tape += [(channel, 10 * count, bad) for channel in of] + [(b"/point", 10 * count, class_of("demo.Point")(n=3).SerializeToString())]
+    # A number of four bytes that is cut, and a name that isn't UTF-8: the name is field 5 of demo.Scan and field 3 of old.Scan.
+    bad = {"demo.Scan": [b"\x0d\x00", b"\x2a\x01\xff"], "old.Scan": [b"\x0d\x00", b"\x1a\x01\xff"]}
+    tape += [(channel, 10 * count, content) for channel, kind in of.items() for content in bad[kind]]
+    tape.append((b"/point", 10 * count, class_of("demo.Point")(n=3).SerializeToString()))
     write("scans.rec", tape, forms)
     write("none.rec", tape, {channel: (kind, b"") for channel, (kind, _) in forms.items()})
     # The one that imports another one comes first.
@@ -149,7 +151,8 @@ def check_rows(chance, count):
         cells = scan_cells if kind == "demo.Scan" else old_cells
         want = [["channel", "number", "time", *heads[kind].split(), "undecoded bytes"]]
         want += [[channel.decode(), str(k + 1), str(10 * k), *cells(it), ""] for k, it in enumerate(values[kind])]
-        want.append([channel.decode(), str(count + 1), str(10 * count)] + [""] * len(heads[kind].split()) + [f"0x{bad.hex()}"])
+        empty = [""] * len(heads[kind].split())
+        want += [[channel.decode(), str(count + k), str(10 * count), *empty, f"0x{it.hex()}"] for k, it in enumerate(bad[kind], 1)]
         for words in (["scans.rec"], ["none.rec", "--types", "types"]):
             rows = list(csv.reader(io.StringIO(printed(*words, "--csv", "--channel", channel.decode()))))
             differs = next((pair for pair in zip(rows, want) if pair[0] != pair[1]), None)
