@@ -745,6 +745,29 @@ shows_fields() {
   shows page.html '/chassis speed 2 numbers, from 1.5 to 3.25'
   shows page.html '/copy speed 2 numbers, from 1.5 to 3.25'
   try 0 python3 "$check" page.html out.trace out.rec
+  shows_fields_of_other_types
+}
+
+# /stamp has two messages of demo.Header, of which only the description of /chassis tells. In bare.rec nothing is described.
+shows_fields_of_other_types() {
+  local given
+  begin 'numbers are plotted by the description of a channel that uses their type, or by a set'
+  "$python" "$top/tests/tools/described_record.py" in.rec 3.25 types
+  PYTHONPATH="$top/tools" python3 -c 'from record import *
+data = open("in.rec", "rb").read()
+tape, forms = messages_of(data) + [(b"/stamp", 80, number(2, 5)), (b"/stamp", 90, number(2, 6))], forms_of(data)
+forms[b"/stamp"] = (b"demo.Header", b"")
+open("stamps.rec", "wb").write(record(tape, forms))
+open("bare.rec", "wb").write(record(tape, {channel: (kind, b"") for channel, (kind, _) in forms.items()}))'
+  passing /stamp /copy demo.Header
+  for given in stamps.rec 'bare.rec --types types'; do
+    python3 "$top/tests/replay.py" out.rec out.trace line --dag pass.dag --record "${given%% *}"
+    # shellcheck disable=SC2086
+    try 0 "$python" "$top/tools/report.py" --dag pass.dag --record $given --out out.rec --trace out.trace --program none page.html
+    shows page.html '/copy stamp 2 numbers, from 5 to 6'
+  done
+  fails_in_one_line 1 'report: line: no FileDescriptorSet: .*' "$python" "$top/tools/report.py" --dag pass.dag --record bare.rec \
+    --types line --out out.rec --trace out.trace --program none none.html
 }
 
 shows_no_message() {

@@ -91,10 +91,10 @@ def class_of(kind, description):
 class Types:
     """The classes of a record's messages. What a channel doesn't describe itself is looked for by the name of its type."""
 
-    def __init__(self, forms, path=None):
-        """`forms` has the type and the description of each channel, and `path` names a file with a FileDescriptorSet."""
+    def __init__(self, forms, path=None, pool=None):
+        """`forms` has the type and the description of each channel. `path` names a file with a FileDescriptorSet, whose types `pool` has."""
         self.forms, self.path = forms, path
-        self.set = pool_of_set(path) if path else None
+        self.set = pool_of_set(path) if path and pool is None else pool
         self.pools = {}
 
     def pool(self, description):
