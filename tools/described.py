@@ -183,10 +183,30 @@ def column_name(path):
 
 
 def default_of(field):
-    """What a field has that isn't in the message: its zero, and nothing where the message may as well be without it."""
+    """What a field has in JSON form that isn't in the message: its zero, and nothing where the message may as well be without it."""
     if is_repeated(field) or field.has_presence:
         return None
-    return field.enum_type.values_by_number[0].name if field.enum_type else field.default_value
+    if field.enum_type:
+        return field.enum_type.values_by_number[0].name
+    if field.cpp_type == field.CPPTYPE_STRING:  # bytes, too
+        return ""
+    return "0" if field.cpp_type in (field.CPPTYPE_INT64, field.CPPTYPE_UINT64) else field.default_value
+
+
+def with_zeros(value, kind):
+    """A message in JSON form, or the messages of a list or a map, with the zeros that the form leaves out. `kind` is None for others."""
+    if kind is None or kind.full_name.startswith(WELL_KNOWN):
+        return value
+    if isinstance(value, list):
+        return [with_zeros(it, kind) for it in value]
+    if kind.GetOptions().map_entry:
+        return {key: with_zeros(it, kind.fields_by_name["value"].message_type) for key, it in value.items()}
+    found = {}
+    for field in kind.fields:
+        it = value.get(field.name, default_of(field))
+        if it is not None:
+            found[field.name] = with_zeros(it, field.message_type)
+    return found | {name: it for name, it in value.items() if name not in found}
 
 
 def value_at(message, path):
@@ -195,4 +215,5 @@ def value_at(message, path):
         message = message.get(field.name)
         if message is None:
             return None
-    return message.get(path[-1].name, default_of(path[-1]))
+    found = message.get(path[-1].name)
+    return default_of(path[-1]) if found is None else with_zeros(found, path[-1].message_type)
