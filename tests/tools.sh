@@ -474,6 +474,18 @@ counts_messages() { # the tool
 \"first_time\": \"1700000000700000000\", \"last_time\": \"1700000016700000000\", \"seconds\": 16.0, \"a_second\": 0.25\}"
   try 0 python3 "$1" --stats "$top/examples/pass/one.rec"
   says out ' *1  1970-01-01T00:00:00.000000100Z  1970-01-01T00:00:00.000000100Z  0.000000000 +2  /in'
+  # A name may have any bytes, and a record no message.
+  PYTHONPATH="$top/tools" python3 -c 'from record import *
+open("none.rec", "wb").write(record([]))
+open("odd.rec", "wb").write(record([("/a\n\u00e9".encode(), 1, b"x")]))'
+  try 0 python3 "$1" --stats none.rec
+  says out ' *0 +0 +all'
+  try 0 python3 "$1" --stats odd.rec
+  says out '.* 1  /a\\né'
+  try 0 python3 "$1" odd.rec
+  says out '/a\\né 1 1 0x78'
+  try 1 python3 "$1" --diff none.rec odd.rec
+  says out '/a\\né 1: only in odd.rec, .*'
 }
 
 # Looks that a command ends with a status, and prints one line, which fits, on standard error.
