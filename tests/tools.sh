@@ -366,6 +366,8 @@ messages() {
   [ "$(wc -l <out)" -eq 1000 ]
   count $? "$name: $(wc -l <out) lines"
   compares_records "$tool"
+  begin 'the value by a path and a kind is the one that the Protocol Buffers package reads'
+  try 0 "$python" "$top/tests/tools/check_values.py" 20000 1
 }
 
 # Runs a tool of tools/ where there is no Protocol Buffers package.
