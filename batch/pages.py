@@ -96,7 +96,7 @@ def words_of_drive(words, drive, folder):
     is_there = good and all(os.path.isfile(os.path.join(good, it)) for it in ("out.rec", "out.trace"))
     given = {it: drive.get(it) or None for it in ("dag", "record", "sched", "channels", "drop", "begin", "end", "stop")}
     files = {"out": os.path.join(folder, "out.rec"), "trace": os.path.join(folder, "out.trace")}
-    given |= {"good": good if is_there else None, "program": words.program, "page": page_path(folder)}
+    given |= {"good": good if is_there else None, "types": None, "program": words.program, "page": page_path(folder)}
     return argparse.Namespace(**given, **files)
 
 

@@ -366,6 +366,32 @@ messages() {
   [ "$(wc -l <out)" -eq 1000 ]
   count $? "$name: $(wc -l <out) lines"
   compares_records "$tool"
+  begin 'the value by a path and a kind is the one that the Protocol Buffers package reads'
+  try 0 "$python" "$top/tests/tools/check_values.py" 20000 1
+  lists_fields "$top/tools/fields.py"
+}
+
+# A line for each scalar field, which a component's file can have.
+lists_fields() { # the tool
+  begin 'each scalar field of a described message has a line that gives its value'
+  "$python" "$top/tests/tools/described_record.py" a.rec 3.25 types
+  try 0 "$python" "$1" a.rec /chassis
+  printf '%s\n' '# /chassis: demo.Chassis' 'value { channel: "/chassis" path: [1, 2] kind: UINT64 }  # header.stamp' \
+    'value { channel: "/chassis" path: [2] kind: FLOAT scale: 1000 }  # speed' \
+    'value { channel: "/chassis" path: [3] kind: INT32 }  # wheels: only the last one counts' \
+    'value { channel: "/chassis" path: [4] kind: ENUM }  # gear' | cmp -s - out
+  count $? "$name: $(cat out)"
+  try 0 "$python" "$top/tests/tools/check_fields.py" 5 1
+  (cd "$top" && python3 tests/parted.py "$OLDPWD/whole.rec" "$OLDPWD/line" split "$OLDPWD/a.rec" --channels /whole)
+  try 0 "$python" "$1" a.rec --scale 1
+  says out 'value \{ channel: "/chassis" path: \[2\] kind: FLOAT \}  # speed'
+  fails_in_one_line 2 'fields: a.rec: /bad: no descriptor of demo.Bad: .*' "$python" "$1" a.rec /bad
+  fails_in_one_line 2 'fields: a.rec: no channel /none' "$python" "$1" a.rec /none
+  fails_in_one_line 2 'fields: whole.rec: nothing describes the messages of a channel' "$python" "$1" whole.rec
+  fails_in_one_line 2 'fields: types: not a record' "$python" "$1" types
+  try 2 "$python" "$1" a.rec --scale 20
+  without_package 2 "$1" a.rec
+  says err 'fields: .*google.*; descriptions are read by the Protocol Buffers package .*'
 }
 
 # Runs a tool of tools/ where there is no Protocol Buffers package.
@@ -474,6 +500,18 @@ counts_messages() { # the tool
 \"first_time\": \"1700000000700000000\", \"last_time\": \"1700000016700000000\", \"seconds\": 16.0, \"a_second\": 0.25\}"
   try 0 python3 "$1" --stats "$top/examples/pass/one.rec"
   says out ' *1  1970-01-01T00:00:00.000000100Z  1970-01-01T00:00:00.000000100Z  0.000000000 +2  /in'
+  # A name may have any bytes, and a record no message.
+  PYTHONPATH="$top/tools" python3 -c 'from record import *
+open("none.rec", "wb").write(record([]))
+open("odd.rec", "wb").write(record([("/a\n\u00e9".encode(), 1, b"x")]))'
+  try 0 python3 "$1" --stats none.rec
+  says out ' *0 +0 +all'
+  try 0 python3 "$1" --stats odd.rec
+  says out '.* 1  /a\\né'
+  try 0 python3 "$1" odd.rec
+  says out '/a\\né 1 1 0x78'
+  try 1 python3 "$1" --diff none.rec odd.rec
+  says out '/a\\né 1: only in odd.rec, .*'
 }
 
 # Looks that a command ends with a status, and prints one line, which fits, on standard error.
@@ -745,6 +783,29 @@ shows_fields() {
   shows page.html '/chassis speed 2 numbers, from 1.5 to 3.25'
   shows page.html '/copy speed 2 numbers, from 1.5 to 3.25'
   try 0 python3 "$check" page.html out.trace out.rec
+  shows_fields_of_other_types
+}
+
+# /stamp has two messages of demo.Header, of which only the description of /chassis tells. In bare.rec nothing is described.
+shows_fields_of_other_types() {
+  local given
+  begin 'numbers are plotted by the description of a channel that uses their type, or by a set'
+  "$python" "$top/tests/tools/described_record.py" in.rec 3.25 types
+  PYTHONPATH="$top/tools" python3 -c 'from record import *
+data = open("in.rec", "rb").read()
+tape, forms = messages_of(data) + [(b"/stamp", 80, number(2, 5)), (b"/stamp", 90, number(2, 6))], forms_of(data)
+forms[b"/stamp"] = (b"demo.Header", b"")
+open("stamps.rec", "wb").write(record(tape, forms))
+open("bare.rec", "wb").write(record(tape, {channel: (kind, b"") for channel, (kind, _) in forms.items()}))'
+  passing /stamp /copy demo.Header
+  for given in stamps.rec 'bare.rec --types types'; do
+    python3 "$top/tests/replay.py" out.rec out.trace line --dag pass.dag --record "${given%% *}"
+    # shellcheck disable=SC2086
+    try 0 "$python" "$top/tools/report.py" --dag pass.dag --record $given --out out.rec --trace out.trace --program none page.html
+    shows page.html '/copy stamp 2 numbers, from 5 to 6'
+  done
+  fails_in_one_line 1 'report: line: no FileDescriptorSet: .*' "$python" "$top/tools/report.py" --dag pass.dag --record bare.rec \
+    --types line --out out.rec --trace out.trace --program none none.html
 }
 
 shows_no_message() {

@@ -10,7 +10,7 @@ from record import fields_of
 
 DEEPEST = 4  # messages in messages have columns of their own up to here
 WELL_KNOWN = "google.protobuf."  # types with a form of their own in JSON
-FAULTS = (KeyError, TypeError, ValueError, DecodeError, RecursionError, RuntimeWarning, SystemError)
+FAULTS = (AttributeError, KeyError, TypeError, ValueError, DecodeError, RecursionError, RuntimeWarning, SystemError)
 
 # Of bytes that are a message only up to some place the package warns, and gives that message: here that is a fault. Where it is written in C
 # the warning comes as the cause of a SystemError.
@@ -91,10 +91,10 @@ def class_of(kind, description):
 class Types:
     """The classes of a record's messages. What a channel doesn't describe itself is looked for by the name of its type."""
 
-    def __init__(self, forms, path=None):
-        """`forms` has the type and the description of each channel, and `path` names a file with a FileDescriptorSet."""
+    def __init__(self, forms, path=None, pool=None):
+        """`forms` has the type and the description of each channel. `path` names a file with a FileDescriptorSet, whose types `pool` has."""
         self.forms, self.path = forms, path
-        self.set = pool_of_set(path) if path else None
+        self.set = pool_of_set(path) if path and pool is None else pool
         self.pools = {}
 
     def pool(self, description):
@@ -143,18 +143,37 @@ def message_of(kind, content):
         return None
 
 
+def has_bytes(value):
+    """Whether there are bytes in what was made of a message: some implementations of the package give them for a string that isn't UTF-8."""
+    if isinstance(value, dict):
+        return any(map(has_bytes, value.values()))
+    return any(map(has_bytes, value)) if isinstance(value, list) else isinstance(value, bytes)
+
+
 def dictionary_of(kind, content):
     """The message of a class that some bytes hold, as a dictionary, or None where they hold none."""
     message = message_of(kind, content)
     try:
-        return None if message is None else json_format.MessageToDict(message, preserving_proto_field_name=True)
+        found = None if message is None else json_format.MessageToDict(message, preserving_proto_field_name=True)
     except (json_format.Error, *FAULTS):
         return None
+    return None if has_bytes(found) else found
 
 
 def is_repeated(field):
     """Whether a field is a list; newer packages have a word of their own for it."""
     return field.is_repeated if hasattr(field, "is_repeated") else field.label == FieldDescriptor.LABEL_REPEATED
+
+
+def is_packed(field):
+    """Whether the numbers of a list are written one behind another, as one field; newer packages have a word of their own for it."""
+    if hasattr(field, "is_packed"):
+        return field.is_packed
+    if field.GetOptions().HasField("packed"):
+        return field.GetOptions().packed
+    file = descriptor_pb2.FileDescriptorProto()
+    field.file.CopyToProto(file)
+    return file.syntax == "proto3"
 
 
 def columns_of(descriptor, path=()):
@@ -175,10 +194,30 @@ def column_name(path):
 
 
 def default_of(field):
-    """What a field has that isn't in the message: its zero, and nothing where the message may as well be without it."""
+    """What a field has in JSON form that isn't in the message: its zero, and nothing where the message may as well be without it."""
     if is_repeated(field) or field.has_presence:
         return None
-    return field.enum_type.values_by_number[0].name if field.enum_type else field.default_value
+    if field.enum_type:
+        return field.enum_type.values_by_number[0].name
+    if field.cpp_type == field.CPPTYPE_STRING:  # bytes, too
+        return ""
+    return "0" if field.cpp_type in (field.CPPTYPE_INT64, field.CPPTYPE_UINT64) else field.default_value
+
+
+def with_zeros(value, kind):
+    """A message in JSON form, or the messages of a list or a map, with the zeros that the form leaves out. `kind` is None for others."""
+    if kind is None or kind.full_name.startswith(WELL_KNOWN):
+        return value
+    if isinstance(value, list):
+        return [with_zeros(it, kind) for it in value]
+    if kind.GetOptions().map_entry:
+        return {key: with_zeros(it, kind.fields_by_name["value"].message_type) for key, it in value.items()}
+    found = {}
+    for field in kind.fields:
+        it = value.get(field.name, default_of(field))
+        if it is not None:
+            found[field.name] = with_zeros(it, field.message_type)
+    return found | {name: it for name, it in value.items() if name not in found}
 
 
 def value_at(message, path):
@@ -187,4 +226,5 @@ def value_at(message, path):
         message = message.get(field.name)
         if message is None:
             return None
-    return message.get(path[-1].name, default_of(path[-1]))
+    found = message.get(path[-1].name)
+    return default_of(path[-1]) if found is None else with_zeros(found, path[-1].message_type)

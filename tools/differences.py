@@ -7,7 +7,7 @@ from dataclasses import dataclass
 from fractions import Fraction
 from itertools import zip_longest
 
-from record import content_of, name_of, whole_of
+from record import content_of, in_a_line, name_of, whole_of
 
 LONGEST_LINE, LONGEST_VALUE = 300, 80  # characters
 
@@ -153,7 +153,7 @@ class Comparison:
             self.passed += 1
             return
         self.counts[channel] += 1
-        self.found.setdefault(channel, f"{name_of(channel)} {one[0]}{what}")
+        self.found.setdefault(channel, f"{in_a_line(name_of(channel))} {one[0]}{what}")
 
     def difference(self, channel, one, other):
         """How two messages differ, None where the rules let that pass."""
@@ -167,7 +167,10 @@ class Comparison:
         messages = [record.message(channel, it) for record, it in zip(self.records, (one, other))]
         if not any(it is None for it in messages):
             fields = Fields(self.rules)
-            found = next(fields.messages(*messages), None)
+            try:
+                found = next(fields.messages(*messages), None)
+            except UnicodeDecodeError:  # a string that isn't UTF-8, in some implementations of the package
+                return differing_bytes(one, other)
             if found:
                 name, mine, theirs = found
                 return f"{name} {cut(mine, LONGEST_VALUE)} and {cut(theirs, LONGEST_VALUE)}"
@@ -186,7 +189,7 @@ class Comparison:
                     self.counts[channel] += len(queue)
                     self.found.setdefault(
                         channel,
-                        f"{name_of(channel)} {queue[0][0]}: only in {self.records[which].path},"
+                        f"{in_a_line(name_of(channel))} {queue[0][0]}: only in {self.records[which].path},"
                         f" which has {counts[which]} in place of {counts[1 - which]}",
                     )
 

@@ -17,7 +17,7 @@ from contextlib import ExitStack
 from fractions import Fraction
 
 from differences import Comparison, Rules
-from record import content_of, each_message, forms_of, header_of, name_of, opened, whole_of
+from record import content_of, each_message, forms_of, header_of, in_a_line, name_of, opened, whole_of
 from stats import print_stats
 
 UNDECODED = "undecoded bytes"  # a head that no field has
@@ -52,7 +52,7 @@ class Record:
         try:
             return self.types.of(channel)
         except ValueError as error:
-            print(f"{self.tool}: {self.path}: {name_of(channel)}: {error}", file=sys.stderr)
+            print(f"{self.tool}: {self.path}: {in_a_line(name_of(channel))}: {error}", file=sys.stderr)
             return None
 
     def messages(self):
@@ -116,7 +116,7 @@ def print_json(record):
 def print_lines(record):
     """A line a message."""
     for channel, number, time, content in record.messages():
-        print(f"{name_of(channel)} {number} {time} {record.text(channel, content)}")
+        print(f"{in_a_line(name_of(channel))} {number} {time} {record.text(channel, content)}")
 
 
 def rules_of(words, records):

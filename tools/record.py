@@ -225,6 +225,15 @@ def name_of(channel):
     return channel.decode("utf-8", "replace")
 
 
+# What would break a line, or can't be seen.
+ESCAPES = {code: f"\\{code:03o}" for code in [*range(32), 127]} | {ord("\n"): "\\n", ord("\t"): "\\t", ord("\r"): "\\r"}
+
+
+def in_a_line(text):
+    """A text that stands in one line: control characters are escaped as in a trace."""
+    return text.translate(ESCAPES)
+
+
 def whole_of(content):
     """The number that a content `{ 1 value: sint64 }` holds, or None."""
     try:

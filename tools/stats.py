@@ -3,7 +3,7 @@ import json
 from dataclasses import dataclass
 from datetime import datetime, timezone
 
-from record import name_of
+from record import in_a_line, name_of
 
 SECOND = 1_000_000_000  # nanoseconds
 HEADS = ["messages", "first", "last", "seconds", "a second", "bytes", "channel", "type"]
@@ -39,12 +39,13 @@ class Channel:
 
     def cells(self):
         """The row of a table."""
+        names = ["all" if self.name is None else in_a_line(self.name), in_a_line(self.kind)]
         if not self.messages:
-            return ["0", "", "", "", "", "0", self.name or "", self.kind]
+            return ["0", "", "", "", "", "0", *names]
         seconds, rest = divmod(self.last - self.first, SECOND)
         rate = "" if self.rate() is None else f"{self.rate():.3f}"
         times = [date_of(self.first), date_of(self.last), f"{seconds}.{rest:09}"]
-        return [str(self.messages), *times, rate, str(self.size), "all" if self.name is None else self.name, self.kind]
+        return [str(self.messages), *times, rate, str(self.size), *names]
 
     def entry(self):
         """The same as an object. Times in nanoseconds are texts, since 64 bits are more than many readers of JSON keep."""

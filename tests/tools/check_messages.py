@@ -26,7 +26,7 @@ POINT = [("x", FIELD.TYPE_DOUBLE, ONE, None), ("ok", FIELD.TYPE_BOOL, ONE, None)
          ("kind", FIELD.TYPE_ENUM, ONE, ".demo.Kind")]
 SCAN = [("centre", FIELD.TYPE_MESSAGE, ONE, ".demo.Point"), ("points", FIELD.TYPE_MESSAGE, MANY, ".demo.Point"),
         ("speed", FIELD.TYPE_FLOAT, ONE, None), ("steps", FIELD.TYPE_SINT32, MANY, None), ("name", FIELD.TYPE_STRING, ONE, None),
-        ("count", FIELD.TYPE_UINT32, ONE, None)]
+        ("count", FIELD.TYPE_UINT32, ONE, None), ("data", FIELD.TYPE_BYTES, ONE, None)]
 KINDS = ["NONE", "CAR", "BIKE"]
 
 
@@ -80,7 +80,8 @@ def some_scan(chance, fields):
     """The values of a message, as a dictionary."""
     values = {"centre": some_point(chance), "points": [some_point(chance) for _ in range(chance.randrange(4))],
               "speed": chance.randrange(-8, 9) / 4, "steps": [chance.randrange(-5, 5) for _ in range(chance.randrange(3))],
-              "name": chance.choice(["", "größe", 'a,"b"']), "count": chance.choice([0, 1, 2**32 - 1])}
+              "name": chance.choice(["", "größe", 'a,"b"']), "count": chance.choice([0, 1, 2**32 - 1]),
+              "data": chance.choice([b"", b"\x00\xff"])}
     return {key: value for key, value in values.items() if key in fields and chance.random() < 0.8}
 
 
@@ -96,9 +97,14 @@ def point_cells(point):
 
 
 def point_json(point):
-    """A point in JSON, where what is zero is left out and 64 bits are a text."""
-    found = {key: value for key, value in point.items() if value}
-    return found | ({"n": str(found["n"])} if "n" in found else {}) | ({"kind": KINDS[found["kind"]]} if "kind" in found else {})
+    """A point in JSON, with its zeros; 64 bits are a text."""
+    values = {"x": 0.0, "ok": False, "n": 0, "kind": 0} | point
+    return {"x": values["x"], "ok": values["ok"], "n": str(values["n"]), "kind": KINDS[values["kind"]]}
+
+
+def base_64(values):
+    """The bytes of a message as a cell, in base 64."""
+    return "AP8=" if values.get("data") else ""
 
 
 def scan_cells(values):
@@ -106,13 +112,14 @@ def scan_cells(values):
     cells = point_cells(values["centre"]) if "centre" in values else [""] * 4
     points, steps = [point_json(it) for it in values.get("points", [])], values.get("steps", [])
     cells += [json.dumps(points) if points else "", text_of(values.get("speed", 0.0)), json.dumps(steps) if steps else ""]
-    return cells + [values.get("name", ""), text_of(values.get("count", 0))]
+    return cells + [values.get("name", ""), text_of(values.get("count", 0)), base_64(values)]
 
 
 def old_cells(values):
     """The cells of a message of old.Scan: a field of proto2 that is left out is no zero."""
     steps = values.get("steps", [])
-    return [text_of(values.get("speed", "")), json.dumps(steps) if steps else "", values.get("name", ""), text_of(values.get("count", ""))]
+    cells = [text_of(values.get("speed", "")), json.dumps(steps) if steps else ""]
+    return cells + [values.get("name", ""), text_of(values.get("count", "")), base_64(values)]
 
 
 def printed(*words, status=0):
@@ -137,19 +144,23 @@ def check_rows(chance, count):
              b"/old": (b"old.Scan", OLD_DESCRIPTION), b"/old/copy": (b"old.Scan", b"")}
     of = {b"/scan": "demo.Scan", b"/copy": "demo.Scan", b"/old": "old.Scan", b"/old/copy": "old.Scan"}
     tape = [(channel, 10 * k, contents[kind][k]) for k in range(count) for channel, kind in of.items()]
-    bad = b"\x0d\x00"  # a number of four bytes that is cut
-    tape += [(channel, 10 * count, bad) for channel in of] + [(b"/point", 10 * count, class_of("demo.Point")(n=3).SerializeToString())]
+    # A number of four bytes that is cut, and a name that isn't UTF-8: the name is field 5 of demo.Scan and field 3 of old.Scan.
+    bad = {"demo.Scan": [b"\x0d\x00", b"\x2a\x01\xff"], "old.Scan": [b"\x0d\x00", b"\x1a\x01\xff"]}
+    tape += [(channel, 10 * count, content) for channel, kind in of.items() for content in bad[kind]]
+    tape.append((b"/point", 10 * count, class_of("demo.Point")(n=3).SerializeToString()))
     write("scans.rec", tape, forms)
     write("none.rec", tape, {channel: (kind, b"") for channel, (kind, _) in forms.items()})
     # The one that imports another one comes first.
     with open("types", "wb") as file:
         file.write(descriptor_pb2.FileDescriptorSet(file=[SCAN_FILE, POINT_FILE, OLD_FILE]).SerializeToString())
-    heads = {"demo.Scan": "centre.x centre.ok centre.n centre.kind points speed steps name count", "old.Scan": "speed steps name count"}
+    shared = "speed steps name count data"
+    heads = {"demo.Scan": f"centre.x centre.ok centre.n centre.kind points {shared}", "old.Scan": shared}
     for channel, kind in of.items():
         cells = scan_cells if kind == "demo.Scan" else old_cells
         want = [["channel", "number", "time", *heads[kind].split(), "undecoded bytes"]]
         want += [[channel.decode(), str(k + 1), str(10 * k), *cells(it), ""] for k, it in enumerate(values[kind])]
-        want.append([channel.decode(), str(count + 1), str(10 * count)] + [""] * len(heads[kind].split()) + [f"0x{bad.hex()}"])
+        empty = [""] * len(heads[kind].split())
+        want += [[channel.decode(), str(count + k), str(10 * count), *empty, f"0x{it.hex()}"] for k, it in enumerate(bad[kind], 1)]
         for words in (["scans.rec"], ["none.rec", "--types", "types"]):
             rows = list(csv.reader(io.StringIO(printed(*words, "--csv", "--channel", channel.decode()))))
             differs = next((pair for pair in zip(rows, want) if pair[0] != pair[1]), None)

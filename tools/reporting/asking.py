@@ -5,6 +5,7 @@ import shutil
 import subprocess
 
 from reporting.differences import compare
+from reporting.fields import Describer
 from reporting.page import render, write_page
 from reporting.reading import parts_checked, parts_read, read_replay
 from reporting.view import OPTIONS, verdict_of, view_of
@@ -73,11 +74,11 @@ def wiring_of(words, question):
 
 def make_page(words):
     """Writes the page of a replay, and gives its verdict. A ValueError or an OSError tells of files that make no replay."""
-    program = program_of(words)
+    program, describer = program_of(words), Describer(words.types)
     verify, check = Question(program, verify_command(words)), Question(program, check_command(words))
     try:
         parts, wiring = wiring_of(words, check)
-        replay = read_replay(words.trace, words.out, parts, has_digests=bool(words.good))
+        replay = read_replay(words.trace, words.out, parts, describer, has_digests=bool(words.good))
         comparison = compare(replay, words.out, words.good) if words.good else None
         status, printed = verify.answer()
     finally:

@@ -5,14 +5,34 @@ DEEPEST = 4  # messages in messages
 MOST_FIELDS = 24  # of a channel
 
 
-def class_of(channel):
-    """The class of a channel's messages and the module that reads such, None twice where it can't be had."""
-    try:
-        import described  # it needs the package
+class Describer:
+    """Finds the classes of messages by what a record describes, and by a file with a FileDescriptorSet where there is one."""
 
-        return described.class_of(channel.kind, channel.description), described
-    except (ImportError, ValueError):
-        return None, None
+    def __init__(self, path=None):
+        """A ValueError tells of a file that can't be used."""
+        self.path, self.pool = path, None
+        if path:
+            try:
+                import described  # it needs the package
+            except ImportError as error:
+                raise ValueError(f"{error}; --types needs the Protocol Buffers package (python3-protobuf of Debian)") from None
+            self.pool = described.pool_of_set(path)
+
+    def classes_of(self, forms):
+        """The class of each channel that has one, by the types and descriptions of all. Without the package there is none."""
+        if not self.path and not any(kind and description for kind, description in forms.values()):
+            return {}
+        try:
+            import described  # it needs the package
+        except ImportError:
+            return {}
+        types, found = described.Types(forms, self.path, self.pool), {}
+        for channel in forms:
+            try:
+                found[channel] = types.of(channel)
+            except ValueError:  # its numbers aren't plotted
+                continue
+        return {channel: kind for channel, kind in found.items() if kind}
 
 
 def is_number(field):
@@ -21,15 +41,17 @@ def is_number(field):
     return field.cpp_type in (*whole, field.CPPTYPE_DOUBLE, field.CPPTYPE_FLOAT)
 
 
-def paths_of(descriptor, described, before=()):
+def paths_of(descriptor, before=()):
     """The ways to the single numbers of a message, each the fields on it."""
+    import described  # it needs the package
+
     found = []
     for field in descriptor.fields:
         path = before + (field,)
         if described.is_repeated(field):
             continue
         if field.message_type is not None and len(path) < DEEPEST:
-            found += paths_of(field.message_type, described, path)
+            found += paths_of(field.message_type, path)
         elif is_number(field):
             found.append(path)
     return found
@@ -52,12 +74,12 @@ def number_at(message, path):
     return message if math.isfinite(message) else None
 
 
-def read_samples(channel, kind):
+def read_samples(channel):
     """The times and messages of a channel's samples; bytes that are no message are left out."""
     found = []
     for time, content in channel.samples:
         try:
-            found.append((time, kind.FromString(content)))
+            found.append((time, channel.message_class.FromString(content)))
         except Exception:  # the package has errors of several kinds for bytes that are no message, and warnings
             continue
     return found
@@ -65,11 +87,10 @@ def read_samples(channel, kind):
 
 def numbers_of(channel):
     """The fields of a channel's messages that are numbers and change, each its name, times and numbers."""
-    kind, described = class_of(channel) if channel.samples else (None, None)
-    if kind is None:
+    if not channel.samples:
         return
-    messages, count = read_samples(channel, kind), 0
-    for path in paths_of(kind.DESCRIPTOR, described):
+    messages, count = read_samples(channel), 0
+    for path in paths_of(channel.message_class.DESCRIPTOR):
         points = [(time, value) for time, message in messages if (value := number_at(message, path)) is not None]
         if len({value for _, value in points}) > 1:
             yield ".".join(field.name for field in path), [it[0] for it in points], [it[1] for it in points]

@@ -44,7 +44,7 @@ class Channel:
     values: array = field(default_factory=lambda: array("q"))  # 0 where a message is no whole number
     valued: bytearray = field(default_factory=bytearray)  # 1 where it is one
     size: int = 0  # bytes of all contents
-    description: bytes = b""  # of its type
+    message_class: type = None  # of its messages, where their type is described
     step: int = 0  # each how many messages a content is kept, 0 where none is
     samples: list = field(default_factory=list)  # times and contents of messages that are no whole numbers
     digests: array = field(default_factory=lambda: array("q"))  # of the contents, where they are to be compared
@@ -110,27 +110,27 @@ class Values:
         return value
 
 
-def channels_of(trace, data):
-    """The channels of a trace, with the types that a record has for them."""
+def channels_of(trace, data, describer):
+    """The channels of a trace, with the types that a record has for them, and the classes of their messages."""
     forms, counts = forms_of(data), Counter(trace.tape_channels)
-    described = {kind: description for kind, description in forms.values() if kind and description}
+    classes = describer.classes_of(forms)
     found = []
     for number, name in enumerate(trace.channels):
-        kind, description = forms.get(name.encode("utf-8", "surrogateescape"), (b"", b""))
-        channel = Channel(name, text_of(kind), description=description or described.get(kind, b""))
-        if channel.description:
+        key = name.encode("utf-8", "surrogateescape")
+        channel = Channel(name, text_of(forms.get(key, (b"",))[0]), message_class=classes.get(key))
+        if channel.message_class:
             channel.step = -(-counts[number] // min(SAMPLES, max(ALL_SAMPLES // len(trace.channels), 1)))
         found.append(channel)
     return found
 
 
-def read_channels(trace, path, has_digests=False):
+def read_channels(trace, path, describer, has_digests=False):
     """The channels of the record at a path, which has to be that of a trace's tape, in the order of the tape."""
     names = [it.encode("utf-8", "surrogateescape") for it in trace.channels]
     tape, value_of = zip(trace.tape_channels, trace.tape_sequences), Values().of
     with opened(path) as data:
         header_of(data)
-        channels = channels_of(trace, data)
+        channels = channels_of(trace, data, describer)
         for name, time, content in each_message(data):
             number, sequence = next(tape, (None, 0))
             if number is None or names[number] != name:
@@ -212,14 +212,14 @@ def check_tuples(replay):
                 raise ValueError(f"component {component.name}: a call on a message that {channel.name} doesn't have")
 
 
-def read_replay(trace_path, record_path, parts, has_digests=False):
+def read_replay(trace_path, record_path, parts, describer, has_digests=False):
     """The run of a trace and a record with these components, with digests of its contents where it is to be compared.
 
     A ValueError tells of files that make no run.
     """
     trace = read_trace(trace_path)
     try:
-        channels = read_channels(trace, record_path, has_digests)
+        channels = read_channels(trace, record_path, describer, has_digests)
     except ValueError as error:
         raise ValueError(f"{record_path}: {error}") from None
     replay = Replay(trace, channels, parts)
