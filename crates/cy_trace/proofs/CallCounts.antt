@@ -6,7 +6,7 @@ use Rattle.cy_trace.specs.Summary.{calls_from}
 
 -- the calls so far, and those of the components that follow
 pub record CallsSoFar (run : Run) (plans : List Plan) (component count : ℕ) : Type 0 where
-  pub few : count ≤ component * 72057594037927936
+  pub few : count ≤ component * 18446744073709551616
   pub so_far : count + calls_from run component (drop component plans) ≡ calls_from run 0 plans
 
 calls_step : (run : Run) (plans : List Plan) (n component : ℕ) → n < length plans → calls_from run component (drop n plans) ≡ length (run.calls component) + calls_from run (component + 1) (drop (suc n) plans)
@@ -14,7 +14,7 @@ calls_step run [] n component inside = absurd (omega arith)
 calls_step run (p ∷ plans) zero component inside = refl
 calls_step run (p ∷ plans) (suc n) component inside = calls_step run plans n component (omega arith)
 
-pub calls_more : (run : Run) (plans : List Plan) (component count here : ℕ) → CallsSoFar run plans component count → component < length plans → here ≡ length (run.calls component) → here ≤ 72057594037927936 → CallsSoFar run plans (component + 1) (count + here)
+pub calls_more : (run : Run) (plans : List Plan) (component count here : ℕ) → CallsSoFar run plans component count → component < length plans → here ≡ length (run.calls component) → here ≤ 18446744073709551616 → CallsSoFar run plans (component + 1) (count + here)
 calls_more run plans component count here c inside is small =
     let few = c.few in
     let so_far = c.so_far in

@@ -1,9 +1,9 @@
 -- Lines that are gathered in an array, some at a time.
-use Rattle.std.proofs.Common.{ℕ, zero, suc, ◌+◌, ◌<◌, ◌≤◌, ◌≡◌, ◌∙◌, ap, List, [], ◌∷◌, ◌++◌, length, flat_map, take, get_or, sym, refl, arith, append_assoc, if◌then◌else◌, is_some, Bool, true, false, codes}
+use Rattle.std.proofs.Common.{ℕ, zero, suc, ◌+◌, ◌<◌, ◌≤◌, ◌≡◌, ◌∙◌, ap, List, [], ◌∷◌, ◌++◌, length, flat_map, take, drop, get_or, sym, refl, arith, append_assoc, if◌then◌else◌, is_some, Bool, true, false, codes}
 use Rattle.std.specs.List.{All}
 use Rattle.std.specs.Fmt.{decimal}
 use Rattle.cy_msg.specs.Names.{channel_name}
-use Rattle.std.proofs.lemmas.List.{take_more, length-take-le, append-nil, flat_map_more}
+use Rattle.std.proofs.lemmas.List.{take_more, take-append-drop, length-take-le, append-nil, flat_map_more}
 use Rattle.std.proofs.lemmas.List.Concat.{flat_map-append}
 use Rattle.std.proofs.lemmas.List.Elements.{All-get_or}
 use Rattle.cy_trace.proofs.Starts.{texts_of, text_read}
@@ -13,17 +13,6 @@ use Rattle.cy_trace.specs.declared.start.LineStart.{LineStart}
 use Rattle.cy_trace.specs.private.TapeLines.{started_line}
 use Rattle.cy_trace.specs.TraceText.{call_line, call_lines}
 use Rattle.cy_trace.specs.private.OutsAfter.{outs_after}
-
--- One more call.
-suc_outs : (before : ℕ) (calls : List Call) (i : ℕ) (d : Call) → i < length calls → outs_after before (take (suc i) calls) ≡ outs_after before (take i calls) + (if is_some (get_or calls i d).out then 1 else 0)
-suc_outs before [] i d low = absurd (omega (arith, low))
-suc_outs before (x ∷ rest) zero d low = refl
-suc_outs before (x ∷ rest) (suc i) d low = suc_outs (before + (if is_some x.out then 1 else 0)) rest i d (omega (arith, low))
-
-pub outs_more : (before : ℕ) (calls : List Call) (i : ℕ) (d : Call) → i < length calls → outs_after before (take (i + 1) calls) ≡ outs_after before (take i calls) + (if is_some (get_or calls i d).out then 1 else 0)
-outs_more before calls i d low =
-    let more : i + 1 ≡ suc i = omega arith in
-    ap (λ k. outs_after before (take k calls)) more ∙ suc_outs before calls i d low
 
 one_at_most : (b : Bool) → (if b then 1 else 0) ≤ 1
 one_at_most true = omega arith
@@ -44,26 +33,6 @@ calls_split before (x ∷ rest) others =
     let behind = before + (if is_some x.out then 1 else 0) in
     ap (λ (t : List ℕ). call_line before x ++ t) (calls_split behind rest others)
     ∙ sym (append_assoc (call_line before x) (call_lines behind rest) (call_lines (outs_after behind rest) others))
-
-pub outs_bound : (before : ℕ) (calls : List Call) (i : ℕ) → i ≤ length calls → outs_after before (take i calls) ≤ before + i
-outs_bound before calls i low = omega (arith, outs_few before (take i calls), length-take-le i calls low)
-
--- One call more, behind the lines of the earlier ones.
-pub call_more : (before after : ℕ) (calls : List Call) (i : ℕ) (d : Call) (lines new : List ℕ) → i < length calls → after ≡ outs_after before (take i calls) → lines ≡ call_lines before (take i calls) → new ≡ lines ++ call_line after (get_or calls i d) → new ≡ call_lines before (take (i + 1) calls)
-call_more before after calls i d lines new low count so is =
-    let x = get_or calls i d in
-    let first = take i calls in
-    let outs = outs_after before first in
-    is ∙ ap (λ (l : List ℕ). l ++ call_line after x) so
-    ∙ ap (λ k. call_lines before first ++ call_line k x) count
-    ∙ ap (λ (l : List ℕ). call_lines before first ++ l) (sym (append-nil (call_line outs x)))
-    ∙ sym (calls_split before first (x ∷ []))
-    ∙ ap (λ (l : List Call). call_lines before l) (sym (take_more calls i d low))
-
--- What the count of outputs is behind a call whose line is put.
-pub count_more : (before after : ℕ) (calls : List Call) (i : ℕ) (d : Call) (lines new : List ℕ) → i < length calls → after ≡ outs_after before (take i calls) → new ≡ lines ++ call_line after (get_or calls i d) → outs_after before (take (i + 1) calls) ≡ after + (if is_some (get_or calls i d).out then 1 else 0)
-count_more before after calls i d lines new low count is =
-    outs_more before calls i d low ∙ ap (λ k. k + (if is_some (get_or calls i d).out then 1 else 0)) (sym count)
 
 -- Some calls behind the text of the earlier ones.
 pub calls_added : (before after : ℕ) (rest some others : List Call) (to new bytes whole : List ℕ) → rest ≡ some ++ others → after ≡ outs_after before some → new ≡ to ++ bytes → bytes ≡ call_lines before some → to ++ call_lines before rest ≡ whole → new ++ call_lines after others ≡ whole
@@ -105,3 +74,20 @@ lines_added starts rest some others to new bytes whole parts is text so =
     ∙ append_assoc to (flat_map f some) (flat_map f others)
     ∙ ap (λ (l : List ℕ). to ++ l) (sym (flat_map-append f some others) ∙ ap (λ (l : List Token). flat_map f l) (sym parts))
     ∙ so
+
+-- A call that comes next, and those behind it.
+pub outs_next : (after one : ℕ) (rest others : List Call) (x : Call) (whole : ℕ) → rest ≡ x ∷ others → one ≡ (if is_some x.out then 1 else 0) → outs_after after rest ≡ whole → outs_after (after + one) others ≡ whole
+outs_next after one rest others x whole is count so = ap (λ n. outs_after (after + n) others) count ∙ ap (outs_after after) (sym is) ∙ so
+
+pub line_next : (after one : ℕ) (rest others : List Call) (x : Call) (lines new whole : List ℕ) → rest ≡ x ∷ others → one ≡ (if is_some x.out then 1 else 0) → new ≡ lines ++ call_line after x → lines ++ call_lines after rest ≡ whole
+    → new ++ call_lines (after + one) others ≡ whole
+line_next after one rest others x lines new whole is count text so =
+    ap (λ (l : List ℕ). l ++ call_lines (after + one) others) text ∙ ap (λ n. lines ++ call_line after x ++ call_lines (after + n) others) count
+    ∙ append_assoc lines (call_line after x) (call_lines (after + (if is_some x.out then 1 else 0)) others) ∙ ap (λ (l : List Call). lines ++ call_lines after l) (sym is) ∙ so
+
+-- Calls that are parted at a place.
+pub calls_parted : (n : ℕ) (rest some others : List Call) → some ≡ take n rest → others ≡ drop n rest → rest ≡ some ++ others
+calls_parted n rest some others first second = sym (take-append-drop n rest) ∙ ap (λ (l : List Call). l ++ drop n rest) (sym first) ∙ ap (λ (l : List Call). some ++ l) (sym second)
+
+pub first_count : (n : ℕ) (rest some : List Call) → some ≡ take n rest → n ≤ length rest → length some ≡ n
+first_count n rest some first low = ap length first ∙ length-take-le n rest low

@@ -20,10 +20,6 @@ role_added arrivals n d to old new inside so is =
     ∙ ap (λ (l : List ℕ). old ++ l) (sym (map-append digit (take n arrivals) (get_or arrivals n d ∷ [])))
     ∙ ap (λ (l : List Arrival). old ++ map digit l) (sym (take_more arrivals n d inside))
 
--- what a place has that is not there
-abbrev pub no_arrival : Arrival
-no_arrival = (0, record { channel = 0; seq = 0; time = 0; whole = None; origin = None })
-
 -- one component more
 pub component_added : (version : ℕ) (w : Run) (plans : List Plan) (n : ℕ) (p : Plan) (to new whole : List ℕ) → n < length plans → p ≡ get_or plans n p → to ++ components_text version w n (drop n plans) ≡ whole → new ≡ to ++ component_text version p (w.arrivals n) (w.calls n) (w.ended n)
     → new ++ components_text version w (n + 1) (drop (n + 1) plans) ≡ whole

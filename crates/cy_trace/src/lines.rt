@@ -213,13 +213,15 @@ fn push_call_lines(to: &mut Vec<u8>, calls: Calls<'_>) -> Result<(), AllocError>
     let mut page = [0; ROOM];
     let mut numeral = Numeral::zero();
     let mut before = 0;
+    let mut left = calls.len();
     let mut rest = calls;
-    while !rest.is_empty() {
-        let some = rest.len().min(AT_ONCE);
-        let (some, others) = rest.split_at(some);
+    while left > 0 {
+        let count = left.min(AT_ONCE);
+        let (some, others) = rest.split_at(count);
         let (end, after) = put_calls(&mut page, before, some, &mut numeral);
         to.extend_from_slice(&page[..end])?;
         before = after;
+        left -= count;
         rest = others;
     }
     Ok(())

@@ -19,7 +19,7 @@ use std::io::Write;
 use wake_core::World;
 
 // How many calls there were.
-fn calls_in(world: &World, plans: &[Plan]) -> u64
+fn calls_in(world: &World, plans: &[Plan]) -> u128
     requires quiet { Quiet (plain_of world.now) }
     requires routes { (plain_of world.now).routes ≡ routes_of plans.now }
     requires few { length plans.now ≤ 64 }
@@ -27,13 +27,13 @@ fn calls_in(world: &World, plans: &[Plan]) -> u64
 {
     let mut count = 0;
     for component in 0..plans.len() {
-        count += calls_of(world, component as u32).len() as u64;
+        count += calls_of(world, component as u32).len() as u128;
     }
     count
 }
 
 // A count behind what it counts, at the end of others.
-fn push_count(to: &mut Vec<u8>, what: &str, count: u64) -> io::Result<()>
+fn push_count(to: &mut Vec<u8>, what: &str, count: u128) -> io::Result<()>
     ensures { OnOk result (to.new.items ≡ to.old.items ++ (what.now ++ decimal count)) }
 {
     write!(to, "{what}{count}")
@@ -45,16 +45,16 @@ fn push_counts(
     front: &str,
     played: u32,
     shadowed: u32,
-    calls: u64,
+    calls: u128,
     written: u64,
 ) -> io::Result<()>
     ensures { OnOk result (to.new.items
         ≡ to.old.items ++ counts_line front.now played shadowed calls written) }
 {
-    push_count(to, front, u64::from(played))?;
-    push_count(to, ", shadowed ", u64::from(shadowed))?;
+    push_count(to, front, u128::from(played))?;
+    push_count(to, ", shadowed ", u128::from(shadowed))?;
     push_count(to, ", calls ", calls)?;
-    push_count(to, ", written ", written)?;
+    push_count(to, ", written ", u128::from(written))?;
     to.write_all(b"\n")?;
     Ok(())
 }

@@ -1,4 +1,4 @@
-use Rattle.std.proofs.Common.{rules, ◌≤◌, length, ap}
+use Rattle.std.proofs.Common.{rules, length, ap, ◌∙◌, arith}
 use Rattle.wake_core.specs.Rest.{run_shown}
 use Rattle.wake_core.specs.WorldOf.{plain_of}
 use Rattle.cy_trace.proofs.CallCounts.{calls_more}
@@ -6,5 +6,5 @@ use Rattle.cy_trace.proofs.summary.calls_in.Goals as goal
 
 pub loop-component-preserved : goal.loop-component-preserved
 loop-component-preserved c =
-    let small : length c.calls_of.result.now ≤ 72057594037927936 = search rules in
-    calls_more (run_shown (plain_of c.args.world.now)) c.args.plans.now c.loop-component.component c.loop-component.count (length c.calls_of.result.now) c.loop-component.invariant (search rules) (ap length c.calls_of.ensures) small
+    calls_more (run_shown (plain_of c.args.world.now)) c.args.plans.now c.loop-component.component c.loop-component.count c.len.result c.loop-component.invariant (search rules)
+    (c.len.ensures ∙ ap length c.calls_of.ensures) (omega (arith, c.len.type_inv))

@@ -11,5 +11,6 @@ returns c =
       c.in_ok-push_count.ensures,
       c.from.ensures,
       c.from-2.ensures,
+      c.from-3.ensures,
     )
     (counts_line-parts c.args.to.now.items c.args.front.now c.args.played c.args.shadowed c.args.calls c.args.written)

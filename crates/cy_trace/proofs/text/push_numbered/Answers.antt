@@ -16,6 +16,6 @@ returns c =
     let arrivals = (plain_of c.args.world.now).arrivals c.args.component in
     let calls = (plain_of c.args.world.now).calls c.args.component in
     on_ok c.push_component.result _ _ (λ so. so
-    ∙ ap (λ (arrived : List Arrival). to ++ component_text c.args.version plan arrived c.calls_of.result.now c.has_ended.result) c.arrivals.ensures.arrivals
+    ∙ ap (λ (arrived : List Arrival). to ++ component_text c.args.version plan arrived c.calls_of.result c.has_ended.result) c.arrivals.ensures.arrivals
     ∙ ap (λ (made : List Call). to ++ component_text c.args.version plan arrivals made c.has_ended.result) c.calls_of.ensures
     ∙ ap (λ (ended : Bool). to ++ component_text c.args.version plan arrivals calls ended) c.has_ended.ensures) c.push_component.ensures
