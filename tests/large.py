@@ -6,6 +6,7 @@
     large.py FILE channel SIZE                      the channel /a, whose name, type and description have SIZE bytes together
     large.py FILE sections TYPE COUNT               COUNT sections of a type's number, without a byte of their own
     large.py FILE chunks COUNT                      COUNT chunks, each of one message on /a at time 1
+    large.py FILE lie TYPE SIZE                     a section of a type's number that says it has SIZE bytes, and 16 bytes of it
 
 Where FILE has zeros alone it has a hole, as far as the file system allows.
 """
@@ -48,6 +49,8 @@ def main():
             write_zeros(file, 2, opening(1, len(message) + size) + message, size)
         elif what == "sections":
             file.write(section(int(words[0]), b"") * int(words[1]))
+        elif what == "lie":
+            file.write(int(words[0]).to_bytes(4, "little") + bytes(4) + int(words[1]).to_bytes(8, "little") + bytes(16))
         elif what == "chunks":
             file.write(section(2, block(1, block(1, b"/a") + number(2, 1))) * int(words[0]))
         else:

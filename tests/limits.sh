@@ -223,6 +223,24 @@ odd_records() {
   meets program 'a device as the record that was written' 'ln -sf /dev/null done.rec' "$VERIFY" 1 'done.rec: differs at 0'
 }
 
+# A section whose head says more bytes than the file has behind it. There is room for a few MB alone, so nothing may be asked for it: the
+# section is refused, or `recover` drops its 32 bytes.
+lying_sizes() {
+  local type size lie cut='at 2064: Cut'
+  for type in 1 2 4; do # the header of a chunk, its body, and a channel
+    for size in 17 536870912; do
+      lie="python3 '$top/tests/large.py' in.rec lie $type $size; cp in.rec done.rec; ulimit -v 8192"
+      meets program "a section of type $type that says $size bytes" "$lie" 'info in.rec' 1 "in.rec: $cut"
+      meets program "a section of type $type that says $size bytes" "$lie" "$PASS" 1 "in.rec: $cut"
+      meets program "a section of type $type that says $size bytes" "$lie" "$SPLIT" 1 "done.rec: $cut"
+      lacks files/out.rec
+      meets program "a section of type $type that says $size bytes" "$lie" "$RECOVER" 0 'done: messages 0, dropped 32'
+    done
+    lie="python3 '$top/tests/large.py' in.rec lie $type 536870913; ulimit -v 8192"
+    meets program "a section of type $type that says more bytes than are read" "$lie" "$PASS" 5 'in.rec: at 2064: TooLong 536870913'
+  done
+}
+
 # Odd files where one is written.
 odd_outs() {
   meets program 'a folder as the out file' 'mkdir out.rec' "$PASS" 3 "$OUT"
@@ -374,7 +392,7 @@ memory_runs_out() { # the words, the line of Done, and the kilobytes: from, step
     answers+="$status "
     case $status in
     0) ends 0 "$2" '' ;;
-    6) tells_of_no_memory "$room" ;;
+    6) tells_of_no_memory "$room" "$1" ;;
     127) lacks files/out.rec ;;
     *) count 1 "$name: in $room KB status $status: '$(cat out err)'" ;;
     esac
@@ -383,13 +401,17 @@ memory_runs_out() { # the words, the line of Done, and the kilobytes: from, step
   count $? "$name: the statuses are$answers"
 }
 
-# Looks at what a run leaves for which there was no memory.
-tells_of_no_memory() { # the kilobytes that there were
+# Looks at what a run leaves for which there was no memory. A command that writes a record alone takes the room for its line first, so that
+# it never runs out of memory behind a whole record.
+tells_of_no_memory() { # the kilobytes that there were, and the words
   [ ! -s out ] && head -c "$(stat -c %s err)" <(echo 'cyber: out of memory') | cmp -s - err
   count $? "$name: in $1 KB it says '$(cat out err)'"
   lacks files/trace
   if [ -s files/out.rec ] && ! cmp -s files/out.rec want/rec; then
     is_cut_short files/out.rec
+  elif [[ $2 = recover* || $2 = split* ]]; then
+    [ ! -s files/out.rec ]
+    count $? "$name: in $1 KB memory ran out behind a whole record"
   fi
 }
 
@@ -400,6 +422,7 @@ signals
 closed_streams
 full_disks
 odd_records
+lying_sizes
 odd_outs
 other_names
 no_leave

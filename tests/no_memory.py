@@ -5,7 +5,8 @@ usage: no_memory.py PROGRAM [MOST]
 A row is a command over small files. It is run once to count its requests, and then once for each of them: the request alone is refused, or it
 and all behind it. MOST bounds how many requests of a row are tried, spread evenly (all, if it isn't given). After Done the files and streams
 are those of the first run. After Memory standard error has the line of Memory or a front of it, what was read is as it was, no other name is
-there than the command's own, and each file that it writes is at a place where its writing may have stopped. Needs a C compiler.
+there than the command's own, and each file that it writes is at a place where its writing may have stopped. A command that writes a record
+alone never ends with Memory behind a whole record, since it takes the room for its line first. Needs a C compiler.
 """
 import os, shutil, struct, subprocess, sys, tempfile
 
@@ -99,6 +100,8 @@ def amiss(row, good, ran):
         if name in records:
             if row[0] != "play on threads" and not is_record_so_far(data, good[4][name]):
                 return f"left {name} as no writing of it stops"
+            if len(records) == 1 and not others and data == good[4][name]:
+                return f"had no memory left behind {name}, which is whole"
         elif name not in others:
             return f"made {name}"
         elif row[0] != "play on threads" and data not in (b"", good[4][name]):

@@ -4,3 +4,4 @@ pub mod Writing
 pub mod Leaving
 pub mod Rows
 pub mod Short
+pub mod TextRead

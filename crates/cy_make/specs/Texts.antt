@@ -1,7 +1,10 @@
 -- What the configuration files that are made say.
-use Rattle.std.specs.Prelude.{ℕ, ◌≤◌, List, [], ◌∷◌, ◌++◌, map, codes, length, Option, Some, None}
+use Rattle.std.specs.Prelude.{ℕ, ◌≡◌, ◌≤◌, ◌<◌, List, [], ◌∷◌, ◌++◌, map, codes, length, Option}
+use Rattle.std.specs.Prelude.{Some, None, Ok, All, Bool, true, false}
 use Rattle.cy_text.specs.declared.tree.Span.{Span}
-use Rattle.cy_text.specs.Fields.{Fields, Held, Nothing, And, Quote, Message}
+use Rattle.cy_text.specs.Fields.{Fields, Held, Nothing, And, Whole, Quote, Message}
+use Rattle.cy_text.specs.Places.{fields_of_text}
+use Rattle.cy_text.specs.Printable.{SameButSpans}
 use Rattle.cy_text.specs.Printed.{printed}
 use Rattle.cy_make.specs.declared.config.Config.{Config}
 use Rattle.cy_make.specs.declared.config.Config.TheVariants.{Adder, Band, Last8, Late, Dag}
@@ -89,3 +92,23 @@ longest_prefix = 1000000
 abbrev pub TextsAreShort : Type 0
 TextsAreShort = (prefix : List ℕ) (c : Config) → length prefix ≤ longest_prefix
     → length (text_of prefix c) ≤ longest_config
+
+-- What each text says.
+abbrev pub counts : List ℕ → Bool → ℕ → Said
+counts name negative size = record { name = name; held = Whole negative size }
+
+abbrev pub said_by : List ℕ → Config → Fields
+said_by prefix Adder = and_said Nothing (says (codes "out") (codes "/sum") ∷ [])
+said_by prefix Band = and_said Nothing (says (codes "out") (codes "/band")
+    ∷ counts (codes "lo") true 2000 ∷ counts (codes "hi") false 500 ∷ [])
+said_by prefix Last8 = and_said Nothing (says (codes "out") (codes "/win")
+    ∷ counts (codes "n") false 8 ∷ [])
+said_by prefix Late = and_said Nothing (says (codes "out") (codes "/late")
+    ∷ counts (codes "delay") false 5000000 ∷ [])
+said_by prefix Dag = dag_fields prefix
+
+-- Each text is read, and says these fields, wherever they stand.
+abbrev pub TextsAreRead : Type 0
+TextsAreRead = (prefix : List ℕ) (c : Config) → All (λ byte. byte < 256) prefix
+    → (fields : Fields) × (fields_of_text (text_of prefix c) ≡ Ok fields)
+    × SameButSpans (said_by prefix c) fields

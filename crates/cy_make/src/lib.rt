@@ -18,4 +18,7 @@ pub use config::Config;
 pub use dag::name_with;
 pub use error::MakeError;
 pub use inputs::write_inputs;
-pub use laws::{input_writes_leave_the_inputs, made_record_is_its_text, made_texts_are_short};
+pub use laws::{
+    input_writes_leave_the_inputs, made_record_is_its_text, made_texts_are_read,
+    made_texts_are_short,
+};

@@ -16,10 +16,11 @@ use Rattle.cy_reader.specs.declared.window.Window.{Window}
 use Rattle.cy_reader.specs.Sections.{WholeSection, section_at}
 use Rattle.cy_reader.specs.Heads.{index_at, section_head, end_of}
 use Rattle.cy_reader.specs.Record.{header_end, longest_file}
-use Rattle.cy_reader.specs.private.Cutting.{IsCut, IsFound, IsSection, EndsWithin, AreKept, Follow, is_kept, seen_part, listed}
+use Rattle.cy_reader.specs.private.Cutting.{IsCut, IsFound, IsSection, EndsWithin, AreKept, Follow, bytes_of, is_kept, seen_part, listed}
 use Rattle.cy_reader.specs.private.Kept.{IsPlaced, seen_index}
 use Rattle.cy_reader.specs.private.Window.{IsRead}
 use Rattle.cy_reader.specs.declared.cutting.Found.TheVariants as found
+use Rattle.cy_reader.proofs.Growing.{bytes_listed}
 use Rattle.cy_reader.proofs.Ahead.{IsAhead, ahead_first, ahead_more, ahead_end, ahead_fault, ahead_index}
 
 -- These sections of a file were read behind the header, up to a place, and this was kept of them.
@@ -36,6 +37,7 @@ pub record IsCutTo (name : List ℕ) (size at : ℕ) (first heads : List PlacedH
   pub counts : SameCounts old now
   pub inside : at ≤ size
   pub within : All (λ p. p.body_at + length p.body ≤ longest_file) parts
+  pub all : bytes_of parts ≤ at
 
 pub nothing_cut : (name : List ℕ) (size : ℕ) (first heads : List PlacedHead) (window : Window) (view : StoreView) → header_end ≤ size → Holds view.files name (λ file. size ≡ length file) → heads ≡ first
     → ((file : List ℕ) → IsRead file window) → IsCutTo name size header_end first heads [] window view view
@@ -53,6 +55,7 @@ nothing_cut name size first heads window view long there is empty = record {
   counts = record { faults = refl; misses = refl };
   inside = long;
   within = All-nil (λ p. p.body_at + length p.body ≤ longest_file);
+  all = omega arith;
 }
 
 map-joined : {A B : Type 0} (f : A → B) (xs ys : List A) → map f (xs ++ ys) ≡ map f xs ++ map f ys
@@ -105,6 +108,7 @@ part_more name size at next first heads pushed parts more head part was window o
   counts = record { faults = counts.faults ∙ so_far.counts.faults; misses = counts.misses ∙ so_far.counts.misses };
   inside = omega (arith, within.inside, is);
   within = subst (All (λ p. p.body_at + length p.body ≤ longest_file)) (sym are) (within_more parts part size short so_far.within within.body);
+  all = omega (arith, ap bytes_of are, bytes_listed parts part head.size within.short, so_far.all, is);
 }
 
 -- the sections end

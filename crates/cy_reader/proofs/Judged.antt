@@ -1,5 +1,5 @@
 -- What a judged head and the bytes behind it say of what stands in a file.
-use Rattle.std.proofs.Common.{◌≡◌, ◌<◌, ◌≤◌, ◌+◌, ◌-◌, ◌^◌, ◌⊎◌, ℕ, List, [], ◌∷◌, length, take, drop, min, refl, ap, sym, ◌∙◌, arith, inl, inr, length-take, length-drop, true, false, Option, Some, None, Result, Ok, Err}
+use Rattle.std.proofs.Common.{if◌then◌else◌, Bool, ◌≡◌, ◌<◌, ◌≤◌, ◌+◌, ◌-◌, ◌^◌, ◌⊎◌, ℕ, List, [], ◌∷◌, length, take, drop, min, refl, ap, sym, ◌∙◌, arith, inl, inr, length-take, length-drop, true, false, Option, Some, None, Result, Ok, Err}
 use Rattle.std.specs.Prelude.{map, filter, IfOk, IfSome, IsOkUnless}
 use Rattle.std.proofs.lemmas.Bool.{le-ltb, lt-ltb, cases_lt}
 use Rattle.cy_store.specs.Files.{Holds}
@@ -155,6 +155,19 @@ kept_none s e = rw (sym e) refl
 pub kept_some : (s : WholeSection) (p : Part) → seen_part p ≡ s → true ≡ is_kept s → map seen_part (listed (Some p)) ≡ filter is_kept (s ∷ [])
 kept_some s p same e = rw (sym e) (ap (λ (x : WholeSection). x ∷ []) same)
 
+-- what is kept of a section has no more bytes
+abbrev bytes_in : List WholeSection → ℕ
+bytes_in [] = 0
+bytes_in (s ∷ rest) = length s.body + bytes_in rest
+
+at_most : (b : Bool) (s : WholeSection) → bytes_in (if b then s ∷ [] else []) ≤ length s.body
+at_most true s = omega arith
+at_most false s = omega arith
+
+kept_short : (s : WholeSection) (part : Option Part) (n : ℕ) → map seen_part (listed part) ≡ filter is_kept (s ∷ []) → length s.body ≤ n → IfSome part (λ p. length p.body ≤ n)
+kept_short s None n kept short = tt
+kept_short s (Some p) n kept short = omega (arith, ap bytes_in kept, at_most (is_kept s) s, short)
+
 pub body_found : (at size : ℕ) (head : Head) (body : List ℕ) (placed : PlacedHead) (part : Option Part) → Fits at size head → (head.kind ≡ kind.Index → ⊥) → length body ≡ head.size
     → placed ≡ (let h : PlacedHead = record { at = at; kind = head.kind; size = head.size } in h) → map seen_part (listed part) ≡ filter is_kept (of_head at head body ∷ []) → IfSome part (λ p. p.body_at + length p.body ≤ size)
     → BodyAnswer at size head body (found.Section placed part)
@@ -174,6 +187,7 @@ body_found at size head body placed part fits other long is kept within =
       within = record {
         inside = omega (arith, whole.1, ap (λ (h : PlacedHead). h.size) is);
         body = within;
+        short = kept_short (of_head at head body) part placed.size kept (omega (arith, long, ap (λ (h : PlacedHead). h.size) is));
       };
     }
 

@@ -2,6 +2,7 @@ pub mod Sums
 pub mod Tied
 pub mod Slices
 pub mod Meeting
+pub mod Growing
 pub mod Sound
 pub mod Refusals
 pub mod Playing

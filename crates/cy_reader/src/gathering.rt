@@ -1,5 +1,5 @@
 // Keeps the chunks' bodies, the channels and the messages of sections that were read.
-ghost use Rattle.std.specs.Prelude.{◌≡◌, ◌≢◌, ◌≤◌, ◌<◌, ◌^◌, ◌+◌, ◌++◌, ◌∷◌, [], All, length, map};
+ghost use Rattle.std.specs.Prelude.{◌≡◌, ◌≢◌, ◌≤◌, ◌+◌, ◌++◌, ◌∷◌, [], All, length, map};
 ghost use Rattle.std.specs.Prelude.{IfOk, IfErr, IfSome, OnOk, IsOkUnless, None};
 ghost use Rattle.std.specs.Vec.Iter.{into_iter_items};
 ghost use Rattle.cy_msg.specs.Answer.{AnswersOr};
@@ -8,9 +8,9 @@ ghost use Rattle.cy_section.specs.Reading.{messages_of};
 ghost use Rattle.cy_reader.specs.Record.{body_met, section_met, sections_met, nothing};
 ghost use Rattle.cy_reader.specs.Record.{longest_file};
 ghost use Rattle.cy_reader.specs.private.Alone.{IsAlone, AreDecoded};
-ghost use Rattle.cy_reader.specs.private.Cutting.{seen_part};
+ghost use Rattle.cy_reader.specs.private.Cutting.{bytes_of, seen_part};
 ghost use Rattle.cy_reader.specs.private.Found.{seen_section};
-ghost use Rattle.cy_reader.specs.private.Loading.{IsSound, Leads, met_of};
+ghost use Rattle.cy_reader.specs.private.Loading.{HasRoom, GrowsBy, IsSound, Leads, met_of};
 
 use crate::LoadError;
 use crate::cutting::Part;
@@ -59,7 +59,7 @@ pub(crate) fn chunk_met(
     part: &Part,
 ) -> Result<(), LoadError>
     requires sound { IsSound (length before.now) loading.old }
-    requires few { length before.now < 2 ^ 32 }
+    requires room { HasRoom (length before.now) loading.old (length part.now.body) }
     requires within { part.now.body_at + length part.now.body ≤ longest_file }
     ensures met { let all = messages_of (fields_of part.now.body_at part.now.body) in
         Leads result (met_of (before.now ++ part.now.body ∷ []) loading.new)
@@ -82,7 +82,7 @@ fn decoded_met(
     alone: Option<Alone>,
 ) -> Result<(), LoadError>
     requires sound { IsSound (length before.now) loading.old }
-    requires few { length before.now < 2 ^ 32 }
+    requires room { HasRoom (length before.now) loading.old (length part.now.body) }
     requires within { part.now.body_at + length part.now.body ≤ longest_file }
     requires alone { IfSome alone (IsAlone part.now) }
     ensures met { let all = messages_of (fields_of part.now.body_at part.now.body) in
@@ -110,20 +110,16 @@ fn keep_chunk(
     alone: Option<Alone>,
 ) -> Result<(), LoadError>
     requires sound { IsSound (length bodies.old.items) loading.old }
+    requires room { HasRoom (length bodies.old.items) loading.old (length part.body) }
     requires within { part.body_at + length part.body ≤ longest_file }
     requires alone { IfSome alone (IsAlone part) }
     ensures met { let all = messages_of (fields_of part.body_at part.body) in
         Leads result (met_of bodies.new.items loading.new)
         (body_met all.fault all.messages (met_of bodies.old.items loading.old)) }
     ensures still_sound { OnOk result (IsSound (length bodies.new.items) loading.new) }
+    ensures bodies { OnOk result (length bodies.new.items ≤ length bodies.old.items + 1) }
     ensures not_store { IfErr result (λ e. e ≢ LoadError.Store) }
 {
-    // A file that is read has fewer chunks than that, but no clause says so.
-    if bodies.len() >= u32::MAX as usize {
-        drop(alone);
-        drop(part);
-        return Err(LoadError::Memory);
-    }
     decoded_met(alloc, bodies.as_slice(), loading, &part, alone)?;
     bodies.push(part.body)?;
     Ok(())
@@ -138,11 +134,13 @@ fn part_met(
     alone: Option<Alone>,
 ) -> Result<(), LoadError>
     requires sound { IsSound (length bodies.old.items) loading.old }
+    requires room { HasRoom (length bodies.old.items) loading.old (length part.body) }
     requires within { part.body_at + length part.body ≤ longest_file }
     requires alone { IfSome alone (IsAlone part) }
     ensures met { Leads result (met_of bodies.new.items loading.new)
         (section_met (seen_part part) (met_of bodies.old.items loading.old)) }
     ensures still_sound { OnOk result (IsSound (length bodies.new.items) loading.new) }
+    ensures bodies { OnOk result (length bodies.new.items ≤ length bodies.old.items + 1) }
     ensures not_store { IfErr result (λ e. e ≢ LoadError.Store) }
 {
     match part.kind {
@@ -165,11 +163,14 @@ fn join(
     decoded: Vec<Option<Alone>>,
 ) -> Result<(), LoadError>
     requires sound { IsSound (length bodies.old.items) loading.old }
+    requires room { HasRoom (length bodies.old.items) loading.old (bytes_of parts.items) }
     requires within { All (λ p. p.body_at + length p.body ≤ longest_file) parts.items }
     requires decoded { AreDecoded parts.items decoded.items }
     ensures met { Leads result (met_of bodies.new.items loading.new)
         (sections_met (map seen_part parts.items) None (met_of bodies.old.items loading.old)) }
     ensures still_sound { OnOk result (IsSound (length bodies.new.items) loading.new) }
+    ensures grown { OnOk result (GrowsBy (bytes_of parts.items) (length bodies.old.items)
+        (length bodies.new.items) loading.old loading.new) }
     ensures not_store { IfErr result (λ e. e ≢ LoadError.Store) }
 {
     let mut each = decoded.into_iter();
@@ -188,10 +189,13 @@ fn group_met<R: Threads + Sync>(
     parts: Vec<Part>,
 ) -> Result<(), LoadError>
     requires sound { IsSound (length bodies.old.items) loading.old }
+    requires room { HasRoom (length bodies.old.items) loading.old (bytes_of parts.items) }
     requires within { All (λ p. p.body_at + length p.body ≤ longest_file) parts.items }
     ensures met { Leads result (met_of bodies.new.items loading.new)
         (sections_met (map seen_part parts.items) None (met_of bodies.old.items loading.old)) }
     ensures still_sound { OnOk result (IsSound (length bodies.new.items) loading.new) }
+    ensures grown { OnOk result (GrowsBy (bytes_of parts.items) (length bodies.old.items)
+        (length bodies.new.items) loading.old loading.new) }
     ensures not_store { IfErr result (λ e. e ≢ LoadError.Store) }
 {
     let decoded = decode(rt, alloc, parts.as_slice())?;
@@ -217,8 +221,8 @@ fn next_group(alloc: Global, left: &mut IntoIter<Part>) -> Result<Vec<Part>, All
 }
 
 // Makes room for the messages that are to be expected of the bytes that are left, by those that so
-// many bytes gave, and for some more, so that they are seldom moved. Where there is no room they are
-// kept as they come.
+// many bytes gave, and for some more, so that they are seldom moved. Where there is no room they
+// are kept as they come.
 fn expect_more(messages: &mut Vec<Message>, done: usize, left: usize)
     ensures { messages.new.items ≡ messages.old.items }
 {
@@ -236,6 +240,7 @@ pub(crate) fn parts_met<R: Threads + Sync>(
     parts: Vec<Part>,
 ) -> Result<(Vec<Bytes>, Loading), LoadError>
     requires within { All (λ p. p.body_at + length p.body ≤ longest_file) parts.items }
+    requires all { bytes_of parts.items ≤ longest_file }
     ensures met { AnswersOr LoadError.Memory (λ k. met_of k.0.items k.1) result
         (sections_met (map seen_part parts.items) None nothing) }
     ensures sound { IfOk result (λ k. IsSound (length k.0.items) k.1) }

@@ -68,6 +68,7 @@ pub(crate) fn alone_met(
 ) -> Result<(), LoadError>
     requires sound { IsSound bodies loading.old }
     requires closed { IsClosed alone.now }
+    requires few { length loading.old.messages.items + length alone.now.messages.items < 2 ^ 32 }
     ensures met { (before : List (List ℕ)) (body : List ℕ) → length before ≡ bodies
         → Leads result (met_of (before ++ body ∷ []) loading.new)
         (behind (met_alone body alone.now) (met_of before loading.old)) }
@@ -75,11 +76,6 @@ pub(crate) fn alone_met(
     ensures not_store { IfErr result (λ e. e ≢ LoadError.Store) }
 {
     let numbers = mention_all(alloc, &mut loading.channels, alone.channels.as_slice())?;
-    // A file that is read has fewer messages than that, but no clause says so.
-    let room = u32::MAX as usize - loading.messages.len();
-    if alone.messages.len() > room {
-        return Err(LoadError::Memory);
-    }
     let others = alone.messages.as_slice();
     move_messages(&mut loading.messages, others, bodies, numbers.as_slice())
 }

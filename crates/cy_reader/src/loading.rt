@@ -76,7 +76,7 @@ fn note_message(
     channel: u32,
     message: &MessageView<'_>,
 ) -> Result<(), LoadError>
-    requires few { length messages.old.items < 2 ^ 32 }
+    requires few { length messages.old.items + 1 < 2 ^ 32 }
     requires short { IsShort body.now }
     requires stands { Stands body.now.bytes.now (message.now.content_at - body.now.at)
         message.now.content.now }
@@ -85,10 +85,6 @@ fn note_message(
     ensures few { OnOk result (length messages.old.items + 1 < 2 ^ 32) }
     ensures only_memory { IsOkUnless result LoadError.Memory }
 {
-    // A file that is read has fewer messages than that, but no clause says so.
-    if messages.len() == u32::MAX as usize {
-        return Err(LoadError::Memory);
-    }
     messages.push(Message {
         channel,
         body: body.before.len() as u32,
@@ -113,6 +109,7 @@ fn message_met(
     requires stands { Stands body.now.bytes.now (message.now.content_at - body.now.at)
         message.now.content.now }
     requires short { IsShort body.now }
+    requires few { length loading.old.messages.items + 1 < 2 ^ 32 }
     ensures met { let bodies = with_body body.now in Leads result (met_of bodies loading.new)
         (message_met (seen message.now) (met_of bodies loading.old)) }
     ensures still_sound { OnOk result (IsSound (length (with_body body.now)) loading.new) }
@@ -149,6 +146,7 @@ pub(crate) fn body_met(
     requires stands { IsWithin body.now.at body.now.bytes.now section.now.body_at
         section.now.body.now }
     requires short { IsShort body.now }
+    requires few { length loading.old.messages.items + length section.now.body.now < 2 ^ 32 }
     ensures met { let bodies = with_body body.now in
         let all = messages_of (fields_of section.now.body_at section.now.body.now) in
         Leads result (met_of bodies loading.new)
@@ -208,6 +206,7 @@ fn section_met(
     requires stands { IsWithin body.now.at body.now.bytes.now section.now.body_at
         section.now.body.now }
     requires short { IsShort body.now }
+    requires few { length loading.old.messages.items + length section.now.body.now < 2 ^ 32 }
     ensures met { let bodies = with_body body.now in Leads result (met_of bodies loading.new)
         (section_met (seen_section section.now) (met_of bodies loading.old)) }
     ensures still_sound { OnOk result (IsSound (length (with_body body.now)) loading.new) }

@@ -39,14 +39,18 @@ told_grown names name (m ∷ rest) named =
     ∙ ap (λ (l : List TapeEntry). entry_by names m ∷ l) (told_grown names name rest (All-tail (λ m. m.name < length names) m rest named))
 
 -- one more message, of a name that is kept anew
-pub told_with : (names grown : List TapeName) (messages more : List NamedSeq) (name : TapeName) (entry : TapeEntry) (tape : List TapeEntry) (n : ℕ) → tape ≡ told_by names messages → All (λ m. m.name < length names) messages
-    → n ≡ length names → grown ≡ names ++ name ∷ [] → more ≡ messages ++ record { name = n; seq = entry.seq } ∷ [] → name.text ≡ entry.name → tape ++ entry ∷ [] ≡ told_by grown more
-told_with names grown messages more name entry tape n is named next with_name with_message text =
-    let last : name_by (names ++ name ∷ []) n ≡ entry.name = ap (name_by (names ++ name ∷ [])) next ∙ name_last names name ∙ text in
+pub told_with : (names grown : List TapeName) (messages more : List NamedSeq) (name : TapeName) (m : NamedSeq) (entry : TapeEntry) (tape : List TapeEntry) → tape ≡ told_by names messages → All (λ m. m.name < length names) messages
+    → grown ≡ names ++ name ∷ [] → more ≡ messages ++ m ∷ [] → entry_by (names ++ name ∷ []) m ≡ entry → tape ++ entry ∷ [] ≡ told_by grown more
+told_with names grown messages more name m entry tape is named with_name with_message told =
     ap (λ (l : List TapeEntry). l ++ entry ∷ []) (is ∙ sym (told_grown names name messages named))
-    ∙ ap (λ (t : List ℕ). told_by (names ++ name ∷ []) messages ++ record { name = t; seq = entry.seq } ∷ []) (sym last)
-    ∙ sym (map-append (entry_by (names ++ name ∷ [])) messages (record { name = n; seq = entry.seq } ∷ []))
+    ∙ ap (λ (e : TapeEntry). told_by (names ++ name ∷ []) messages ++ e ∷ []) (sym told)
+    ∙ sym (map-append (entry_by (names ++ name ∷ [])) messages (m ∷ []))
     ∙ ap (told_by (names ++ name ∷ [])) (sym with_message) ∙ ap (λ (l : List TapeName). told_by l more) (sym with_name)
+
+-- .. which has that name
+pub last_told : (names : List TapeName) (name : TapeName) (n seq : ℕ) (entry : TapeEntry) → n ≡ length names → name.text ≡ entry.name → seq ≡ entry.seq → entry_by (names ++ name ∷ []) (record { name = n; seq = seq }) ≡ entry
+last_told names name n seq entry next text same =
+    ap (λ (t : List ℕ). record { name = t; seq = seq }) (ap (name_by (names ++ name ∷ [])) next ∙ name_last names name ∙ text) ∙ ap (λ (k : ℕ). record { name = entry.name; seq = k }) same
 
 -- the line of a message of a name
 pub message_begins : (names : List TapeName) (number seq : ℕ) (name : TapeName) (bytes a b rest start : List ℕ) → number < length names → name ≡ get_or names number name → IsUtf8 name.text → start ≡ name.start → bytes ≡ start ++ a → a ≡ decimal seq ++ b → IsShort seq → b ≡ 10 ∷ rest

@@ -1,6 +1,7 @@
 -- What is found of a file's sections, as a store is asked for them.
 use Rattle.std.specs.Prelude.{◌≡◌, ◌≢◌, ⊤, ℕ, ◌≤◌, ◌+◌, nat_lt, ◌==◌, if◌then◌else◌, Bool, true}
 use Rattle.std.specs.Prelude.{All, List, [], ◌∷◌, ◌++◌, length, take, drop, map, filter, is_some}
+use Rattle.std.specs.Prelude.{sum_by}
 use Rattle.std.specs.Prelude.{Option, Some, None, Result, Ok, Err, IfOk, IfSome, IsErrOf}
 use Rattle.std.specs.Option.{option_map}
 use Rattle.byteorder.specs.Endian.{little_number}
@@ -79,6 +80,10 @@ is_kept s = is_kept_under s.kind s.body_at s.body
 abbrev pub seen_part : Part → WholeSection
 seen_part p = record { kind = p.kind; body_at = p.body_at; body = p.body }
 
+-- How many bytes sections take: each has a head of 16 bytes, and its body.
+abbrev pub bytes_of : List Part → ℕ
+bytes_of parts = sum_by (λ p. 16 + length p.body) parts
+
 abbrev pub listed : Option Part → List Part
 listed None = []
 listed (Some p) = p ∷ []
@@ -113,6 +118,7 @@ IsFound file at (found.Last (Err fault)) = section_at file at ≡ Err fault
 pub record IsWithinFile (at size : ℕ) (head : PlacedHead) (part : Option Part) : Type 0 where
   pub inside : at + 16 + head.size ≤ size
   pub body : IfSome part (λ p. p.body_at + length p.body ≤ size)
+  pub short : IfSome part (λ p. length p.body ≤ head.size)
 
 abbrev pub EndsWithin : ℕ → ℕ → Found → Type 0
 EndsWithin at size (found.Section head part) = IsWithinFile at size head part
@@ -159,9 +165,10 @@ pub record IsCut (file : List ℕ) (first : List PlacedHead) (c : CutFile) : Typ
   pub place : c.ends_at ≡ end_of header_end sections
   pub index : IfOk c.end (λ i. index_of file header_end ≡ option_map seen_index i)
 
--- Each stands within the longest file that is read.
+-- Each stands within the longest file that is read, and so do all together.
 pub record AreWithin (c : CutFile) : Type 0 where
   pub parts : All (λ p. p.body_at + length p.body ≤ longest_file) c.parts.items
+  pub all : bytes_of c.parts.items ≤ longest_file
   pub index : IfOk c.end (λ i. IfSome i IsPlaced)
 
 pub record CutAnswer (old new : StoreView) (name : List ℕ) (first : List PlacedHead)

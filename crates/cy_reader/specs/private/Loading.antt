@@ -62,6 +62,16 @@ pub record IsSound (bodies : ℕ) (l : Loading) : Type 0 where
   pub numbered : All (λ m. m.channel < length l.channels.list.items) l.messages.items
   pub placed : All (λ m. m.body < bodies) l.messages.items
 
+-- Numbers of 32 bits count the bodies and the messages that are kept, also once sections of so many
+-- bytes are: a section has no more messages than bytes.
+abbrev pub HasRoom : (bodies : ℕ) → Loading → (bytes : ℕ) → Type 0
+HasRoom bodies l bytes = (bodies + bytes < 2 ^ 32) × (length l.messages.items + bytes < 2 ^ 32)
+
+-- As many bodies and messages were kept as sections of so many bytes may have.
+abbrev pub GrowsBy : (bytes : ℕ) → (before after : ℕ) → (old new : Loading) → Type 0
+GrowsBy bytes before after old new = (after ≤ before + bytes)
+    × (length new.messages.items ≤ length old.messages.items + bytes)
+
 -- The bodies that are kept once this one is, the last of them.
 abbrev pub with_body : Body → List (List ℕ)
 with_body b = b.before.now ++ b.bytes.now ∷ []

@@ -1,6 +1,7 @@
 // Each call of the store fails in turn, and what stands then.
 use super::ran::{PASS, Ran, ends, holds, lacks, run, store_of};
 use super::samples::{TRACE, empty_record, in_record, open_record, out_record};
+use crate::calls::{Call, makes_calls};
 use cy_reader::{LoadError, load};
 use cy_section::SectionError;
 use cy_store::MemStore;
@@ -11,14 +12,45 @@ use std::test::Fail;
 use std::thread::Threads;
 
 /// The calls that make the record which is played.
-const CALLS_BEFORE: u64 = 2;
+pub const CALLS_BEFORE: u64 = 2;
 
-/// A size, a read of the header and four of the sections, of 16, 32 and 64 bytes and of the index; the
-/// making of the record, its seven pieces, the making of the trace and its piece.
-const CALLS: usize = 16;
+/// The calls of the program, in their order. The sections of a record are read through a window.
+/// Where the window lacks bytes of a head or of a body, it is filled from there on, and what it had
+/// of them is not read again. It takes 16 bytes first, then twice as many each time, and no more
+/// than are left. An index is read by itself. Each piece of a record is written by one call.
+///
+/// In the record that is read the channel's section is at 2064 (its body at 2080), the chunk's
+/// header at 2089 (2105), the chunk's body at 2113 (2129), the index at 2142 (2158), and the end at
+/// 2209.
+const CALLS: [(&str, Call); 16] = [
+    ("in.rec", Call::Size),
+    // The header.
+    ("in.rec", Call::Read(0, 2064)),
+    // 16 bytes: the channel's head.
+    ("in.rec", Call::Read(2064, 2080)),
+    // 32 bytes from the channel's body on.
+    ("in.rec", Call::Read(2080, 2112)),
+    // 64 bytes from the body of the chunk's header on, of which seven are there.
+    ("in.rec", Call::Read(2112, 2169)),
+    // The index, of which eleven bytes are there.
+    ("in.rec", Call::Read(2169, 2209)),
+    ("out.rec", Call::Create),
+    // The header of an open record, two channels, the header and the body of the chunk, the index,
+    // and the header of a whole record.
+    ("out.rec", Call::Put(0, 2064)),
+    ("out.rec", Call::Put(2064, 2089)),
+    ("out.rec", Call::Put(2089, 2115)),
+    ("out.rec", Call::Put(2115, 2139)),
+    ("out.rec", Call::Put(2139, 2182)),
+    ("out.rec", Call::Put(2182, 2271)),
+    ("out.rec", Call::Put(0, 2064)),
+    ("t.txt", Call::Create),
+    ("t.txt", Call::Put(0, 126)),
+];
 
-/// The first call that puts a piece of the record.
-const FIRST_PUT: usize = 8;
+/// The number of the call that puts the first piece of the record, behind six that read and one
+/// that makes the file.
+pub const FIRST_PUT: usize = 6 + 1 + 1;
 
 /// Where the pieces before each piece of the record end; the last one is put over the first.
 const ENDS: [usize; 7] = [0, 2064, 2089, 2115, 2139, 2182, 2271];
@@ -51,27 +83,26 @@ fn record_at(alloc: Global, piece: usize, keep: usize) -> Result<Vec<u8>, Fail> 
 }
 
 // What is told where this call fails.
-fn line_at(call: usize) -> &'static [u8] {
-    match call {
-        1..=6 => b"cyber: in.rec: the store failed\n".as_slice(),
-        7..=14 => b"cyber: out.rec: the store failed\n".as_slice(),
-        _ => b"cyber: t.txt: the store failed\n".as_slice(),
-    }
+fn line_at(alloc: Global, call: usize) -> Result<String, Fail> {
+    let (file, _) = CALLS[call - 1];
+    Ok(format!(in alloc; "cyber: {file}: the store failed\n")?)
 }
 
 // The record that stands where this call failed and kept so many bytes.
 fn record_after(alloc: Global, call: usize, keep: usize) -> Result<Option<Vec<u8>>, Fail> {
-    Ok(match call {
-        1..=7 => None,
-        8..=14 => Some(record_at(alloc, call - FIRST_PUT, keep)?),
-        _ => Some(out_record(alloc)?),
-    })
+    if call < FIRST_PUT {
+        return Ok(None);
+    }
+    if call - FIRST_PUT < ENDS.len() {
+        return Ok(Some(record_at(alloc, call - FIRST_PUT, keep)?));
+    }
+    Ok(Some(out_record(alloc)?))
 }
 
 // The trace that stands then.
 fn trace_after(call: usize, keep: usize) -> Option<&'static [u8]> {
     let trace = TRACE.as_bytes();
-    if call < CALLS {
+    if call < CALLS.len() {
         None
     } else {
         Some(&trace[..keep.min(trace.len())])
@@ -86,7 +117,8 @@ fn stands(
     keep: usize,
 ) -> Result<(), Fail> {
     let ran = failing_at(rt, alloc, call, keep)?;
-    ends(rt, &ran, Status::StoreFault, b"", line_at(call));
+    let line = line_at(alloc, call)?;
+    ends(rt, &ran, Status::StoreFault, b"", line.as_bytes());
     let record = record_after(alloc, call, keep)?;
     let want = record.as_ref().map(|bytes| bytes.as_slice());
     assert!(rt; ran.store.file("out.rec") == want, "{call} {keep}");
@@ -98,13 +130,19 @@ fn stands(
 }
 
 #[test]
+fn makes_these_calls(rt: HostRuntime) -> Result<(), Fail> {
+    let alloc = rt.alloc();
+    makes_calls(&rt, alloc, &PASS, store_of(alloc, &in_record(alloc)?)?, &CALLS)
+}
+
+#[test]
 fn fails_each_call_in_turn(rt: HostRuntime) -> Result<(), Fail> {
     let alloc = rt.alloc();
-    for call in 1..=CALLS {
+    for call in 1..=CALLS.len() {
         stands(&rt, alloc, call, 0)?;
         stands(&rt, alloc, call, 9)?;
     }
-    let done = failing_at(&rt, alloc, CALLS + 1, 0)?;
+    let done = failing_at(&rt, alloc, CALLS.len() + 1, 0)?;
     assert_eq!(rt; done.status, Status::Done);
     Ok(())
 }
@@ -149,8 +187,8 @@ fn reads_what_a_piece_left_that_failed(rt: HostRuntime) -> Result<(), Fail> {
     Ok(())
 }
 
-// What is recovered of the record of which this piece kept so many bytes: how many messages, and how
-// many bytes are dropped; or what is told where it has no header.
+// What is recovered of the record of which this piece kept so many bytes: how many messages, and
+// how many bytes are dropped; or what is told where it has no header.
 fn recovered_of(piece: usize, keep: usize) -> Result<(usize, usize), &'static [u8]> {
     match (piece, keep) {
         (0, 0..=15) => Err(b"cyber: out.rec: not a record\n"),

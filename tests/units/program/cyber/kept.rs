@@ -1,7 +1,8 @@
-// The commands `recover` and `split`: the records that they write, what they refuse, and each call of
-// the store that fails.
+// The commands `recover` and `split`: the records that they write, what they refuse, and each call
+// of the store that fails.
 use super::ran::{Ran, ends, holds, lacks, run, store_of};
 use super::samples::{empty_record, in_record, open_record, out_record, two_out_record, two_record};
+use crate::calls::{Call, makes_calls};
 use cy_store::MemStore;
 use cyber_cli::Status;
 use std::alloc::Global;
@@ -16,8 +17,27 @@ const SPLIT: [&str; 4] = ["split", "in.rec", "out.rec", "--channels=/in"];
 /// The calls that make the file which is read.
 const CALLS_BEFORE: u64 = 2;
 
-/// Where the sections of the record with both channels end: the header, the two channels, the header
-/// and the body of the chunk, and the index.
+/// The calls of both commands over a record of one message, in their order: `faults.rs` says why
+/// the record is read so. Written are the header of an open record, the channel, the header and the
+/// body of the chunk, the index, and the header of a whole record.
+const CALLS: [(&str, Call); 13] = [
+    ("in.rec", Call::Size),
+    ("in.rec", Call::Read(0, 2064)),
+    ("in.rec", Call::Read(2064, 2080)),
+    ("in.rec", Call::Read(2080, 2112)),
+    ("in.rec", Call::Read(2112, 2169)),
+    ("in.rec", Call::Read(2169, 2209)),
+    ("out.rec", Call::Create),
+    ("out.rec", Call::Put(0, 2064)),
+    ("out.rec", Call::Put(2064, 2089)),
+    ("out.rec", Call::Put(2089, 2113)),
+    ("out.rec", Call::Put(2113, 2142)),
+    ("out.rec", Call::Put(2142, 2209)),
+    ("out.rec", Call::Put(0, 2064)),
+];
+
+/// Where the sections of the record with both channels end: the header, the two channels, the
+/// header and the body of the chunk, and the index.
 const ENDS: [usize; 6] = [2064, 2089, 2115, 2139, 2182, 2271];
 
 // A command that reads these bytes is done, with this line, and writes this record.
@@ -163,29 +183,34 @@ fn failing_at(
     rt: &(impl Threads + Sync),
     alloc: Global,
     words: &[&str],
-    call: u64,
+    call: usize,
 ) -> Result<Ran<MemStore>, Fail> {
     let mut store = store_of(alloc, &in_record(alloc)?)?;
-    store.fail_at(CALLS_BEFORE + call, 0)?;
+    store.fail_at(CALLS_BEFORE + call as u64, 0)?;
     run(rt, alloc, words, store)
 }
 
 #[test]
-fn fails_each_call_in_turn(rt: HostRuntime) -> Result<(), Fail> {
-    // A size, the header, and four reads of the sections; the making of the file, and its six
-    // pieces.
+fn makes_these_calls(rt: HostRuntime) -> Result<(), Fail> {
+    let alloc = rt.alloc();
     for words in [RECOVER.as_slice(), &SPLIT] {
-        for call in 1..=13 {
-            let ran = failing_at(&rt, rt.alloc(), words, call)?;
-            let line = if call <= 6 {
-                b"cyber: in.rec: the store failed\n".as_slice()
-            } else {
-                b"cyber: out.rec: the store failed\n"
-            };
-            ends(&rt, &ran, Status::StoreFault, b"", line);
-            holds(&rt, &ran, "in.rec", &in_record(rt.alloc())?);
+        makes_calls(&rt, alloc, words, store_of(alloc, &in_record(alloc)?)?, &CALLS)?;
+    }
+    Ok(())
+}
+
+#[test]
+fn fails_each_call_in_turn(rt: HostRuntime) -> Result<(), Fail> {
+    let alloc = rt.alloc();
+    for words in [RECOVER.as_slice(), &SPLIT] {
+        for call in 1..=CALLS.len() {
+            let ran = failing_at(&rt, alloc, words, call)?;
+            let (file, _) = CALLS[call - 1];
+            let line = format!(in alloc; "cyber: {file}: the store failed\n")?;
+            ends(&rt, &ran, Status::StoreFault, b"", line.as_bytes());
+            holds(&rt, &ran, "in.rec", &in_record(alloc)?);
         }
-        let ran = failing_at(&rt, rt.alloc(), words, 14)?;
+        let ran = failing_at(&rt, alloc, words, CALLS.len() + 1)?;
         assert_eq!(rt; ran.status, Status::Done);
     }
     Ok(())

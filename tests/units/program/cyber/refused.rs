@@ -1,4 +1,5 @@
 // Words and records that are refused, each with ample memory.
+use super::faults::{CALLS_BEFORE, FIRST_PUT};
 use super::ran::{PASS, ends, lacks, run, run_over, store_of};
 use super::samples::in_record;
 use cy_store::{MemSink, MemStore};
@@ -70,7 +71,7 @@ fn passes_the_whole_sections_of_a_cut_record(rt: HostRuntime) -> Result<(), Fail
 fn refuses_a_record_that_broke_off(rt: HostRuntime) -> Result<(), Fail> {
     let alloc = rt.alloc();
     let mut store = store_of(alloc, &in_record(alloc)?)?;
-    store.fail_at(14, 20)?;
+    store.fail_at(CALLS_BEFORE + FIRST_PUT as u64 + 4, 20)?;
     let broken = run(&rt, alloc, &PASS, store)?;
     assert_eq!(rt; broken.status, Status::StoreFault);
     assert_eq!(rt;

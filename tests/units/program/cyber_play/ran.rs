@@ -14,7 +14,8 @@ use std::thread::Threads;
 /// The words of a play on threads, and of a serial one.
 const PLAY: &str = "play --dag d.dag --record a.rec --out out.rec --trace t.txt";
 
-const SERIAL_PLAY: &str = "play --serial --dag d.dag --record a.rec --out out.rec --trace t.txt";
+pub const SERIAL_PLAY: &str =
+    "play --serial --dag d.dag --record a.rec --out out.rec --trace t.txt";
 
 // A gate that counts the calls which pass it: those that processors make, and not those that are
 // left for the end of a run.

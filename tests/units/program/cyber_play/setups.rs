@@ -1,4 +1,5 @@
 // What setting up a replay of the chain answers where a file is in the way.
+use super::faults::{CALLS, CALLS_BEFORE, READS};
 use super::ran::chain_store;
 use cy_msg::{Bytes, Items, Text};
 use cy_replay::{Fault, Refusal, Replay, SetupError, set_up};
@@ -7,9 +8,6 @@ use cy_store::{MemStore, Store};
 use std::alloc::Global;
 use std::test::Fail;
 use std::thread::Threads;
-
-/// The calls that make the files of the chain.
-const CALLS_BEFORE: u64 = 8;
 
 // Sets the chain up, with a scheduler file and a stop or without them, to play all of its record.
 fn set_up_chain(
@@ -68,29 +66,22 @@ fn told(alloc: Global, answer: Result<Replay, SetupError>) -> Result<String, Fai
     })
 }
 
-// Of each file the size is asked, and then it is read; of the record the header, and then by four
-// reads its four sections.
+// The calls of a play that read, and then none.
 #[test]
 fn names_the_file_whose_call_failed(rt: HostRuntime) -> Result<(), Fail> {
     let alloc = rt.alloc();
-    for (call, want) in [
-        (1, "d.dag Store"),
-        (2, "d.dag Store"),
-        (3, "p.conf Store"),
-        (4, "p.conf Store"),
-        (5, "r.conf Store"),
-        (6, "r.conf Store"),
-        (7, "a.rec Store"),
-        (8, "a.rec Store"),
-        (9, "a.rec Store"),
-        (12, "a.rec Store"),
-        (13, "set up"),
-    ] {
+    for call in 1..=READS {
+        let (file, _) = CALLS[call - 1];
         let mut store = chain_store(alloc)?;
-        store.fail_at(CALLS_BEFORE + call, 0)?;
+        store.fail_at(CALLS_BEFORE + call as u64, 0)?;
         let answer = set_up_chain(&rt, alloc, &mut store, None, None);
-        assert_eq!(rt; told(alloc, answer)?.as_str(), want, "{call}");
+        let want = format!(in alloc; "{file} Store")?;
+        assert_eq!(rt; told(alloc, answer)?.as_str(), want.as_str(), "{call}");
     }
+    let mut store = chain_store(alloc)?;
+    store.fail_at(CALLS_BEFORE + READS as u64 + 1, 0)?;
+    let answer = set_up_chain(&rt, alloc, &mut store, None, None);
+    assert_eq!(rt; told(alloc, answer)?.as_str(), "set up");
     let mut store = chain_store(alloc)?;
     let answer = set_up_chain(&rt, alloc, &mut store, Some("s.sched"), None);
     assert_eq!(rt; told(alloc, answer)?.as_str(), "s.sched Store");

@@ -28,7 +28,7 @@ returns-in-Last g c =
     let all = same_counts old mid now so_far.counts (c.in_ok-head.ensures.causes.quiet (λ e. no_err _ _ e)) in
     record {
       cut = cut_end c.args.name.now c.args.size c.loop-window.at c.args.first.now _ c.loop-window.window c.in-Last.end old mid refl refl so_far found;
-      within = record { parts = so_far.within; index = index_within c.loop-window.at c.args.size c.in-Last.end within };
+      within = record { parts = so_far.within; all = omega (arith, so_far.all, so_far.inside, c.requires.inside.1); index = index_within c.loop-window.at c.args.size c.in-Last.end within };
       same = c.found_at.ensures.same ∙ so_far.same;
       causes = record {
         faults_stay = omega (arith, all.faults);

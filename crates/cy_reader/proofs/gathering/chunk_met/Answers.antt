@@ -1,6 +1,11 @@
+use Rattle.std.proofs.Common.{length, ap, arith}
+use Rattle.cy_reader.specs.Sections.{WholeSection}
 use Rattle.cy_reader.specs.private.Found.{seen_section}
 use Rattle.cy_reader.proofs.Bodies.{chunk_leads}
 use Rattle.cy_reader.proofs.gathering.chunk_met.Goals as goal
+
+pub body_met-requires-clause-few : goal.body_met-requires-clause-few
+body_met-requires-clause-few c = omega (arith, ap (λ (s : WholeSection). length s.body) c.view_of.ensures, c.requires.room.1)
 
 pub returns-clause-met : goal.returns-clause-met
 returns-clause-met c =

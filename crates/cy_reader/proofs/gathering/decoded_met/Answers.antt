@@ -1,6 +1,10 @@
-use Rattle.std.proofs.Common.{refl}
+use Rattle.std.proofs.Common.{refl, arith}
+use Rattle.cy_reader.proofs.Growing.{alone_few}
 use Rattle.cy_reader.proofs.Moved.{alone_leads}
 use Rattle.cy_reader.proofs.gathering.decoded_met.Goals as goal
+
+pub alone_met-met-requires-clause-few : goal.alone_met-met-requires-clause-few
+alone_met-met-requires-clause-few c = omega (arith, alone_few c.args.part.now c.in-Some.alone (rw c.in-Some.is at c.requires.alone), c.requires.room.1)
 
 pub returns-in-Some-clause-met : goal.returns-in-Some-clause-met
 returns-in-Some-clause-met c =

@@ -1,4 +1,3 @@
-use Rattle.std.proofs.Common.{◌<◌, ◌+◌, ◌^◌, length, arith}
 use Rattle.cy_reader.specs.declared.loading.Loading.{Loading}
 use Rattle.cy_reader.proofs.Moved.{moved_leads, moved_sound}
 use Rattle.cy_reader.proofs.joining.alone_met.Goals as goal
@@ -13,6 +12,5 @@ returns-clause-met c before body many =
 pub returns-clause-still_sound : goal.returns-clause-still_sound
 returns-clause-still_sound c =
     let new : Loading = record { channels = c.mention_all.new.channels; messages = c.move_messages.new.messages } in
-    let room : length c.args.loading.now.messages.items + length c.args.alone.now.messages.items < 2 ^ 32 = omega (arith, c.args.loading.now.messages.ok.0, c.args.alone.now.messages.ok.0, c.requires.sound.few, c.if-len-room.false) in
     moved_sound c.move_messages.result c.args.bodies c.args.alone.now c.args.loading.now new c.in_ok-numbers.numbers.items c.requires.sound c.requires.closed c.in_ok-numbers.ensures.kept
-    (rw c.as_slice.ensures.value at c.in_ok-numbers.ensures.numbers) (rw (c.as_slice-2.ensures.value, c.as_slice-others.ensures.value) at c.move_messages.ensures.moved) room
+    (rw c.as_slice.ensures.value at c.in_ok-numbers.ensures.numbers) (rw (c.as_slice-2.ensures.value, c.as_slice-others.ensures.value) at c.move_messages.ensures.moved) c.requires.few

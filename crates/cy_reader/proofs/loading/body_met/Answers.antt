@@ -1,11 +1,12 @@
-use Rattle.std.proofs.Common.{◌++◌, [], ◌∷◌, refl, sym, ap, subst, ◌∙◌}
+use Rattle.std.proofs.Common.{◌++◌, List, [], ◌∷◌, length, length-append, arith, refl, sym, ap, subst, ◌∙◌}
 use Rattle.cy_wire.specs.Field.{fields_of}
-use Rattle.cy_section.specs.Reading.{Messages, messages_of}
+use Rattle.cy_section.specs.Reading.{Messages, PlacedMessage, messages_of}
 use Rattle.cy_section.specs.Messages.{seen}
 use Rattle.cy_section.proofs.Bodies.{message_read}
 use Rattle.cy_reader.specs.private.Loading.{with_body, met_of}
 use Rattle.cy_reader.proofs.Slices.{MessagesStand, messages_stand}
 use Rattle.cy_reader.proofs.Meeting.{met_more, limit_met, unless_faulty}
+use Rattle.cy_reader.proofs.Growing.{kept_more, messages_few}
 use Rattle.cy_reader.proofs.loading.body_met.Goals as goal
 
 pub loop-message-init : goal.loop-message-init
@@ -17,6 +18,21 @@ loop-message-init c =
       refl,
       c.requires.sound,
       subst (λ (m : Messages). MessagesStand c.args.body.now.at c.args.body.now.bytes.now m.messages) (sym c.new-reader.ensures) stand,
+    )
+
+pub message_met-requires-clause-few : goal.message_met-requires-clause-few
+message_met-requires-clause-few c =
+    let front = c.loop-message.invariant.0 in
+    let body = c.args.section.now.body.now in
+    let left = rw c.in-Some.is at c.in_ok-message.ensures in
+    omega (
+      arith,
+      kept_more front (with_body c.args.body.now) c.args.loading.now c.loop-message.loading c.loop-message.invariant.3,
+      ap (λ (ms : List PlacedMessage). length ms) c.loop-message.invariant.1,
+      length-append front c.loop-message.reader.messages,
+      ap (λ (l : Messages). length l.messages) left,
+      messages_few c.args.section.now.body_at body,
+      c.requires.few,
     )
 
 pub returns-in-Err-clause-met : goal.returns-in-Err-clause-met

@@ -1,7 +1,8 @@
-use Rattle.std.proofs.Common.{◌<◌, ◌+◌, ◌-◌, ◌∷◌, [], suc, length, refl, arith, inl, inr}
+use Rattle.std.proofs.Common.{◌<◌, ◌+◌, ◌-◌, ◌∷◌, [], suc, length, refl, ap, arith, inl, inr}
 use Rattle.std.proofs.lemmas.Result.{err_from_is_err_and}
 use Rattle.cy_reader.specs.private.Found.{seen_section}
 use Rattle.cy_reader.specs.private.Loading.{met_of}
+use Rattle.cy_reader.proofs.Growing.{kept_grown}
 use Rattle.cy_reader.proofs.Moved.{nothing_sound, met_nothing}
 use Rattle.cy_reader.proofs.Meeting.{section_read, section_wrong, sections_end, sections_fault, one_less}
 use Rattle.cy_reader.proofs.loading.sections_met.Goals as goal
@@ -13,7 +14,13 @@ loop-loading-init c = (
   c.requires.long,
   nothing_sound 1 c.none-loading.result c.none-loading.ensures,
   rw (met_nothing (c.args.file.now ∷ []) c.none-loading.result c.none-loading.ensures) refl,
+  omega (arith, ap length c.none-loading.ensures.messages),
 )
+
+pub section_met-requires-clause-few : goal.section_met-requires-clause-few
+section_met-requires-clause-few c =
+    let stands = rw c.in-Some.is at c.in_ok-section.ensures.stands in
+    omega (arith, c.loop-loading.invariant.5, stands.0, stands.1.inside, c.requires.short)
 
 pub returns-in_err-section-clause-met : goal.returns-in_err-section-clause-met
 returns-in_err-section-clause-met c =
@@ -49,6 +56,7 @@ loop-loading-preserved c =
       inside,
       c.in_ok-section_met.ensures.still_sound,
       section_read c.args.file.now less.0 c.loop-loading.at (seen_section c.in-Some.section) (met_of (c.args.file.now ∷ []) c.loop-loading.loading) (met_of (c.args.file.now ∷ []) c.section_met.new.loading) _ found c.in_ok-section_met.ensures.met (rw less.1 at inv.4),
+      omega (arith, kept_grown (seen_section c.in-Some.section) (c.args.file.now ∷ []) (c.args.file.now ∷ []) c.loop-loading.loading c.section_met.new.loading c.in_ok-section_met.ensures.met, inv.5, start),
     )
 
 pub returns-clause-met : goal.returns-clause-met

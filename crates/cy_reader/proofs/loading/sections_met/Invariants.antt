@@ -8,7 +8,7 @@ use Rattle.cy_reader.proofs.loading.sections_met.Given as goal
 abbrev pub invariant-loop-loading : goal.invariant-loop-loading
 invariant-loop-loading l =
     (more : ℕ) × (length l.file - l.at < more) × (l.at ≤ length l.file) × IsSound 1 l.loading
-    × (finish (met_of (l.file ∷ []) l.loading) (sections_in more l.file l.at) ≡ finish nothing (sections_from l.file header_end))
+    × (finish (met_of (l.file ∷ []) l.loading) (sections_in more l.file l.at) ≡ finish nothing (sections_from l.file header_end)) × (length l.loading.messages.items ≤ l.at)
 
 abbrev pub decreases-loop-loading : goal.decreases-loop-loading
 decreases-loop-loading l = length l.file - l.at

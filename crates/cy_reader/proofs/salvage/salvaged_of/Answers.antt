@@ -1,11 +1,15 @@
-use Rattle.std.proofs.Common.{◌∙◌, List, length, ap, subst, inl, inr}
+use Rattle.std.proofs.Common.{◌∙◌, List, length, ap, subst, arith, inl, inr}
 use Rattle.std.specs.Prelude.{◌==◌, ◌&&◌, is_none, slice_get}
 use Rattle.std.proofs.lemmas.Result.{err_from_is_err_and}
 use Rattle.cy_reader.specs.declared.cutting.Part.{Part}
 use Rattle.cy_reader.specs.private.Cutting.{fault_in}
 use Rattle.cy_reader.specs.private.Salvaging.{AreSound, place_before}
+use Rattle.cy_reader.proofs.Growing.{bytes_front}
 use Rattle.cy_reader.proofs.Salvaging.{salvage_wrong, salvage_met}
 use Rattle.cy_reader.proofs.salvage.salvaged_of.Goals as goal
+
+pub parts_met-requires-clause-all : goal.parts_met-requires-clause-all
+parts_met-requires-clause-all g c = omega (arith, bytes_front c.args.cut.parts.items c.truncate.new.self.items c.in_ok-count.count c.truncate.ensures.items, c.requires.all)
 
 pub returns-in_err-bodies-clause-salvaged : goal.returns-in_err-bodies-clause-salvaged
 returns-in_err-bodies-clause-salvaged g c =
