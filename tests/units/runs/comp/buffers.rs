@@ -172,6 +172,7 @@ fn joins_the_latest_of_each_other_reader(rt: HostRuntime) -> Result<(), Fail> {
     assert_eq!(rt; visitor.try_fetch(&mut cursor), Some((fused, 1, 1)));
     assert_eq!(rt; visitor.try_fetch(&mut cursor), None);
     assert_eq!(rt; visitor.arrivals().len(), 7);
-    assert_eq!(rt; visitor.arrivals()[4], (2, arrival(2, 2)));
+    let fifth = &visitor.arrivals()[4];
+    assert_eq!(rt; (fifth.role(), fifth.message()), (2, arrival(2, 2)));
     Ok(())
 }
