@@ -1,9 +1,9 @@
 -- Lines that are gathered in an array, some at a time.
-use Rattle.std.proofs.Common.{ℕ, zero, suc, ◌+◌, ◌<◌, ◌≤◌, ◌≡◌, ◌∙◌, ap, List, [], ◌∷◌, ◌++◌, length, flat_map, take, drop, get_or, sym, refl, arith, append_assoc, if◌then◌else◌, is_some, Bool, true, false, codes}
+use Rattle.std.proofs.Common.{ℕ, ◌+◌, ◌<◌, ◌≤◌, ◌≡◌, ◌∙◌, ap, List, [], ◌∷◌, ◌++◌, length, flat_map, take, drop, get_or, sym, refl, arith, append_assoc, if◌then◌else◌, is_some, Bool, true, false, codes}
 use Rattle.std.specs.List.{All}
 use Rattle.std.specs.Fmt.{decimal}
 use Rattle.cy_msg.specs.Names.{channel_name}
-use Rattle.std.proofs.lemmas.List.{take_more, take-append-drop, length-take-le, append-nil, flat_map_more}
+use Rattle.std.proofs.lemmas.List.{take_more, take-append-drop, length-take-le, flat_map_more}
 use Rattle.std.proofs.lemmas.List.Concat.{flat_map-append}
 use Rattle.std.proofs.lemmas.List.Elements.{All-get_or}
 use Rattle.cy_trace.proofs.Starts.{texts_of, text_read}

@@ -1,17 +1,11 @@
 -- What outputs that are held back have to do with the times on a tape.
-use Rattle.std.proofs.Common.{ℕ, ◌≡◌, ◌≢◌, ◌<◌, ◌==◌, Bool, true, false, refl, sym, ◌∙◌, ap, inl, inr, List, length, take, Some, None, Option, slice_get, if◌then◌else◌, ℤ}
+use Rattle.std.proofs.Common.{ℕ, ◌≡◌, ◌<◌, ◌==◌, true, sym, ◌∙◌, ap, inl, inr, List, length, take, Some, None, slice_get}
 use Rattle.std.proofs.lemmas.Bool.Decides.{eqb_tells}
 use Rattle.cy_msg.specs.declared.token.Token.{Token}
-use Rattle.cy_msg.specs.declared.token.Tuple.{Tuple}
 use Rattle.cy_msg.specs.Tokens.{on_channel}
-use Rattle.cy_comp.specs.declared.kind.Kind.{Kind}
-use Rattle.cy_comp.specs.declared.kind.Kind.TheVariants as kind
 use Rattle.cy_comp.specs.declared.plan.Plan.{Plan}
 use Rattle.cy_comp.specs.declared.call.Call.{Call}
-use Rattle.cy_comp.specs.declared.call.Outcome.{Outcome}
-use Rattle.cy_comp.specs.declared.call.Outcome.TheVariants.{Emit, Hold, Last}
-use Rattle.cy_comp.specs.Step.{Kept, answer_of, on_value, is_between, is_last_passed, counted, greater_of, chosen, passed, passed_at, passes, nothing, makes, outcome_after}
-use Rattle.cy_comp.specs.Calls.{tuples_of, held_until, outs, output}
+use Rattle.cy_comp.specs.Calls.{tuples_of, outs, output}
 use Rattle.wake_core.specs.declared.route.Route.{Route}
 use Rattle.wake_core.specs.Run.{route_of, routes_of, writes_from}
 use Rattle.wake_core.specs.Plain.{Plain}

@@ -1,4 +1,4 @@
-use Rattle.std.proofs.Common.{◌++◌, ◌+◌, ◌∷◌, [], ◌≡◌, ◌≤◌, ◌∙◌, List, ap, sym, refl, arith, length, append-nil, length-append}
+use Rattle.std.proofs.Common.{◌++◌, ◌+◌, ◌∷◌, [], ◌≡◌, ◌∙◌, List, ap, sym, refl, arith, length, append-nil, length-append}
 use Rattle.cy_comp.specs.declared.call.Call.{Call}
 use Rattle.cy_trace.specs.TraceText.{call_lines}
 use Rattle.cy_trace.proofs.Gathered.{outs_few, calls_added, calls_parted, first_count}

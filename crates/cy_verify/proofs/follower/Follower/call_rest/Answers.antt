@@ -14,7 +14,7 @@ some_of None e = cc
 some_of (Some x) e = (x, refl)
 
 pub loop-at-init : goal.loop-at-init
-loop-at-init c = record { to = record { following = following_itself c.requires.follows; many = ap length (sym c.calls-at.ensures) }; leads = λ stopped r lead whole. lead }
+loop-at-init c = record { to = record { following = following_itself c.requires.follows; many = ap length (sym c.calls.ensures) ∙ sym c.len-at.ensures }; leads = λ stopped r lead whole. lead }
 
 pub call-requires-clause-may : goal.call-requires-clause-may
 call-requires-clause-may c = may_further c.requires.may c.loop-at.invariant.to.following.stays

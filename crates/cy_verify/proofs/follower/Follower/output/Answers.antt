@@ -11,7 +11,7 @@ wrong : {b : Bool} → b ≡ true → b ≡ false → ⊥
 wrong e n = cc
 
 pub loop-at-init : goal.loop-at-init
-loop-at-init c = record { to = record { following = following_itself c.requires.follows; many = ap length (sym c.calls-at.ensures) }; leads = λ stopped r t lead puts. lead }
+loop-at-init c = record { to = record { following = following_itself c.requires.follows; many = ap length (sym c.calls.ensures) ∙ sym c.len-at.ensures }; leads = λ stopped r t lead puts. lead }
 
 pub call-requires-clause-may : goal.call-requires-clause-may
 call-requires-clause-may c = may_further c.requires.may c.loop-at.invariant.to.following.stays
