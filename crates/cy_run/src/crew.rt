@@ -19,7 +19,7 @@ pub struct Worker {
     /// Its pass.
     pub pass: Pass,
     /// The number of its context.
-    pub plan: u32,
+    pub plan: usize,
     /// Its own number.
     pub me: u32,
 }
@@ -67,6 +67,6 @@ fn work_as<G: Gate, R: Wait>(
     ensures worked { HasWorked table.now contexts.now worker.old worker.new }
 {
     let Worker { pass, plan, me } = worker;
-    let context = &contexts[*plan as usize];
+    let context = &contexts[*plan];
     work(rt, table, pass, context, idle, *me, wiring, gate);
 }

@@ -126,8 +126,7 @@ fn contexts_of(alloc: Global, plans: &[ContextPlan]) -> Result<Vec<Context>, Run
     Ok(contexts)
 }
 
-// The workers: as many of each context as it asks for processors, up to so many threads. (No memory
-// could hold more contexts than have numbers.)
+// The workers: as many of each context as it asks for processors, up to so many threads.
 fn crew_of(
     alloc: Global,
     table: &FlagTable,
@@ -143,20 +142,9 @@ fn crew_of(
 {
     let mut crew = Vec::with_capacity(alloc, threads as usize)?;
     for (plan, context) in plans.iter().enumerate() {
-        let Ok(number) = u32::try_from(plan) else {
-            return Err(RunError::Memory);
-        };
         let hired = crew.len() as u32;
         let count = context.processors.min(threads - hired);
-        add_workers(
-            table,
-            player,
-            &mut crew,
-            number,
-            plans.len(),
-            count,
-            threads,
-        )?;
+        add_workers(table, player, &mut crew, plan, plans.len(), count, threads)?;
     }
     Ok(crew)
 }
@@ -166,7 +154,7 @@ fn add_workers(
     table: &FlagTable,
     player: &mut Pass,
     crew: &mut Vec<Worker>,
-    plan: u32,
+    plan: usize,
     contexts: usize,
     count: u32,
     threads: u32,
