@@ -368,6 +368,30 @@ messages() {
   compares_records "$tool"
   begin 'the value by a path and a kind is the one that the Protocol Buffers package reads'
   try 0 "$python" "$top/tests/tools/check_values.py" 20000 1
+  lists_fields "$top/tools/fields.py"
+}
+
+# A line for each scalar field, which a component's file can have.
+lists_fields() { # the tool
+  begin 'each scalar field of a described message has a line that gives its value'
+  "$python" "$top/tests/tools/described_record.py" a.rec 3.25 types
+  try 0 "$python" "$1" a.rec /chassis
+  printf '%s\n' '# /chassis: demo.Chassis' 'value { channel: "/chassis" path: [1, 2] kind: UINT64 }  # header.stamp' \
+    'value { channel: "/chassis" path: [2] kind: FLOAT scale: 1000 }  # speed' \
+    'value { channel: "/chassis" path: [3] kind: INT32 }  # wheels: only the last one counts' \
+    'value { channel: "/chassis" path: [4] kind: ENUM }  # gear' | cmp -s - out
+  count $? "$name: $(cat out)"
+  try 0 "$python" "$top/tests/tools/check_fields.py" 5 1
+  (cd "$top" && python3 tests/parted.py "$OLDPWD/whole.rec" "$OLDPWD/line" split "$OLDPWD/a.rec" --channels /whole)
+  try 0 "$python" "$1" a.rec --scale 1
+  says out 'value \{ channel: "/chassis" path: \[2\] kind: FLOAT \}  # speed'
+  fails_in_one_line 2 'fields: a.rec: /bad: no descriptor of demo.Bad: .*' "$python" "$1" a.rec /bad
+  fails_in_one_line 2 'fields: a.rec: no channel /none' "$python" "$1" a.rec /none
+  fails_in_one_line 2 'fields: whole.rec: nothing describes the messages of a channel' "$python" "$1" whole.rec
+  fails_in_one_line 2 'fields: types: not a record' "$python" "$1" types
+  try 2 "$python" "$1" a.rec --scale 20
+  without_package 2 "$1" a.rec
+  says err 'fields: .*google.*; descriptions are read by the Protocol Buffers package .*'
 }
 
 # Runs a tool of tools/ where there is no Protocol Buffers package.

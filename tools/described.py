@@ -165,6 +165,17 @@ def is_repeated(field):
     return field.is_repeated if hasattr(field, "is_repeated") else field.label == FieldDescriptor.LABEL_REPEATED
 
 
+def is_packed(field):
+    """Whether the numbers of a list are written one behind another, as one field; newer packages have a word of their own for it."""
+    if hasattr(field, "is_packed"):
+        return field.is_packed
+    if field.GetOptions().HasField("packed"):
+        return field.GetOptions().packed
+    file = descriptor_pb2.FileDescriptorProto()
+    field.file.CopyToProto(file)
+    return file.syntax == "proto3"
+
+
 def columns_of(descriptor, path=()):
     """The fields of a message, each as the fields on the way to it; repeated ones, and those of a deep message, as they are."""
     found = []
