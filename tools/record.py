@@ -153,8 +153,25 @@ def sections_of(data):
         at = end
 
 
+def ordered_message(data):
+    """The message that bytes hold, where it has just its three fields in their order; else None."""
+    if len(data) < 4 or data[0] != 10 or data[1] > 127:
+        return None
+    name = 2 + data[1]
+    if name + 3 > len(data) or data[name] != 16:
+        return None
+    time, end = read_varint(data, name + 1)
+    if end + 2 > len(data) or data[end] != 26:
+        return None
+    size, content = read_varint(data, end + 1)
+    return (data[2:name], time, data[content:]) if content + size == len(data) else None
+
+
 def message_of(data):
     """A message of a chunk: its channel, its time and its content."""
+    found = ordered_message(data)
+    if found:
+        return found
     fields = last_of(fields_of(data))
     return fields.get((1, bytes), b""), fields.get((2, int), 0), fields.get((3, bytes), b"")
 

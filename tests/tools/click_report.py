@@ -224,6 +224,8 @@ def is_for_phones(page):
     page.touch("touchStart", [(x, y)])
     page.touch("touchEnd", [])
     look(line.details()[0] == "Message 2 of /map/limit", f"a finger chooses {line.details()}")
+    page.set_size(12, 844, True, 2)  # no script may fail in a window that has no room for a timeline
+    page.settle()
 
 
 def names(page):

@@ -15,7 +15,7 @@ const measure = () => {
   place.width = frame.clientWidth;
   const isNarrow = place.width < NARROW;
   place.left = isNarrow ? 6 : Math.round(Math.min(230, place.width * 0.24));
-  place.right = place.width - 10;
+  place.right = Math.max(place.left + 1, place.width - 10); // a window may be too narrow for anything
   place.label = isNarrow ? 16 : 0;
   place.lane = isNarrow ? 60 : 46;
   const all = place.top + lanes.length * place.lane + 4;
