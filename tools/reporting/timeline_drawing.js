@@ -84,15 +84,21 @@ const binsOfCounts = (counts) => {
 
 const greatest = (bins) => bins.reduce((most, it) => Math.max(most, it), 0);
 
-// Bars for the counts of bins, of which the greatest is as high as the room, on a line or on other bars.
+// How much of the bin that begins at a place is of the run: the last one ends where the run does.
+const widthOfBin = (x) => Math.max(1, Math.min(BIN, xOf(data.span) - x));
+
+// Bars for the counts of bins, of which the greatest is as high as the room, on a line or on other bars. A bin that is only partly drawn
+// counts as if all of it were like that part.
 const drawBins = (bins, most, base, height, colour, below) => {
   const origin = firstBin();
   context.fillStyle = colour;
   for (let bin = 0; bin < bins.length; bin += 1) {
     if (bins[bin] > 0) {
-      const size = Math.max(2, (bins[bin] / most) * height);
-      const under = below ? (below[bin] / most) * height : 0;
-      context.fillRect(Math.round(origin) + bin * BIN, base - under - size, BIN, size);
+      const width = widthOfBin(origin + bin * BIN);
+      const high = (count) => Math.min(1, (count * BIN) / width / most) * height;
+      const under = below ? high(below[bin]) : 0;
+      const size = Math.max(2, Math.min(high(bins[bin]), height - under));
+      context.fillRect(Math.round(origin) + bin * BIN, base - under - size, Math.ceil(width), size);
     }
   }
 };
@@ -208,7 +214,10 @@ const drawCallCounts = (lane, zone) => {
   drawBins(outputs, most, zone.bottom, height, colours.call);
   drawBins(quiet, most, zone.bottom, height, colours.quiet, outputs);
   context.fillStyle = colours.held;
-  held.forEach((it, bin) => it > 0 && context.fillRect(Math.round(firstBin()) + bin * BIN, zone.bottom - 3, BIN, 4));
+  held.forEach((it, bin) => {
+    const x = firstBin() + bin * BIN;
+    if (it > 0) context.fillRect(Math.round(x), zone.bottom - 3, Math.ceil(widthOfBin(x)), 4);
+  });
 };
 
 const drawComponent = (lane) => {
