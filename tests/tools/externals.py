@@ -21,7 +21,8 @@ sys.path[:0] = [os.path.join(TOP, "tools"), os.path.join(TOP, "tests")]
 from dag import read_entries
 from replays import write_files
 
-INSIDE = {"HoldComponent", "TakeComponent"}  # what they do no component outside can do: hold an output back, and end
+# Two do what no component outside can do: hold an output back, and end. One has its answers already.
+INSIDE = {"HoldComponent", "TakeComponent", "ExternalComponent"}
 
 
 def reaches_itself(components, it):

@@ -2,6 +2,7 @@
 """Stands in for the program in tests of tools/external.py: plays serially by tests/replay.py, and verifies by tests/judge.py.
 
     stand_in.py play --serial ARGUMENTS..
+    stand_in.py pass RECORD OUT TRACE FROM TO
     stand_in.py verify ARGUMENTS..
 
 It takes the arguments that the program takes in these forms. Files that the program refuses end it with status 1 and a line.
@@ -15,12 +16,21 @@ import judge
 import replay
 
 
-def play(arguments):
+def words_of(command, arguments):
+    """The outputs that a command names, and the other arguments as tests/replay.py takes them."""
+    if command == "pass":
+        record, out, trace, source, target = arguments
+        return out, trace, ["--record", record, "--pass", source, target]
+    places = [arguments.index(name) for name in ("--out", "--trace")]
+    out, trace = (arguments[place + 1] for place in places)
+    return out, trace, [it for number, it in enumerate(arguments[1:], 1) if number not in places and number - 1 not in places]
+
+
+def play(command, arguments):
     """Plays, and prints the line."""
-    out, trace = (arguments[arguments.index(name) + 1] for name in ("--out", "--trace"))
-    others = [it for name in ("--out", "--trace") for it in (arguments.index(name), arguments.index(name) + 1)]
+    out, trace, others = words_of(command, arguments)
     with tempfile.NamedTemporaryFile() as line:
-        sys.argv = ["replay.py", out, trace, line.name] + [it for number, it in enumerate(arguments) if number not in others]
+        sys.argv = ["replay.py", out, trace, line.name, *others]
         replay.main()
         sys.stdout.write(line.read().decode())
     return 0
@@ -29,8 +39,8 @@ def play(arguments):
 def main():
     command, *arguments = sys.argv[1:]
     try:
-        if command == "play":
-            return play(arguments[1:])
+        if command in ("play", "pass"):
+            return play(command, arguments)
         sys.argv = ["judge.py", *arguments]
         return judge.main()
     except (OSError, ValueError) as error:
