@@ -15,7 +15,7 @@ sys.path.insert(0, os.path.join(os.path.dirname(os.path.abspath(__file__)), ".."
 from classes import LAST_TIME, Answers
 from dag import Component, every, forms_of_outs, last, read_components, read_text
 from playlist import Message, add_choice, choice_of, list_messages
-from record import content_of, forms_of, messages_of, record
+from record import forms_of, messages_of, record
 
 
 class Running:
@@ -59,8 +59,7 @@ class Running:
         """An output as the next message of its channel."""
         if out is None:
             return None
-        content = content_of(out.value) if out.passed is None else out.passed.content
-        return Message(self.component.out, self.sent + 1, out.time, out.value, content)
+        return Message(self.component.out, self.sent + 1, out.time, out.value, out.content(lambda it: it.content))
 
     def call(self):
         """Makes the next call, and gives what it sends at once."""

@@ -16,7 +16,7 @@ HERE = os.path.dirname(os.path.abspath(__file__))
 sys.path.insert(0, os.path.join(HERE, "..", "tools"))
 from record import content_of, forms_of, record
 
-KINDS = {"Pass": 1, "Filter": 1, "Sum": 1, "Count": 1, "Max": 1, "Window": 1, "Change": 1, "Select": 3, "Hold": 1, "Take": 1}
+KINDS = {"Pass": 1, "Filter": 1, "Sum": 1, "Count": 1, "Max": 1, "Window": 1, "Change": 1, "Select": 3, "Hold": 1, "Take": 1, "External": 1}
 CHANNELS = ["/a", "/b", "/c", "/d"]
 HALF_A_MILLISECOND = 500_000  # what a play with timers counts its times in, so that there are some ticks
 BAD_CONTENTS = [b"", b"\xff", b"\x08", b"\x10\x02", b"\x0a\x01x"]
@@ -33,8 +33,26 @@ def parameters(kind, chance, unit):
     return ""
 
 
+def write_answers(number, out, chance):
+    """Makes the record of an external component's answers, and gives the field that names it: some calls have no answer, and some answers
+    no call; messages on other channels are none."""
+    times = sorted(chance.sample(range(60), chance.randint(0, 40)))
+    contents = [chance.choice(BAD_CONTENTS) if chance.random() < 0.1 else content_of(chance.randint(-20, 20)) for _ in times]
+    found = [(out.encode(), time, content) for time, content in zip(times, contents)]
+    for _ in range(chance.choice([0, 0, 3])):
+        found.insert(chance.randint(0, len(found)), (b"/other", chance.randint(0, 60), b""))
+    forms = chance.choice([{}, {}, {out.encode(): (b"an.Answer", b"")}, {out.encode(): (b"an.Answer", b"described")}])
+    with open(f"c{number}.answers", "wb") as file:
+        file.write(record(found, forms))
+    return f'answers: "c{number}.answers"'
+
+
 def file_of(number, kind, overflow, outs, chance, unit):
     """The file of a component."""
+    if kind == "External":
+        named = chance.choice(["", 'answers: ""', None, None, None, None])
+        answers = write_answers(number, outs[number], chance) if named is None else named
+        return f'out: "{outs[number]}" out_type: "t{number}" {overflow} {answers}'
     return f'out: "{outs[number]}" out_type: "t{number}" {overflow} {parameters(kind, chance, unit)}'
 
 

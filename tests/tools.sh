@@ -1,6 +1,6 @@
 #!/usr/bin/env bash
 # Tests what stands around the program: the gate itself, front/, tools/, release/ and batch/. Usage: tests/tools.sh [--install] [SECTION...],
-# by default all of front, gate, timeline, pictures, messages, why_not, report, release and batch.
+# by default all of front, gate, timeline, pictures, messages, external, why_not, report, release and batch.
 # What a section needs beside Python's standard library is taken from the machine. With --install it is installed else: by apt-get where
 # root asks for it on a Debian, or by pip into a virtual environment in $TOOLS_ENVIRONMENT (by default in the user's cache). Where it is
 # not to be had the section is skipped, which is said. Without --install nothing is installed.
@@ -129,7 +129,7 @@ gate() {
   echo 'raise SystemExit(1)' >tests/promises.py
   PATH=$PWD/bin:$PATH try 1 .ci/run
   printf 'failed: %s: status %s\n' 'rt ci' 1 tests/units.sh 1 tests/program.sh 1 \
-    'tests/tools.sh --install front gate timeline messages why_not release' 0 'python3 tests/promises.py' 1 >want
+    'tests/tools.sh --install front gate timeline messages external why_not release' 0 'python3 tests/promises.py' 1 >want
   echo 'gate: 56 passed, 6 failed' >>want
   tail -n 6 out | cmp -s - want
   count $? "$name: it ends with $(tail -n 6 out)"
@@ -352,6 +352,8 @@ messages() {
   decodes_what_is_passed_on "$tool"
   begin 'what is printed of random messages is what they were made of'
   try 0 "$python" "$top/tests/tools/check_messages.py" 50 1
+  begin 'messages become what the package makes of them, and the same bytes again'
+  try 0 "$python" "$top/tests/tools/check_json_form.py" 40 1
   begin 'records that are the same need no package, and others do'
   "$python" "$top/tests/tools/described_record.py" a.rec
   "$python" "$top/tests/tools/described_record.py" b.rec 4
@@ -564,6 +566,204 @@ ask_why() { # the status, drive or burst, what sed does, and further words
 says_why() { # the pattern behind `line`, drive or burst, what sed does, and further words
   ask_why 1 "${@:2}"
   says out ".*/changed.trace: line $1"
+}
+
+# The program that plays components outside: the proved one where it knows their class, else one that plays by the tests' own model.
+find_player() {
+  mkdir -p known
+  echo 'out: "/x"' >known/x.conf
+  printf '%s\n' 'module_config { components { class_name: "ExternalComponent"' \
+    'config { name: "x" config_file_path: "known/x.conf" readers { channel: "/in" } } } }' >known/x.dag
+  player="$top/tests/tools/stand_in.py"
+  if [ -x "$program" ] && "$program" check --dag known/x.dag >/dev/null 2>&1; then
+    player=$program
+  fi
+  # The stand-in is run by the Python that has the package, as the tool is.
+  printf '%s\n' '#!/bin/sh' "case '$player' in *.py) exec '$python' '$player' \"\$@\";; esac" "exec '$player' \"\$@\"" >player
+  chmod +x player
+  player=$PWD/player
+}
+
+# A command that answers nothing to each call.
+SILENT='sed s/.*/{}/'
+
+# Calls the tool for the tracks of the examples, whose answers are written into the test's folder.
+play_tracks() { # the status, and further words
+  [ -e examples ] || ln -s "$top/examples" examples
+  try "$1" "$python" "$top/tools/external.py" --dag examples/tracks/tracks.dag --record examples/tracks/tracks.rec --out out.rec \
+    --trace out.trace --program "$player" "${@:2}"
+}
+
+external() {
+  if ! find_python google.protobuf python3-protobuf protobuf; then
+    skip external 'no Protocol Buffers package'
+    return
+  fi
+  prints_calls
+  find_player
+  plays_tracks
+  asks_once
+  keeps_answers
+  refuses_answers
+  refuses_components
+  begin 'components outside that are copies of built-in classes play as these do'
+  try 0 "$python" "$top/tests/tools/externals.py" "$player" 8 1
+}
+
+# The first record of the examples has 7 at time 100, whose content is the bytes 8 and 14.
+prints_calls() {
+  local calls="$top/tools/calls.py"
+  begin 'the calls of a component are printed with the messages that they took'
+  printf '%s\n' 'module_config { components { class_name: "PassComponent" config { name: "pass"' \
+    'config_file_path: "pass.conf" readers { channel: "/in" } } } }' >pass.dag
+  echo 'out: "/out"' >pass.conf
+  cp "$top"/examples/pass/one.rec in.rec
+  python3 "$top/tests/replay.py" out.rec out.trace line --record in.rec --dag pass.dag
+  try 0 python3 "$calls" --dag pass.dag --record in.rec --out out.rec --trace out.trace --component pass
+  says out '\{"call": 1, "time": "100", "messages": \[\{"channel": "/in", "number": 1, "time": "100", "content": "CA4=", "value": "7"\}\]\}'
+  fails_in_one_line 1 'calls: pass.dag: no component piss; there are pass' \
+    python3 "$calls" --dag pass.dag --record in.rec --out out.rec --trace out.trace --component piss
+  fails_in_one_line 1 'calls: in.rec: fewer messages than .*' \
+    python3 "$calls" --dag pass.dag --record in.rec --out in.rec --trace out.trace --component pass
+  sed 's/call 1\/1 1/call 1\/1 2/' out.trace >bad.trace
+  fails_in_one_line 1 "calls: bad.trace: a call on a message that /in doesn't have" \
+    python3 "$calls" --dag pass.dag --record in.rec --out out.rec --trace bad.trace --component pass
+  begin 'the calls of the drive have the limit that came before, and what messages mean'
+  replay_drive
+  try 0 env -C "$top" "$python" tools/calls.py --dag examples/drive/drive.dag --record examples/drive/drive.rec --out "$PWD/out.rec" \
+    --trace "$PWD/out.trace" --component margin
+  [ "$(wc -l <out)" -eq 965 ]
+  count $? "$name: $(wc -l <out) calls"
+  says out '\{"call": 1, .*\{"channel": "/map/limit", "number": 1, "time": "1700000000700000000", .*"value": "13900", "message": \{"value": "13900"\}\}\]\}'
+}
+
+# A camera's 97 images come at a tenth of a second each, and the first comes before any scan of the radar: 96 calls of each component. The
+# scan before the image at 8.6 s was at 8.563 s, when the car was at 62 - 5.5 * 8.563 m ahead and 1.5 m beside: 14.979 m, the first that is
+# not above 15. So are all images from then on, up to the one at 9.9 s: 14. Written: 97 + 200 + 96 + 96 + 14.
+plays_tracks() {
+  local fuse="fuse=$python $top/tools/component.py examples/tracks/fuse.py" closest
+  begin 'the record of the tracks is the one that its script makes'
+  try 0 "$python" "$top/examples/tracks/make_tracks.py" tracks.rec
+  cmp -s tracks.rec "$top/examples/tracks/tracks.rec"
+  count $? "$name: it is another one"
+  begin 'a component in Python and one in C++ are asked, and played'
+  if ! command -v c++ >/dev/null; then
+    skip 'the component in C++' 'no compiler'
+    return
+  fi
+  c++ -O2 -Wall -Wextra -Werror -o closest "$top/examples/tracks/closest.cc"
+  count $? "$name: closest.cc isn't compiled"
+  closest="closest=$PWD/closest"
+  play_tracks 0 --run "$closest" --run "$fuse"
+  printf '%s\n' 'fuse: calls 96, answers 96' 'closest: calls 96, answers 96' 'done: played 297, shadowed 0, calls 288, written 503' \
+    'lawful: played 297, shadowed 0, calls 288, written 503' | cmp -s - out
+  count $? "$name: it says $(cat out)"
+  "$python" "$top/tools/messages.py" out.rec --channel /near >near
+  [ "$(wc -l <near)" -eq 14 ] && [ "$(head -n 1 near)" = '/near 1 1700000008600000000 14979' ]
+  count $? "$name: near are $(cat near)"
+  "$python" "$top/tools/messages.py" out.rec --channel /fusion/tracks >tracks
+  says tracks '/fusion/tracks 1 1700000000100000000 \{"header": .*"tracks": \[\{"id": 1, "label": "walker", "distance": 21.157, .*'
+}
+
+# What was asked before isn't asked again, and what has changed is.
+asks_once() {
+  begin 'what was asked before is not asked again, but where the component or its calls are others'
+  cp "$top/examples/tracks/fuse.py" .
+  printf '%s\n' 'import fuse' 'print("asked")' 'answer = fuse.answer' >told.py
+  local fuse="fuse=$python $top/tools/component.py told.py"
+  play_tracks 0 --run "closest=$SILENT" --run "$fuse"
+  says err asked
+  says out 'fuse: calls 96, answers 96'
+  says out 'closest: calls 96, answers 0'
+  play_tracks 0 --run "closest=$SILENT" --run "$fuse"
+  says out 'fuse: calls 96, answers 96, as before'
+  [ ! -s err ]
+  count $? "$name: it was asked again: $(cat err)"
+  echo '# changed' >>told.py
+  play_tracks 0 --run "$fuse"
+  says err asked
+  play_tracks 0 --run "$fuse" --drop /radar
+  says err asked
+  says out 'fuse: calls 0, answers 0'
+}
+
+# A component that was answered stays so, when another one fails; of what fails nothing is written.
+keeps_answers() {
+  local fuse="fuse=$python $top/tools/component.py examples/tracks/fuse.py"
+  begin 'where a component fails, what the ones before it answered is kept, and nothing else is written'
+  # shellcheck disable=SC2016
+  play_tracks 1 --run "$fuse" --run "closest=sh -c 'kill -KILL \$\$'"
+  says out 'fuse: calls 96, answers 96'
+  says err 'external: component closest: call 1 of 96: no answer: the command was ended by signal 9'
+  [ ! -e out.rec ] && [ ! -e out.trace ] && [ ! -e fuse.rec ] && [ ! -e closest.rec ]
+  count $? "$name: there are $(ls)"
+  play_tracks 0 --run "$fuse" --run "closest=$SILENT"
+  says out 'fuse: calls 96, answers 96, as before'
+  says out 'closest: calls 96, answers 0'
+  begin 'a tool that is killed in the middle goes on where it was'
+  ln -s "$top/examples" examples
+  # The second component kills the tool that asks it.
+  # shellcheck disable=SC2016
+  TMPDIR=$PWD try 137 sh -c '"$@"; exit $?' - "$python" "$top/tools/external.py" --dag examples/tracks/tracks.dag \
+    --record examples/tracks/tracks.rec --out out.rec --trace out.trace --program "$player" --run "$fuse" \
+    --run "closest=sh -c 'kill -KILL \$PPID'"
+  says out 'fuse: calls 96, answers 96'
+  [ ! -e out.rec ] && [ ! -e fuse.rec ] && [ ! -e closest.rec ]
+  count $? "$name: there are $(ls)"
+  play_tracks 0 --run "$fuse" --run "closest=$SILENT"
+  says out 'fuse: calls 96, answers 96, as before'
+}
+
+# Each row: what the fuser runs, and what is said.
+refuses_answers() {
+  local command said
+  begin 'answers that are wrong are told by their call'
+  yes '{}' | head -n 96 >all
+  while IFS='|' read -r command said; do
+    play_tracks 1 --run "closest=$SILENT" --run "fuse=$command"
+    said="external: component fuse: $said"
+    says err "$said"
+  done <<'ROWS'
+true|call 1 of 96: no answer: the command ended with status 0
+head -n 7 all|call 8 of 96: no answer: the command ended with status 0
+cat|call 1 of 96: an answer is \{\}, .*, and not \{"call": 1, .*
+sed s/.*/{/|call 1 of 96: no JSON: \{
+sed 's/.*call.: 5,.*/{"value": 1.5}/; t; s/.*/{}/'|call 5 of 96: 1.5 is no whole number
+sed 's/.*/{"value": "9223372036854775808"}/'|call 1 of 96: 9223372036854775808 is no number of 64 bits with a sign
+sed 's/.*/{"content": "CA"}/'|call 1 of 96: "CA" is not in base64
+sed 's/.*/{"message": {"trucks": []}}/'|call 1 of 96: no tracks.Tracks: .*no field named "trucks".*
+sed 's/.*/{}/; $a {}'|call 96 of 96: a further line behind its answer
+sed 's/.*/{}/; $q 3'|call 96 of 96: behind its answer the command ended with status 3
+./none|\./none: No such file or directory
+ROWS
+  [ ! -e fuse.rec ] && [ ! -e .external ]
+  count $? "$name: something was written: $(ls -a)"
+}
+
+refuses_components() {
+  begin 'components that can not be asked are told by their names, and no other file is written over'
+  yes '{}' | head -n 96 >all
+  play_tracks 1 --run near=true
+  says err 'external: component near is a FilterComponent, and no ExternalComponent'
+  play_tracks 1 --run fuze=true
+  says err 'external: examples/tracks/tracks.dag: no component fuze; there are fuse, closest, near'
+  play_tracks 2 --run fuse
+  says err 'external.py: error: argument --run: fuse is not NAME=COMMAND'
+  play_tracks 1 --run 'fuse=cat all'
+  says err "external: component closest: its answers closest.rec aren't there: --run closest=COMMAND asks for them"
+  cp examples/tracks/tracks.rec fuse.rec
+  play_tracks 1 --run 'fuse=cat all'
+  says err "external: fuse.rec: it has messages on /camera, and isn't replaced by answers on /fusion/tracks"
+  cmp -s fuse.rec examples/tracks/tracks.rec
+  count $? "$name: a recording was written over"
+  rm fuse.rec
+  try 1 "$python" "$top/tools/external.py" --dag examples/tracks/tracks.dag --record examples/tracks/tracks.rec --out ./fuse.rec \
+    --trace out.trace --program "$player" --run 'fuse=cat all' --run "closest=$SILENT"
+  says err 'external: component fuse: its answers fuse.rec would be written over ./fuse.rec'
+  sed 's,"/radar",& } readers { channel: "/fusion/closest",' examples/tracks/tracks.dag >loop.dag
+  try 1 "$python" "$top/tools/external.py" --dag loop.dag --record examples/tracks/tracks.rec --out out.rec --trace out.trace \
+    --program "$player" --run 'fuse=cat all'
+  says err "external: component fuse depends on its own output, so it can't be asked outside"
 }
 
 why_not() {
@@ -1275,7 +1475,7 @@ if [ "${1:-}" = --install ]; then
   install=yes
   shift
 fi
-[ $# -gt 0 ] || set -- front gate timeline pictures messages why_not report release batch
+[ $# -gt 0 ] || set -- front gate timeline pictures messages external why_not report release batch
 for section in "$@"; do
   "$section"
 done

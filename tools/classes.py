@@ -1,17 +1,26 @@
 """What components of each class put out, as docs/RULES.md says."""
 from typing import NamedTuple, Optional
 
+from record import content_of, whole_of
+
 LOWEST, GREATEST = -(2**63), 2**63 - 1
 LAST_TIME = 2**64 - 1
 NEED_VALUES = {"FilterComponent", "MaxComponent", "WindowComponent", "ChangeComponent", "SelectComponent"}
 
 
 class Out(NamedTuple):
-    """An output: its time, its value or None, and the message that it passes on, or None where its content is its value alone."""
+    """An output: its time and its value or None. It passes a message on, or has the content of an answer; else its content is its value."""
 
     time: int
     value: Optional[int]
     passed: object = None
+    answer: Optional[bytes] = None
+
+    def content(self, passed):
+        """Its content, where `passed` gives that of the message that it passes on."""
+        if self.answer is not None:
+            return self.answer
+        return content_of(self.value) if self.passed is None else passed(self.passed)
 
 
 class Outcome(NamedTuple):
@@ -52,6 +61,9 @@ class Answers:
         kind, value = self.component.kind, first.value
         if kind in NEED_VALUES and value is None:
             return None
+        if kind == "ExternalComponent":
+            content = self.component.answers.contents.get(self.calls)
+            return None if content is None else Out(first.time, whole_of(content), answer=content)
         if kind == "SumComponent":
             values = [it.value for it in messages]
             return None if None in values else Out(first.time, held_within(sum(values)))

@@ -7,6 +7,8 @@ import re
 from collections import deque
 from dataclasses import dataclass
 
+from answers import NONE, read_answers
+
 TOKEN = re.compile(
     rb"""[ \t\n\r\v\f]+|\#[^\n]*
     |(?P<word>[A-Za-z_][A-Za-z0-9_]*)
@@ -125,6 +127,8 @@ class Component:
     out: bytes
     overflow: bytes = b"NEWEST"
     interval: int = None  # in milliseconds, of a timer component
+    file: bytes = b""  # the name of its component file
+    answers: tuple = NONE  # of an ExternalComponent: what its calls put out
 
     def parameter(self, name):
         return last(self.config, name)
@@ -133,13 +137,29 @@ class Component:
     def out_type(self):
         return last(self.config, "out_type", b"")
 
+    @property
+    def is_external(self):
+        return self.kind == "ExternalComponent"
+
+    @property
+    def answers_file(self):
+        """The record that has its answers; empty where there is none."""
+        return last(self.config, "answers", b"") if self.is_external else b""
+
+    @property
+    def form(self):
+        """The type and the description that a written record has for its channel."""
+        kind, description = self.answers.form
+        return kind or self.out_type, description
+
 
 def component_with(entry, channels, queue, interval):
     """A component that reads these channels, with the component file that its entry in a DAG file names."""
     config = last(entry, "config")
-    file = read_text(last(config, "config_file_path"))
+    path = last(config, "config_file_path")
+    file = read_text(path)
     kind, overflow = last(entry, "class_name").decode(), last(file, "on_overflow", b"NEWEST")
-    return Component(last(config, "name"), kind, channels, queue, file, last(file, "out"), overflow, interval)
+    return Component(last(config, "name"), kind, channels, queue, file, last(file, "out"), overflow, interval, path)
 
 
 def component_of(entry):
@@ -156,7 +176,16 @@ def timer_of(entry):
 
 
 def read_components(path):
-    """The components of a DAG file, and behind them its timer components, each in their order."""
+    """The components of a DAG file, and behind them its timer components, each in their order, with their answers."""
+    components = read_entries(path)
+    for it in components:
+        if it.answers_file:
+            it.answers = read_answers(it.answers_file, it.out)
+    return components
+
+
+def read_entries(path):
+    """The components of a DAG file as `read_components` gives them, but without answers."""
     fields = read_text(path)
     try:
         modules = every(fields, "module_config")
@@ -170,4 +199,4 @@ def forms_of_outs(components):
     """By the channel of each component, and by that of the ticks of each timer component, the type and description that a record has
     for it: ticks have neither."""
     ticks = {it.readers[0]: (b"", b"") for it in components if it.interval}
-    return ticks | {it.out: (it.out_type, b"") for it in components}
+    return ticks | {it.out: it.form for it in components}

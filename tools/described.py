@@ -3,13 +3,13 @@ import importlib
 import warnings
 
 from google.protobuf import descriptor_pb2, descriptor_pool, json_format, message_factory
-from google.protobuf.descriptor import FieldDescriptor
-from google.protobuf.message import DecodeError
+from google.protobuf.message import DecodeError, EncodeError
 
-from record import fields_of
+import json_form
+from json_form import WELL_KNOWN, is_repeated
+from record import block, fields_of
 
 DEEPEST = 4  # messages in messages have columns of their own up to here
-WELL_KNOWN = "google.protobuf."  # types with a form of their own in JSON
 FAULTS = (AttributeError, KeyError, TypeError, ValueError, DecodeError, RecursionError, RuntimeWarning, SystemError)
 
 # Of bytes that are a message only up to some place the package warns, and gives that message: here that is a fault. Where it is written in C
@@ -150,19 +150,39 @@ def has_bytes(value):
     return any(map(has_bytes, value)) if isinstance(value, list) else isinstance(value, bytes)
 
 
+def content_from(kind, message):
+    """The bytes of a message of a class that a dictionary says; a ValueError where it says none."""
+    try:
+        return json_form.message_from(kind, message).SerializeToString(deterministic=True)
+    except (json_format.Error, EncodeError, AttributeError, *FAULTS) as error:
+        raise ValueError(f"no {kind.DESCRIPTOR.full_name}: {' '.join(str(error).split())}") from None
+
+
+def description_of(kind):
+    """The description of a class, as records of Cyber RT have it."""
+    return description_of_file(kind.DESCRIPTOR.file, set())
+
+
+def description_of_file(file, known):
+    """The description of a file, with the files that it depends on; those that are known are left out."""
+    own = descriptor_pb2.FileDescriptorProto()
+    file.CopyToProto(own)
+    others = []
+    for it in file.dependencies:
+        if it.name not in known:
+            known.add(it.name)
+            others.append(block(2, description_of_file(it, known)))
+    return block(1, own.SerializeToString(deterministic=True)) + b"".join(others)
+
+
 def dictionary_of(kind, content):
     """The message of a class that some bytes hold, as a dictionary, or None where they hold none."""
     message = message_of(kind, content)
     try:
-        found = None if message is None else json_format.MessageToDict(message, preserving_proto_field_name=True)
+        found = None if message is None else json_form.dictionary_of(message)
     except (json_format.Error, *FAULTS):
         return None
     return None if has_bytes(found) else found
-
-
-def is_repeated(field):
-    """Whether a field is a list; newer packages have a word of their own for it."""
-    return field.is_repeated if hasattr(field, "is_repeated") else field.label == FieldDescriptor.LABEL_REPEATED
 
 
 def is_packed(field):

@@ -9,7 +9,6 @@ from typing import NamedTuple, Optional
 
 from classes import Answers
 from playlist import LAST_TIME, Message
-from record import content_of
 
 
 class Task(NamedTuple):
@@ -317,7 +316,6 @@ def tape_of(told):
     for key in told.trace.tape:
         if key in told.outputs:
             part, number, out = told.outputs[key]
-            passed = told.outcomes[part.line][number].out.passed
-            content = content_of(out.value) if passed is None else found[passed.channel, passed.seq].content
+            content = told.outcomes[part.line][number].out.content(lambda it: found[it.channel, it.seq].content)
             found[key] = Message(*key, out.time, out.value, content)
     return [found[key] for key in told.trace.tape]
