@@ -5,4 +5,5 @@ mod doors;
 mod holds;
 mod scans;
 mod tables;
+mod traces;
 mod walk;
