@@ -4,6 +4,7 @@
 mod doors;
 mod holds;
 mod scans;
+mod stops;
 mod tables;
 mod traces;
 mod walk;
