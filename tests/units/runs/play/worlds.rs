@@ -357,15 +357,20 @@ fn keeps_sixteen_million_entries(rt: HostRuntime) -> Result<(), Fail> {
 fn has_passed_two(rt: &impl Abort, world: &World) {
     let tape = world.tape_list().iter();
     assert!(rt;
-        tape.map(|token| (token.channel, token.seq, token.time, token.whole)).eq([
-            (0, 1, 1, Some(5)),
-            (1, 1, 1, Some(5)),
-            (0, 2, 2, Some(6)),
-            (1, 2, 2, Some(6)),
-        ])
+        tape.map(|token| (token.channel, token.seq, token.time, token.whole))
+            .eq([
+                (0, 1, 1, Some(5)),
+                (1, 1, 1, Some(5)),
+                (0, 2, 2, Some(6)),
+                (1, 2, 2, Some(6)),
+            ])
     );
     let calls = world.routine(0).calls();
-    assert!(rt; calls.map(|call| (call.position, call.tail)).eq([(1, 1), (2, 2)]));
+    assert!(rt;
+        calls
+            .map(|call| (call.position, call.tail))
+            .eq([(1, 1), (2, 2)])
+    );
     assert_eq!(rt; world.routine(0).state(), State::DataWait);
     assert_eq!(rt; (world.played(), world.clock()), (2, u64::MAX));
     assert!(rt; world.spent(0));
@@ -389,7 +394,10 @@ fn takes_a_world_apart_and_puts_it_together(rt: HostRuntime) -> Result<(), Fail>
     let world = played(&rt, &wiring, &list(&rt, TWO)?, &placed(&rt, 1, false)?)?;
     let parts = world.apart();
     assert_eq!(rt; parts.tape.len(), 4);
-    assert_eq!(rt; (parts.played, parts.clock, parts.raised), (2, u64::MAX, false));
+    assert_eq!(rt;
+        (parts.played, parts.clock, parts.raised),
+        (2, u64::MAX, false)
+    );
     assert_eq!(rt; parts.spent.as_slice(), [true].as_slice());
     assert_eq!(rt; parts.routines.as_slice()[0].calls().len(), 2);
     assert_eq!(rt; parts.visitors.as_slice()[0].arrivals().len(), 2);
