@@ -35,7 +35,9 @@ fn works_on_what_was_played_and_ends(rt: HostRuntime) -> Result<(), Fail> {
     play(&rt, &table, &mut player, message());
     table.tick(&mut player, u64::MAX);
     table.set_closing(&mut player);
-    work(&rt, &table, &mut other, &context, &idle, 0, &wiring, &OpenGate);
+    work(
+        &rt, &table, &mut other, &context, &idle, 0, &wiring, &OpenGate,
+    );
     table.join(&mut player, other);
     let world = table.close(rt.alloc(), player)?;
     is_passed_on(&rt, &world);
@@ -55,7 +57,13 @@ fn drives_a_list_beside_a_worker(rt: HostRuntime) -> Result<(), Fail> {
     };
     let (table, mut player) = table_of_one(&rt, 1)?;
     let pass = table.split(&mut player)?;
-    let mut crew = vec![in rt.alloc(); Worker { pass, plan: 0, me: 0 }]?;
+    let mut crew = vec![in rt.alloc();
+        Worker {
+            pass,
+            plan: 0,
+            me: 0
+        },
+    ]?;
     drive(
         &rt,
         &table,
