@@ -55,13 +55,13 @@ copy_tests() { # the group, the folder
     fi
     awk -v wanted="$name" '
       ending != "" { if ($0 == ending) ending = ""; next }
-      wanted != "" && /^ *#\[test\]/ { mark = $0; next }
-      mark != "" && /^ *fn / {
-        if ($0 ~ "fn " wanted "[(<]") print mark
-        else { ending = substr($0, 1, match($0, /fn /) - 1) "}"; mark = ""; next }
-        mark = ""
+      wanted != "" && /^ *(\/\/\/|#\[test\])/ { head = head $0 "\n"; next }
+      head ~ /#\[test\]/ && /^ *fn / && $0 !~ "fn " wanted "[(<]" {
+        ending = substr($0, 1, match($0, /fn /) - 1) "}"
+        head = ""
+        next
       }
-      { print }' "$units/$1/$file" >"$to"
+      { printf "%s", head; head = ""; print }' "$units/$1/$file" >"$to"
   done < <(cd "$units/$1" && find . -name '*.rs')
 }
 
