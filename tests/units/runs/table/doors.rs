@@ -6,8 +6,8 @@ use cy_comp::State;
 use cy_msg::{Token, Tuple};
 use std::test::Fail;
 
-// A message of /a at the time 1.
-fn message() -> Token {
+/// A message of /a at the time 1.
+pub(crate) fn message() -> Token {
     Token {
         channel: 0,
         seq: 1,
