@@ -10,7 +10,8 @@ ghost use Rattle.wake_core.specs.Rest.{run_shown};
 ghost use Rattle.wake_core.specs.Run.{Run, routes_of};
 ghost use Rattle.wake_core.specs.WorldOf.{plain_of};
 ghost use Rattle.cy_trace.specs.Parts.{ArePartsOf, IsPartOf, parts_text, part_text as text_of};
-ghost use Rattle.cy_trace.specs.TraceText.{call_lines, component_text, tape_line, version_of as version_for};
+ghost use Rattle.cy_trace.specs.TraceText.{call_lines, component_text, tape_line};
+ghost use Rattle.cy_trace.specs.TraceText.{version_of as version_for};
 ghost use Rattle.cy_trace.specs.private.Adding.{Adds, AreTexts};
 
 use crate::TraceError;
