@@ -4,6 +4,7 @@ pub mod Laws
 pub mod LineOrder
 pub mod LineReading
 pub mod Numerals
+pub mod Parts
 pub mod Summary
 pub mod Tapes
 pub mod Telling

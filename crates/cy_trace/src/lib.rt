@@ -20,6 +20,7 @@ mod name;
 mod named;
 mod numeral;
 mod page;
+mod parts;
 mod read;
 mod seqs;
 mod start;
@@ -38,6 +39,7 @@ pub use laws::{
     traces_tell_runs,
 };
 pub use named::NamedSeq;
+pub use parts::{Part, push_texts, trace_parts};
 pub use read::read_trace;
 pub use seqs::Seqs;
 pub use summary::{lawful_line, summary_line};

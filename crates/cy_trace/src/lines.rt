@@ -8,6 +8,7 @@ ghost use Rattle.cy_msg.specs.declared.token.Token.{Token};
 ghost use Rattle.cy_fuse.specs.Fusion.{Arrival};
 ghost use Rattle.cy_trace.specs.TraceText.{title, played_line, roles_text, value_text, out_text};
 ghost use Rattle.cy_trace.specs.TraceText.{seqs_text, call_line, call_lines, end_line};
+ghost use Rattle.cy_trace.specs.Parts.{opening_text};
 ghost use Rattle.cy_trace.specs.TraceText.{component_text, overflow_word, tape_line, told};
 ghost use Rattle.cy_trace.specs.TraceText.{told_text};
 ghost use Rattle.cy_trace.specs.private.TapeLines.{tape_start, started_line};
@@ -206,13 +207,18 @@ fn put_calls(
     (at, after)
 }
 
-// Calls, from a component's first one on.
-fn push_call_lines(to: &mut Vec<u8>, calls: Calls<'_>) -> Result<(), AllocError>
-    ensures { OnOk result (to.new.items ≡ to.old.items ++ call_lines 0 calls.entry) }
+// Calls, behind so many outputs of earlier ones.
+pub(crate) fn push_call_lines(
+    to: &mut Vec<u8>,
+    before: usize,
+    calls: Calls<'_>,
+) -> Result<(), AllocError>
+    requires { before + length calls < 2 ^ 64 }
+    ensures { OnOk result (to.new.items ≡ to.old.items ++ call_lines before calls.entry) }
 {
     let mut page = [0; ROOM];
     let mut numeral = Numeral::zero();
-    let mut before = 0;
+    let mut before = before;
     let mut left = calls.len();
     let mut rest = calls;
     while left > 0 {
@@ -252,7 +258,7 @@ fn push_digits(to: &mut Vec<u8>, arrivals: &[Arrived]) -> Result<(), AllocError>
 }
 
 // Whether a component has ended, and where its next fetch would begin.
-fn push_end_line(to: &mut Vec<u8>, ended: bool, next: u128) -> Result<(), AllocError>
+pub(crate) fn push_end_line(to: &mut Vec<u8>, ended: bool, next: u128) -> Result<(), AllocError>
     ensures { OnOk result (to.new.items ≡ to.old.items ++ end_line ended next) }
 {
     let state = if ended { "FINISHED" } else { "DATA_WAIT" };
@@ -284,7 +290,26 @@ fn push_told(to: &mut Vec<u8>, version: u32, overflow: Overflow) -> Result<(), A
     to.extend_from_slice(overflow_word(overflow).as_bytes())
 }
 
-// A component: its name and its overflow, what arrived, its calls, and its end.
+// A component before its calls: its name and its overflow, and what arrived.
+pub(crate) fn push_opening(
+    to: &mut Vec<u8>,
+    version: u32,
+    plan: &Plan,
+    arrivals: &[Arrived],
+) -> Result<(), AllocError>
+    requires { (n : ℕ) (a : Arrival) → slice_get arrivals.now n ≡ Some a → a.0 < 10 }
+    ensures { OnOk result (to.new.items
+        ≡ to.old.items ++ opening_text version plan.now arrivals.now) }
+{
+    to.extend_from_slice(b"component ")?;
+    push_quoted(to, plan.name.as_str().as_bytes(), true)?;
+    push_told(to, version, plan.overflow)?;
+    to.extend_from_slice(b"\nroles ")?;
+    push_roles(to, arrivals)?;
+    to.extend_from_slice(b"\n")
+}
+
+// A component: its opening, its calls, and its end.
 pub(crate) fn push_component(
     to: &mut Vec<u8>,
     version: u32,
@@ -297,14 +322,9 @@ pub(crate) fn push_component(
     ensures { OnOk result (to.new.items ≡ to.old.items
         ++ component_text version plan.now arrivals.now calls.entry ended) }
 {
-    to.extend_from_slice(b"component ")?;
-    push_quoted(to, plan.name.as_str().as_bytes(), true)?;
-    push_told(to, version, plan.overflow)?;
-    to.extend_from_slice(b"\nroles ")?;
-    push_roles(to, arrivals)?;
-    to.extend_from_slice(b"\n")?;
-    let next = calls.next_cursor();
-    push_call_lines(to, calls)?;
+    push_opening(to, version, plan, arrivals)?;
+    let (_count, next) = (calls.len(), calls.next_cursor());
+    push_call_lines(to, 0, calls)?;
     push_end_line(to, ended, next)
 }
 

@@ -74,7 +74,7 @@ fn push_trace(
 }
 
 // The version of the form in which these components are told of.
-fn version_of(plans: &[Plan]) -> u32
+pub(crate) fn version_of(plans: &[Plan]) -> u32
     ensures { result ≡ version_of plans.now }
 {
     if some_oldest(plans) { 2 } else { 1 }
@@ -138,7 +138,7 @@ fn push_numbered(
 }
 
 // Whether a component has ended, in a world whose run has come to its end.
-fn has_ended(world: &World, component: u32) -> bool
+pub(crate) fn has_ended(world: &World, component: u32) -> bool
     requires quiet { Quiet (plain_of world.now) }
     requires known { component < length (plain_of world.now).routes }
     ensures { result ≡ is_finished ((plain_of world.now).states component) }

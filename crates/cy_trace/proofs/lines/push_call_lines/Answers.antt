@@ -8,7 +8,7 @@ pub put_calls-end-requires-clause-countable : goal.put_calls-end-requires-clause
 put_calls-end-requires-clause-countable c =
     let l = c.loop-left in
     let few = first_count c.min-count.result l.rest c.split_at-some.result.0 c.split_at-some.ensures.first (omega (arith, c.min-count.ensures, l.invariant.left)) in
-    omega (arith, few, c.min-count.ensures, l.invariant.left, l.invariant.few, c.len-left.ensures, c.len-left.type_inv)
+    omega (arith, few, c.min-count.ensures, l.invariant.left, l.invariant.few, c.requires)
 
 pub put_calls-end-requires-clause-room : goal.put_calls-end-requires-clause-room
 put_calls-end-requires-clause-room c =
@@ -23,7 +23,7 @@ loop-left-preserved c =
     let some : List Call = c.split_at-some.result.0 in
     let others : List Call = c.split_at-some.result.1 in
     let put = c.put_calls-end in
-    let whole = c.args.to.now.items ++ call_lines 0 c.args.calls in
+    let whole = c.args.to.now.items ++ call_lines c.args.before c.args.calls in
     let parts = calls_parted n l.rest some others c.split_at-some.ensures.first c.split_at-some.ensures.others in
     let few = first_count n l.rest some c.split_at-some.ensures.first (omega (arith, c.min-count.ensures, l.invariant.left)) in
     let all : length l.rest ≡ length some + length others = ap length parts ∙ length-append some others in

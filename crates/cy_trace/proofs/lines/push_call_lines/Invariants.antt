@@ -5,8 +5,8 @@ use Rattle.cy_trace.proofs.lines.push_call_lines.Given as goal
 abbrev pub invariant-loop-left : goal.invariant-loop-left
 invariant-loop-left l = record {
   left : l.left ≡ length l.rest;
-  few : l.before + length l.rest ≤ length l.fn.calls;
-  text : l.to.items ++ call_lines l.before l.rest ≡ l.fn.to.items ++ call_lines 0 l.fn.calls;
+  few : l.before + length l.rest ≤ l.fn.before + length l.fn.calls;
+  text : l.to.items ++ call_lines l.before l.rest ≡ l.fn.to.items ++ call_lines l.fn.before l.fn.calls;
 }
 
 abbrev pub decreases-loop-left : goal.decreases-loop-left
