@@ -1,19 +1,19 @@
 -- A text that is put into a file piece by piece.
-use Rattle.std.proofs.Common.{◌≡◌, ℕ, ◌+◌, ◌≤◌, List, [], ◌∷◌, ◌++◌, map, length, Option, Some, None, Result, Ok, Err, IsErrOf, refl, sym, ap, ◌∙◌, subst, inl, inr, arith, length-append, append-nil, append_assoc, flat_map}
-use Rattle.std.specs.Prelude.{IfSome, IsSomeAnd, OnOk, OnErr}
+use Rattle.std.proofs.Common.{◌≡◌, ℕ, ◌+◌, ◌≤◌, List, [], ◌∷◌, ◌++◌, length, Option, Some, None, Result, Ok, Err, IsErrOf, refl, sym, ap, ◌∙◌, subst, arith, length-append, append-nil, append_assoc, flat_map}
+use Rattle.std.specs.Prelude.{IfSome, IsSomeAnd, OnOk}
 use Rattle.std.specs.Option.{option_map}
 use Rattle.std.specs.FinMap.{get}
 use Rattle.std.proofs.lemmas.Grind.{flat_map-append}
 use Rattle.cy_store.specs.Files.{Files, Holds}
 use Rattle.cy_store.specs.Write.{Write, Create, Put, after_write, after_writes, LeavesIn}
-use Rattle.cy_store.specs.Store.{StoreView, SameCounts, HasCause, HasFault, HasWriteCauses}
+use Rattle.cy_store.specs.Store.{StoreView, SameCounts, HasCause, HasFault}
 use Rattle.cy_store.specs.declared.error.StoreError.{StoreError}
 use Rattle.cy_store.specs.declared.error.StoreError.TheVariants as store_error
 use Rattle.cy_writer.specs.declared.error.WriteError.{WriteError}
 use Rattle.cy_writer.specs.declared.error.WriteError.TheVariants as write_error
-use Rattle.cy_writer.specs.Writes.{placed, file_after, puts_into, Makes, StopsBefore}
+use Rattle.cy_writer.specs.Writes.{placed, file_after, puts_into, Makes}
 use Rattle.cy_writer.specs.RecordWrites.{file_writes}
-use Rattle.cy_writer.proofs.Puts.{as_writes, causes_made, causes_put, causes_same, causes_then, causes_none, held_some, holds-after, makes_done, makes_first, makes_none, makes_put, makes_then, makes_uncreated, map-after_writes, untold_map}
+use Rattle.cy_writer.proofs.Puts.{as_writes, causes_made, causes_put, causes_then, causes_none, holds-after, makes_done, makes_first, makes_none, makes_put, makes_then, makes_uncreated, map-after_writes, untold_map}
 use Rattle.cy_writer.proofs.RecordBytes.{after_placed}
 use Rattle.cy_writer.proofs.Closing.{placed-append}
 use Rattle.cy_commands.specs.PlayEnds.{PutsPieces, WritesPieces}

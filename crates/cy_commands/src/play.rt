@@ -114,12 +114,7 @@ fn wiring_of(replay: Replay) -> Wiring
 }
 
 // The line that tells of the run of a world that was made for a wiring.
-fn line_made(
-    alloc: Global,
-    wiring: &Wiring,
-    shadowed: u32,
-    world: &World,
-) -> Result<Bytes, Failure>
+fn line_made(alloc: Global, wiring: &Wiring, shadowed: u32, world: &World) -> Result<Bytes, Failure>
     requires quiet { Quiet (plain_of world.now) }
     requires routes { (plain_of world.now).routes ≡ routes_of wiring.now.plans }
     ensures line { IfOk result (λ line. line

@@ -56,7 +56,9 @@ fn put_parts<S: Store, R: Threads + Sync>(
         let (some, others) = rest.split_at(rest.len().min(AT_ONCE));
         piece.clear();
         push_texts(rt, alloc, &mut piece, world, wiring, shadowed, some).map_err(no_memory)?;
-        let end = at.checked_add(piece.len() as u64).ok_or(WriteError::Memory)?;
+        let end = at
+            .checked_add(piece.len() as u64)
+            .ok_or(WriteError::Memory)?;
         store.put_at(name, at, &piece)?;
         at = end;
         rest = others;
@@ -84,5 +86,14 @@ pub(crate) fn write_trace<S: Store, R: Threads + Sync>(
 {
     let parts = trace_parts(alloc, world, wiring).map_err(no_memory)?;
     store.create(name)?;
-    put_parts(rt, alloc, store, name, wiring, shadowed, world, parts.as_slice())
+    put_parts(
+        rt,
+        alloc,
+        store,
+        name,
+        wiring,
+        shadowed,
+        world,
+        parts.as_slice(),
+    )
 }

@@ -1,4 +1,4 @@
-use Rattle.std.proofs.Common.{rules, ◌∙◌, ◌≡◌, ◌++◌, ap, sym, List, ℕ}
+use Rattle.std.proofs.Common.{rules, ◌≡◌, ◌++◌, ap, List, ℕ}
 use Rattle.std.specs.List.{flat_map}
 use Rattle.std.proofs.lemmas.List.Elements.{All-same, All-drop}
 use Rattle.cy_trace.specs.Parts.{IsPartOf, part_text, parts_text}

@@ -10,7 +10,7 @@ abbrev pub invariant-loop-rest : goal.invariant-loop-rest
 invariant-loop-rest g l = record {
   fit : All (IsPartOf l.wiring.plans (run_shown (plain_of l.world))) l.rest;
   far : IsPutSoFar l.name (parts_text l.wiring.names l.wiring.plans l.shadowed (run_shown (plain_of l.world)) l.parts) (parts_text l.wiring.names l.wiring.plans l.shadowed (run_shown (plain_of l.world)) l.rest) l.at
-  (g.S.Store.shows l.fn.store) (g.S.Store.shows l.store);
+      (g.S.Store.shows l.fn.store) (g.S.Store.shows l.store);
 }
 
 abbrev pub decreases-loop-rest : goal.decreases-loop-rest

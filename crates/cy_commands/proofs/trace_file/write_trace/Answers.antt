@@ -1,7 +1,5 @@
-use Rattle.std.proofs.Common.{rules, ◌∙◌, ◌≡◌, ap, subst, sym, List, ℕ}
-use Rattle.std.specs.List.{All}
-use Rattle.cy_store.specs.Write.{Create}
-use Rattle.cy_trace.specs.Parts.{ArePartsOf, IsPartOf, parts_text}
+use Rattle.std.proofs.Common.{rules, ◌∙◌, ap, List}
+use Rattle.cy_trace.specs.Parts.{ArePartsOf, parts_text}
 use Rattle.cy_trace.specs.TraceText.{trace_text}
 use Rattle.cy_trace.specs.declared.parts.Part.{Part}
 use Rattle.wake_core.specs.Rest.{run_shown}
@@ -30,3 +28,6 @@ returns g c =
     let are : ArePartsOf names plans run c.in_ok-parts.parts = search rules in
     created_first c.args.name.now (parts_text names plans c.args.shadowed run c.as_slice.result.now) text (g.S.Store.shows c.args.store.now) (g.S.Store.shows c.create.new.self) (g.S.Store.shows c.put_parts.new.store) c.put_parts.result
     (ap (λ (ps : List Part). parts_text names plans c.args.shadowed run ps) c.as_slice.ensures ∙ are.whole c.args.shadowed) c.in_ok-create.ensures.made (c.create.ensures.cause.quiet (λ e. search rules)) c.put_parts.ensures
+
+pub put_parts-requires-clause-empty : goal.put_parts-requires-clause-empty
+put_parts-requires-clause-empty g c κs within = created c.args.name.now (g.S.Store.shows c.args.store.now).files (g.S.Store.shows c.create.new.self).files c.in_ok-create.ensures.made
