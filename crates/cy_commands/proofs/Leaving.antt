@@ -15,14 +15,13 @@ use Rattle.cy_section.specs.RecordText.{record_bytes}
 use Rattle.cy_writer.specs.Laws.{LeavesRecord}
 use Rattle.cy_writer.specs.RecordWrites.{file_writes, record_puts}
 use Rattle.cy_writer.specs.Unfinished.{AreOfOthers, FailedLeaves, OthersStay, OthersStayStarved, StarvedLeaves, StandsCut, StandsTorn}
-use Rattle.cy_writer.specs.Writes.{puts_into, StopsAt, StopsBefore}
+use Rattle.cy_writer.specs.Writes.{placed, puts_into, StopsAt, StopsBefore}
 use Rattle.cy_writer.proofs.Puts.{after_writes-append, get-inserted}
 use Rattle.cy_make.specs.declared.config.Config.{Config}
 use Rattle.cy_make.specs.declared.config.Config.TheVariants.{Adder, Band, Last8, Late, Dag}
 use Rattle.cy_make.specs.Inputs.{all_configs, config_writes, input_writes, made_chunks, made_record_writes, record_name}
 use Rattle.cy_make.specs.Messages.{channels_of}
 use Rattle.cy_make.specs.Texts.{suffix_of, text_of}
-use Rattle.wake_core.specs.Rest.{run_shown}
 use Rattle.cy_recording.specs.Recording.{channels_of_tape, chunks_of_tape}
 use Rattle.cy_reader.specs.Record.{Message, Met}
 use Rattle.cy_tools.specs.Kept.{channels_with, chunks_with, passing}
@@ -36,7 +35,7 @@ use Rattle.cy_commands.specs.declared.status.Status.{Status}
 use Rattle.cy_commands.specs.declared.status.Status.TheVariants.{Done, Refused, Usage, StoreFault, SinkFault, Limit, Memory}
 use Rattle.cy_commands.specs.Commands.{IsAccepted, outcome_of}
 use Rattle.cy_commands.specs.Commands.MakeWork.{IsMakeWork, play_made}
-use Rattle.cy_commands.specs.Commands.PlayWork.{IsPlayWork, run_trace, source_in}
+use Rattle.cy_commands.specs.Commands.PlayWork.{IsPlayWork, source_in}
 use Rattle.cy_commands.specs.Commands.RecoverWork.{WritesKept}
 use Rattle.cy_commands.specs.Commands.VerifyWork.{IsVerified, Judged, absent, bad, differs, judged, lawful, no_record, no_trace, refused, too_large, unlawful}
 use Rattle.cy_commands.specs.Due.{IsDone, IsDueFor, FailsToWrite, StopsForMemory}
@@ -84,17 +83,17 @@ behind_prefix p a b apart same = unlike a b apart (append_cancel_left p a b same
 -- ---- the writes of each command's work
 
 -- the two files of a play, with what is written behind its record
-of_play : (q output trace : List ℕ) (puts : List (ℕ × List ℕ)) (text : List ℕ) → (output ≡ q → ⊥) → (trace ≡ q → ⊥)
-    → AreOfOthers q (file_writes output puts ++ file_writes trace ((0, text) ∷ []))
-of_play q output trace puts text out_apart trace_apart =
-    all_more q (file_writes output puts) (file_writes trace ((0, text) ∷ [])) (of_file q output puts out_apart) (of_file q trace ((0, text) ∷ []) trace_apart)
+of_play : (q output trace : List ℕ) (puts pieces : List (ℕ × List ℕ)) → (output ≡ q → ⊥) → (trace ≡ q → ⊥)
+    → AreOfOthers q (file_writes output puts ++ file_writes trace pieces)
+of_play q output trace puts pieces out_apart trace_apart =
+    all_more q (file_writes output puts) (file_writes trace pieces) (of_file q output puts out_apart) (of_file q trace pieces trace_apart)
 
 played_others : (w : PlayWords) (read : Replayed) (work : Work) (q : List ℕ) → IsPlayWork w read work → (w.output ≡ q → ⊥) → (w.trace ≡ q → ⊥) → AreOfOthers q work.writes
 played_others w read work q made out_apart trace_apart =
     let s = source_in read made.list in
     let tape = made.world.tape in
     subst (AreOfOthers q) (sym made.writes)
-    (of_play q w.output w.trace (record_puts (channels_of_tape s tape) (chunks_of_tape w.output s tape)) (run_trace s made.list.shadowed (run_shown made.world)) out_apart trace_apart)
+    (of_play q w.output w.trace (record_puts (channels_of_tape s tape) (chunks_of_tape w.output s tape)) (placed 0 made.pieces) out_apart trace_apart)
 
 played_record : (w : PlayWords) (read : Replayed) (work : Work) → IsPlayWork w read work → (w.output ≡ w.trace → ⊥) → HasRecord work w.output (λ channels chunks. ⊤)
 played_record w read work made apart =
@@ -104,10 +103,10 @@ played_record w read work made apart =
       channels = channels_of_tape s tape;
       chunks = chunks_of_tape w.output s tape;
       first = [];
-      last = file_writes w.trace ((0, run_trace s made.list.shadowed (run_shown made.world)) ∷ []);
+      last = file_writes w.trace (placed 0 made.pieces);
       writes = made.writes;
       before = none_of w.output;
-      behind = of_file w.output w.trace ((0, run_trace s made.list.shadowed (run_shown made.world)) ∷ []) (λ same. apart (sym same));
+      behind = of_file w.output w.trace (placed 0 made.pieces) (λ same. apart (sym same));
       stands = tt;
     }
 

@@ -9,6 +9,7 @@ pub mod OneDue
 pub mod OneList
 pub mod OneVerdict
 pub mod OwnNames
+pub mod PiecesPut
 pub mod PlayExits
 pub mod PlayRuns
 pub mod PlayWriting

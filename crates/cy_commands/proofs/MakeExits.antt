@@ -1,5 +1,5 @@
 -- How `make` ends, at each place where it may.
-use Rattle.std.proofs.Common.{ℕ, true, ◌≡◌, ◌<◌, List, ◌++◌, Option, Some, Err, IsErrOf, IfSome, codes, refl, sym, ap, subst, ◌∙◌, inl, inr, arith, append_assoc}
+use Rattle.std.proofs.Common.{ℕ, true, ◌≡◌, ◌<◌, List, [], ◌∷◌, ◌++◌, append-nil, Option, Some, Ok, Err, IsErrOf, IfSome, codes, refl, sym, ap, subst, ◌∙◌, inl, inr, arith, append_assoc}
 use Rattle.std.specs.Option.{option_map}
 use Rattle.std.specs.FinMap.{empty}
 use Rattle.cy_store.specs.Files.{Files}
@@ -31,26 +31,31 @@ use Rattle.cy_commands.specs.Lines.{store_line, memory_line}
 use Rattle.cy_commands.specs.private.MakeEnds.{IsMade, IsDueUnmade, IsDueUnplayed, result_suffix}
 use Rattle.cy_words.specs.MakeWords.{MakeWords}
 use Rattle.cy_commands.specs.Commands.MakeWork.{IsMakeWork, made_files, play_made}
-use Rattle.cy_commands.specs.PlayEnds.{HasRun, IsLine, name_of_play, source_by, writes_by}
+use Rattle.cy_commands.specs.PlayEnds.{HasRun, IsLine, WritesPlay, name_of_play, source_by, writes_by}
 use Rattle.cy_words.specs.PlayWords.{PlayWords}
-use Rattle.cy_commands.specs.Commands.PlayWork.{play_line, replayed_in}
+use Rattle.cy_commands.specs.Commands.PlayWork.{play_line, replayed_in, run_trace}
+use Rattle.cy_commands.proofs.PiecesPut.{whole}
 use Rattle.cy_commands.proofs.PlayExits as play
 
--- what `make` makes
-abbrev pub work_of : MakeWords → Replay → Plain → Work
-work_of w x world = record { writes = input_writes w.count w.prefix ++ writes_by (play_made w) x world; text = play_line (source_by x) x.list (run_shown world) }
+-- what `make` makes, its trace in these pieces
+abbrev pub work_of : MakeWords → Replay → (pieces : List (List ℕ)) → Plain → Work
+work_of w x pieces world = record { writes = input_writes w.count w.prefix ++ writes_by (play_made w) x pieces world; text = play_line (source_by x) x.list (run_shown world) }
+
+-- the pieces are those of the trace
+abbrev pub IsCut : Replay → List (List ℕ) → Plain → Type 0
+IsCut x pieces world = whole pieces ≡ run_trace (source_by x) x.list.shadowed (run_shown world)
 
 -- the run is the serial one, which the play by these names asks for
 pub in_turn : (w : MakeWords) (p : PlayWords) (x : Replay) (world : Plain) → p ≡ play_made w → HasRun p.serial x world → HasRun true x world
 in_turn w p x world same run = subst (λ b. HasRun b x world) (ap (λ (q : PlayWords). q.serial) same) run
 
-pub makes : (w : MakeWords) (x : Replay) (world : Plain) → 0 < w.count → IsMade w x → HasRun true x world → IsMakeWork w (work_of w x world)
-makes w x world some made run = record {
-  played = play.work_of (play_made w) x world;
-  by_play = play.accepted (play_made w) (replayed_in (play_made w)) x world (Some (made_files w)) made.read made.set_up run;
+pub makes : (w : MakeWords) (x : Replay) (pieces : List (List ℕ)) (world : Plain) → IsCut x pieces world → 0 < w.count → IsMade w x → HasRun true x world → IsMakeWork w (work_of w x pieces world)
+makes w x pieces world cut some made run = record {
+  played = play.work_of (play_made w) x pieces world;
+  by_play = play.accepted (play_made w) (replayed_in (play_made w)) x pieces world (Some (made_files w)) cut made.read made.set_up run;
   record_text = record_text w.count w.prefix some;
   writes = refl;
-  leaves = λ m. after_writes-append (input_writes w.count w.prefix) (writes_by (play_made w) x world) m ∙ ap (after_writes (writes_by (play_made w) x world)) (leaves w.count w.prefix m);
+  leaves = λ m. after_writes-append (input_writes w.count w.prefix) (writes_by (play_made w) x pieces world) m ∙ ap (after_writes (writes_by (play_made w) x pieces world)) (leaves w.count w.prefix m);
   text = refl;
 }
 
@@ -59,48 +64,55 @@ pub starved : (w : MakeWords) (old : StoreView) (due : Status) (line : List ℕ)
 starved w old due line status told = subst (λ (d : Status). IsDueFor (Make w) old old d line) (sym status) (inl refl, told)
 
 -- a write failed or memory ran out, at a place among all writes
-fails : (w : MakeWords) (x : Replay) (world : Plain) (old new : StoreView) (v : Write) (name : List ℕ) (due : Status) (line : List ℕ) → 0 < w.count → IsMade w x → HasRun true x world
-    → name_of v ≡ name → WriteRose old new → StopsAt (input_writes w.count w.prefix ++ writes_by (play_made w) x world) v old.files new.files
+fails : (w : MakeWords) (x : Replay) (pieces : List (List ℕ)) (world : Plain) → IsCut x pieces world → (old new : StoreView) (v : Write) (name : List ℕ) (due : Status) (line : List ℕ) → 0 < w.count → IsMade w x → HasRun true x world
+    → name_of v ≡ name → WriteRose old new → StopsAt (input_writes w.count w.prefix ++ writes_by (play_made w) x pieces world) v old.files new.files
     → due ≡ StoreFault → line ≡ store_line name → IsDueFor (Make w) old new due line
-fails w x world old new v name due line some made run named rose stops status told =
+fails w x pieces world cut old new v name due line some made run named rose stops status told =
     subst (λ (d : Status). IsDueFor (Make w) old new d line) (sym status)
-    (inr (record { work = work_of w x world; accepted = makes w x world some made run; failed = v; rose = rose; stops = stops; told = told ∙ ap store_line (sym named) }))
+    (inr (record { work = work_of w x pieces world; accepted = makes w x pieces world cut some made run; failed = v; rose = rose; stops = stops; told = told ∙ ap store_line (sym named) }))
 
-stops : (w : MakeWords) (x : Replay) (world : Plain) (old new : StoreView) (due : Status) (line : List ℕ) → 0 < w.count → IsMade w x → HasRun true x world
-    → StopsBefore (input_writes w.count w.prefix ++ writes_by (play_made w) x world) old.files new.files
+stops : (w : MakeWords) (x : Replay) (pieces : List (List ℕ)) (world : Plain) → IsCut x pieces world → (old new : StoreView) (due : Status) (line : List ℕ) → 0 < w.count → IsMade w x → HasRun true x world
+    → StopsBefore (input_writes w.count w.prefix ++ writes_by (play_made w) x pieces world) old.files new.files
     → due ≡ Memory → line ≡ memory_line → IsDueFor (Make w) old new due line
-stops w x world old new due line some made run before status told =
+stops w x pieces world cut old new due line some made run before status told =
     subst (λ (d : Status). IsDueFor (Make w) old new d line) (sym status)
-    (inr (record { work = work_of w x world; accepted = makes w x world some made run; stops = before }), told)
+    (inr (record { work = work_of w x pieces world; accepted = makes w x pieces world cut some made run; stops = before }), told)
+
+-- the trace in one piece
+abbrev trace_of : Replay → Plain → List (List ℕ)
+trace_of x world = run_trace (source_by x) x.list.shadowed (run_shown world) ∷ []
+
+in_one : (x : Replay) (world : Plain) → IsCut x (trace_of x world) world
+in_one x world = append-nil (run_trace (source_by x) x.list.shadowed (run_shown world))
 
 -- the files of the play were not all made
 pub unmade : (w : MakeWords) (x : Replay) (world : Plain) (old new : StoreView) (e : MakeError) (due : Status) (line : List ℕ) → 0 < w.count → IsMade w x → HasRun true x world
     → MakesFiles {T = Unit {0}} w.prefix (input_writes w.count w.prefix) old new (Err e) → IsDueUnmade w e due line → IsDueFor (Make w) old new due line
 unmade w x world old new (make_error.Config c) due line some made run stopped is =
     let at = stopped.stopped in
-    fails w x world old new at.failed _ due line some made run at.named (stopped.causes.failed tt)
-    (StopsAt-first (input_writes w.count w.prefix) (writes_by (play_made w) x world) at.failed old.files new.files at.stops) is.0 is.1
+    fails w x (trace_of x world) world (in_one x world) old new at.failed _ due line some made run at.named (stopped.causes.failed tt)
+    (StopsAt-first (input_writes w.count w.prefix) (writes_by (play_made w) x (trace_of x world) world) at.failed old.files new.files at.stops) is.0 is.1
 unmade w x world old new make_error.Record due line some made run stopped is =
     let at = stopped.stopped in
-    fails w x world old new at.failed _ due line some made run at.named (stopped.causes.failed tt)
-    (StopsAt-first (input_writes w.count w.prefix) (writes_by (play_made w) x world) at.failed old.files new.files at.stops) is.0 is.1
+    fails w x (trace_of x world) world (in_one x world) old new at.failed _ due line some made run at.named (stopped.causes.failed tt)
+    (StopsAt-first (input_writes w.count w.prefix) (writes_by (play_made w) x (trace_of x world) world) at.failed old.files new.files at.stops) is.0 is.1
 unmade w x world old new make_error.Memory due line some made run stopped is =
-    stops w x world old new due line some made run
-    (StopsBefore-first (input_writes w.count w.prefix) (writes_by (play_made w) x world) old.files new.files stopped.stopped) is.0 is.1
+    stops w x (trace_of x world) world (in_one x world) old new due line some made run
+    (StopsBefore-first (input_writes w.count w.prefix) (writes_by (play_made w) x (trace_of x world) world) old.files new.files stopped.stopped) is.0 is.1
 
 -- they were, and so was what `play` writes
-pub done : (w : MakeWords) (p : PlayWords) (x : Replay) (world : Plain) (old : StoreView) (mid : Option Files) (new : StoreView) (line : List ℕ) → p ≡ play_made w → 0 < w.count → IsMade w x → HasRun true x world
-    → mid ≡ option_map (after_writes (input_writes w.count w.prefix)) old.files → new.files ≡ option_map (after_writes (writes_by p x world)) mid
+pub done : (w : MakeWords) (p : PlayWords) (x : Replay) (world : Plain) (old mid new : StoreView) (line : List ℕ) → p ≡ play_made w → 0 < w.count → IsMade w x → HasRun true x world
+    → mid.files ≡ option_map (after_writes (input_writes w.count w.prefix)) old.files → WritesPlay p x world mid new (Ok line)
     → IsLine x world line → IsDueFor (Make w) old new Done line
-done w p x world old mid new line same some made run first second told = record {
-  work = work_of w x world;
-  accepted = makes w x world some made run;
-  written = second
-      ∙ ap (λ (q : PlayWords). option_map (after_writes (writes_by q x world)) mid) same
-      ∙ ap (option_map (after_writes (writes_by (play_made w) x world))) first
-      ∙ map-after_writes (input_writes w.count w.prefix) (writes_by (play_made w) x world) old.files;
-  told = told;
-}
+done w p x world old mid new line same some made run first second told =
+    let play : WritesPlay (play_made w) x world mid new (Ok line) = subst (λ (q : PlayWords). WritesPlay q x world mid new (Ok line)) same second in
+    let more = writes_by (play_made w) x play.pieces world in
+    record {
+      work = work_of w x play.pieces world;
+      accepted = makes w x play.pieces world play.cut some made run;
+      written = play.done ∙ ap (option_map (after_writes more)) first ∙ map-after_writes (input_writes w.count w.prefix) more old.files;
+      told = told;
+    }
 
 rose_since : (f : Files → Files) (old mid new : StoreView) → mid.files ≡ option_map f old.files → SameCounts old mid → WriteRose mid new → WriteRose old new
 rose_since f old mid new first counts (inl rose) = inl (rose_more old.faults mid.faults new.faults (omega (arith, counts.faults)) rose)
@@ -112,25 +124,23 @@ result_name w file.Trace = refl
 
 -- a file that `play` writes failed, or memory ran out
 pub unplayed : (w : MakeWords) (p : PlayWords) (x : Replay) (world : Plain) (old mid new : StoreView) (found : Failure) (due : Status) (line : List ℕ) → p ≡ play_made w → 0 < w.count → IsMade w x → HasRun true x world
-    → mid.files ≡ option_map (after_writes (input_writes w.count w.prefix)) old.files → SameCounts old mid
-    → ((f : File) → IsErrOf {T = List ℕ} (Err found) (failure.Store f) → (v : Write) × (name_of v ≡ name_of_play p f) × StopsAt (writes_by p x world) v mid.files new.files)
-    → (IsErrOf {T = List ℕ} (Err found) failure.Memory → StopsBefore (writes_by p x world) mid.files new.files)
+    → mid.files ≡ option_map (after_writes (input_writes w.count w.prefix)) old.files → SameCounts old mid → WritesPlay {T = List ℕ} p x world mid new (Err found)
     → ((f : File) → IsErrOf {T = List ℕ} (Err found) (failure.Store f) → WriteRose mid new)
     → IsDueUnplayed w found due line → IsDueFor (Make w) old new due line
-unplayed w p x world old mid new (failure.Store f) due line same some made run first counts failed starved rose is =
-    let at = failed f refl in
+unplayed w p x world old mid new (failure.Store f) due line same some made run first counts second rose is =
+    let play : WritesPlay {T = List ℕ} (play_made w) x world mid new (Err (failure.Store f)) = subst (λ (q : PlayWords). WritesPlay {T = List ℕ} q x world mid new (Err (failure.Store f))) same second in
+    let at = play.failed f refl in
     let writes = input_writes w.count w.prefix in
-    let more = writes_by (play_made w) x world in
-    let stops : StopsAt more at.0 mid.files new.files = subst (λ (q : PlayWords). StopsAt (writes_by q x world) at.0 mid.files new.files) same at.2 in
+    let more = writes_by (play_made w) x play.pieces world in
     let Q : Option Files → Type 0 = λ files. StopsAt more at.0 files new.files in
-    fails w x world old new at.0 (w.prefix ++ result_suffix f) due line some made run (at.1 ∙ ap (λ (q : PlayWords). name_of_play q f) same ∙ result_name w f) (rose_since (after_writes writes) old mid new first counts (rose f refl))
-    (StopsAt-then writes more at.0 old.files new.files (subst Q first stops)) is.0 is.1
-unplayed w p x world old mid new failure.Memory due line same some made run first counts failed starved rose is =
+    fails w x play.pieces world play.cut old new at.0 (w.prefix ++ result_suffix f) due line some made run (at.1 ∙ result_name w f) (rose_since (after_writes writes) old mid new first counts (rose f refl))
+    (StopsAt-then writes more at.0 old.files new.files (subst Q first at.2)) is.0 is.1
+unplayed w p x world old mid new failure.Memory due line same some made run first counts second rose is =
+    let play : WritesPlay {T = List ℕ} (play_made w) x world mid new (Err failure.Memory) = subst (λ (q : PlayWords). WritesPlay {T = List ℕ} q x world mid new (Err failure.Memory)) same second in
     let writes = input_writes w.count w.prefix in
-    let more = writes_by (play_made w) x world in
-    let before : StopsBefore more mid.files new.files = subst (λ (q : PlayWords). StopsBefore (writes_by q x world) mid.files new.files) same (starved refl) in
+    let more = writes_by (play_made w) x play.pieces world in
     let Q : Option Files → Type 0 = λ files. StopsBefore more files new.files in
-    stops w x world old new due line some made run (StopsBefore-then writes more old.files new.files (subst Q first before)) is.0 is.1
+    stops w x play.pieces world play.cut old new due line some made run (StopsBefore-then writes more old.files new.files (subst Q first (play.memory refl))) is.0 is.1
 
 -- what was set up is a play of the files that are made
 pub made : (w : MakeWords) (p : PlayWords) (x : Replay) (old mid : Option Files) → p ≡ play_made w → old ≡ Some empty

@@ -29,6 +29,6 @@ pub fn due_of<'s, S: Store, R: Threads + Sync>(
 {
     match begin(rt, alloc, read, store) {
         Begun::Ended(due) => due,
-        Begun::SetUp(play, replay) => due_played_alone(alloc, store, &play, replay),
+        Begun::SetUp(play, replay) => due_played_alone(rt, alloc, store, &play, replay),
     }
 }

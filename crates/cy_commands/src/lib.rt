@@ -18,6 +18,7 @@ mod laws;
 mod line;
 mod play;
 mod status;
+mod trace_file;
 mod unset;
 
 pub use alone::due_of;

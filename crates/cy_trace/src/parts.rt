@@ -30,6 +30,9 @@ const PART_LINES: usize = 8_192;
 /// For how many bytes of text there is room at first for each line of a part.
 const LINE_BYTES: usize = 56;
 
+/// How many lines are worth threads: below, their start takes as long as is won.
+const WORTH_THREADS: usize = 16_384;
+
 /// A part of a trace.
 #[derive(Clone, Copy, Debug, PartialEq, Eq)]
 pub enum Part {
@@ -212,11 +215,11 @@ fn push_part(
     }
 }
 
-// For how many bytes of text a part has room at first.
-fn room_of(part: Part) -> usize {
+// About how many lines a part has.
+fn lines_of(part: Part) -> usize {
     match part {
-        Part::Calls { count, .. } | Part::Tape { count, .. } => count.saturating_mul(LINE_BYTES),
-        _ => LINE_BYTES,
+        Part::Calls { count, .. } | Part::Tape { count, .. } => count,
+        _ => 1,
     }
 }
 
@@ -235,7 +238,7 @@ fn part_text(
     ensures { IfOk result (λ t. t ≡ text_of wiring.now.names wiring.now.plans shadowed
         (run_shown (plain_of world.now)) part) }
 {
-    let mut to = Vec::with_capacity(alloc, room_of(part))?;
+    let mut to = Vec::with_capacity(alloc, lines_of(part).saturating_mul(LINE_BYTES))?;
     push_part(alloc, &mut to, world, wiring, shadowed, part)?;
     Ok(Bytes::from_vec(to))
 }
@@ -269,6 +272,14 @@ pub fn push_texts<R: Threads + Sync>(
     Ok(())
 }
 
+// How few parts a thread takes: with few lines in all, one thread takes all.
+fn least_piece(parts: &[Part]) -> usize {
+    let lines = parts
+        .iter()
+        .fold(0_usize, |sum, part| sum.saturating_add(lines_of(*part)));
+    if lines < WORTH_THREADS { usize::MAX } else { 1 }
+}
+
 // The text of each part, made side by side.
 fn texts_of<R: Threads + Sync>(
     rt: &R,
@@ -287,7 +298,7 @@ fn texts_of<R: Threads + Sync>(
 {
     parts
         .par_iter()
-        .with_min_len(1)
+        .with_min_len(least_piece(parts))
         .map(
             |part: &Part| -> Result<Bytes, AllocError>
                 requires quiet { Quiet (plain_of world.now) }

@@ -80,5 +80,5 @@ pub fn due_played_with_threads<'a, S: Store, G: Gate, R: Threads + Wait + Sync>(
         (S.shows store.new) result.status (bytes_of_line result.line) }
 {
     let played = world_as_asked(rt, alloc, play, &replay, gate);
-    due_played(alloc, store, play, replay, played)
+    due_played(rt, alloc, store, play, replay, played)
 }

@@ -2,6 +2,7 @@
 use Rattle.std.specs.Prelude.{ℕ, ◌≡◌, ⊤, Bool, true, false, List, [], ◌∷◌, ◌++◌, length, map}
 use Rattle.std.specs.Prelude.{Option}
 use Rattle.std.specs.FinMap.{insert}
+use Rattle.std.specs.List.{flat_map}
 use Rattle.cy_store.specs.Files.{Files}
 use Rattle.cy_store.specs.Reads.{Reads, Accepts, ◌>>=◌}
 use Rattle.cy_store.specs.Write.{Write, after_writes}
@@ -25,6 +26,7 @@ use Rattle.cy_replay.specs.Configuration.{Configured}
 use Rattle.cy_replay.specs.declared.error.Refusal.{Refusal}
 use Rattle.cy_replay.specs.Listing.{IsListed}
 use Rattle.cy_writer.specs.RecordWrites.{file_writes, record_puts}
+use Rattle.cy_writer.specs.Writes.{placed}
 use Rattle.cy_recording.specs.Recording.{Source, channels_of_tape, messages_of_tape, chunks_of_tape}
 use Rattle.cy_replay.specs.Setup.{Replayed, replay_in}
 use Rattle.cy_replay.specs.Stops.{stop_of}
@@ -66,12 +68,11 @@ tape_record w s tape = record_bytes (channels_of_tape s tape) (chunks_of_tape w.
 abbrev pub run_trace : Source → ℕ → Run → List ℕ
 run_trace s shadowed run = trace_text s.names s.plans shadowed run
 
--- The record is written piece by piece, and then the trace in one piece.
-abbrev pub play_writes : PlayWords → Source → ℕ → Run → List Write
-play_writes w s shadowed run =
+-- The record is written piece by piece, and then the trace: its pieces are put one behind another.
+abbrev pub play_writes : PlayWords → Source → (pieces : List (List ℕ)) → Run → List Write
+play_writes w s pieces run =
     file_writes w.output (record_puts (channels_of_tape s run.tape)
-    (chunks_of_tape w.output s run.tape))
-    ++ file_writes w.trace ((0, run_trace s shadowed run) ∷ [])
+    (chunks_of_tape w.output s run.tape)) ++ file_writes w.trace (placed 0 pieces)
 
 abbrev pub play_line : Source → PlayList → Run → List ℕ
 play_line s list run = summary_line (length list.tokens) list.shadowed (calls_from run 0 s.plans)
@@ -92,7 +93,8 @@ pub record IsPlayed (serial : Bool) (read : Replayed) (list : PlayList) (stop : 
 
 -- What `play` makes of what was read: the record and the trace of one lawful run, with the stop
 -- that is asked for, each of the form that is read back, written in their order, after which both
--- files hold them and every other name is as before; and the line with the run's numbers.
+-- files hold them and every other name is as before; and the line with the run's numbers. The trace
+-- is written piece by piece, cut where the program likes: its bytes are those of the text.
 pub record IsPlayWork (w : PlayWords) (read : Replayed) (work : Work) : Type 0 where
   pub list : PlayList
   pub listed : IsListed read.contents w.request.filter read.wired list
@@ -106,7 +108,10 @@ pub record IsPlayWork (w : PlayWords) (read : Replayed) (work : Work) : Type 0 w
       (messages_of_tape (source_in read list) world.tape)
       (tape_record w (source_in read list) world.tape)
   pub read_back : IsTraceText (run_trace (source_in read list) list.shadowed (run_shown world))
-  pub writes : work.writes ≡ play_writes w (source_in read list) list.shadowed (run_shown world)
+  pub pieces : List (List ℕ)
+  pub cut : flat_map (λ piece. piece) pieces
+      ≡ run_trace (source_in read list) list.shadowed (run_shown world)
+  pub writes : work.writes ≡ play_writes w (source_in read list) pieces (run_shown world)
   pub leaves : (m : Files) → after_writes work.writes m
       ≡ insert (insert m w.output (tape_record w (source_in read list) world.tape)) w.trace
       (run_trace (source_in read list) list.shadowed (run_shown world))

@@ -169,7 +169,8 @@ fn due_unplayed<'a>(make: &Make<'a>, failure: Failure) -> Due<'a>
 
 // What is due once a replay of the files that are made was played: these files are written, and
 // behind them its record and its trace.
-fn due_made<'a, S: Store>(
+fn due_made<'a, S: Store, R: Threads + Sync>(
+    rt: &R,
     alloc: Global,
     make: &Make<'a>,
     play: &Play,
@@ -189,7 +190,7 @@ fn due_made<'a, S: Store>(
         drop(replay);
         return due_unmade(make, error);
     }
-    match write_both(alloc, store, play, replay, world) {
+    match write_both(rt, alloc, store, play, replay, world) {
         Ok(line) => Due {
             status: Status::Done,
             line: Line::Made(line),
@@ -219,7 +220,7 @@ fn make_and_play<'a, S: Store, R: Threads + Sync>(
         drop(replay);
         return out_of_memory();
     };
-    let due = due_made(alloc, make, play, store, replay, &world);
+    let due = due_made(rt, alloc, make, play, store, replay, &world);
     drop(world);
     due
 }
