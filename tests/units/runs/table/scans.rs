@@ -9,8 +9,8 @@ use cy_table::{FlagTable, Pass};
 use std::sync::Wait;
 use std::test::Fail;
 
-// The context of component 0.
-fn context_of_one(rt: &HostRuntime) -> Result<Context, Fail> {
+/// The context of component 0.
+pub(crate) fn context_of_one(rt: &HostRuntime) -> Result<Context, Fail> {
     let plan = ContextPlan {
         name: Text::new(rt.alloc(), "default_grp")?,
         pinned: false,
