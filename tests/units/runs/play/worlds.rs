@@ -1,10 +1,12 @@
 // Serial runs of components of any class, and the texts of their traces, as the rules give them.
 use super::played::{Message, counts, list, placed};
 use super::wired::{holding, wiring};
-use cy_comp::{Kind, Wiring};
+use cy_comp::{Kind, State, Wiring};
 use cy_fuse::Overflow;
 use cy_msg::{Placement, PlayList};
+use cy_run::run_serial;
 use cy_trace::trace_text;
+use std::process::Abort;
 use std::str;
 use std::test::Fail;
 use wake_core::{CoreError, World, planned, serial};
@@ -348,5 +350,57 @@ fn keeps_sixteen_million_entries(rt: HostRuntime) -> Result<(), Fail> {
     );
     let more = World::new(rt.alloc(), &wiring, &[1_048_576, 1, 0, 0, 0, 0, 0], None);
     assert_eq!(rt; more.err(), Some(CoreError::TooMany { count: 16_777_217 }));
+    Ok(())
+}
+
+// A component passes two messages on, and then waits.
+fn has_passed_two(rt: &impl Abort, world: &World) {
+    let tape = world.tape_list().iter();
+    assert!(rt;
+        tape.map(|token| (token.channel, token.seq, token.time, token.whole))
+            .eq([
+                (0, 1, 1, Some(5)),
+                (1, 1, 1, Some(5)),
+                (0, 2, 2, Some(6)),
+                (1, 2, 2, Some(6)),
+            ])
+    );
+    let calls = world.routine(0).calls();
+    assert!(rt;
+        calls
+            .map(|call| (call.position, call.tail))
+            .eq([(1, 1), (2, 2)])
+    );
+    assert_eq!(rt; world.routine(0).state(), State::DataWait);
+    assert_eq!(rt; (world.played(), world.clock()), (2, u64::MAX));
+    assert!(rt; world.spent(0));
+}
+
+// Two messages, for a component that passes them on.
+const TWO: &[Message] = &[(0, 1, Some(5)), (0, 2, Some(6))];
+
+#[test]
+fn plays_in_a_world_that_is_handed_over(rt: HostRuntime) -> Result<(), Fail> {
+    let wiring = wiring(&rt, &["/a", "/o"], &[(Kind::Pass, &[0])])?;
+    let world = World::new(rt.alloc(), &wiring, &[2, 0], None)?;
+    let world = run_serial(world, &list(&rt, TWO)?, &placed(&rt, 1, false)?);
+    has_passed_two(&rt, &world);
+    Ok(())
+}
+
+#[test]
+fn takes_a_world_apart_and_puts_it_together(rt: HostRuntime) -> Result<(), Fail> {
+    let wiring = wiring(&rt, &["/a", "/o"], &[(Kind::Pass, &[0])])?;
+    let world = played(&rt, &wiring, &list(&rt, TWO)?, &placed(&rt, 1, false)?)?;
+    let parts = world.apart();
+    assert_eq!(rt; parts.tape.len(), 4);
+    assert_eq!(rt;
+        (parts.played, parts.clock, parts.raised),
+        (2, u64::MAX, false)
+    );
+    assert_eq!(rt; parts.spent.as_slice(), [true].as_slice());
+    assert_eq!(rt; parts.routines.as_slice()[0].calls().len(), 2);
+    assert_eq!(rt; parts.visitors.as_slice()[0].arrivals().len(), 2);
+    has_passed_two(&rt, &parts.together(rt.alloc())?);
     Ok(())
 }
