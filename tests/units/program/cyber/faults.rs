@@ -187,6 +187,22 @@ fn reads_what_a_piece_left_that_failed(rt: HostRuntime) -> Result<(), Fail> {
     Ok(())
 }
 
+// The fourth piece is the header of the chunk, 24 bytes behind 2,115. Its write fails, though all of
+// it is kept: both channels are read, and no message.
+#[test]
+fn keeps_the_chunk_header_whose_write_failed(rt: HostRuntime) -> Result<(), Fail> {
+    let alloc = rt.alloc();
+    let mut ran = failing_at(&rt, alloc, FIRST_PUT + 3, 24)?;
+    let line = b"cyber: out.rec: the store failed\n";
+    ends(&rt, &ran, Status::StoreFault, b"", line);
+    lacks(&rt, &ran, "t.txt");
+    let size = ran.store.file("out.rec").map(|file| file.len());
+    assert_eq!(rt; size, Some(2_139));
+    let record = load(&rt, alloc, &mut ran.store, "out.rec")?;
+    assert_eq!(rt; (record.channels(), record.messages()), (2, 0));
+    Ok(())
+}
+
 // What is recovered of the record of which this piece kept so many bytes: how many messages, and
 // how many bytes are dropped; or what is told where it has no header.
 fn recovered_of(piece: usize, keep: usize) -> Result<(usize, usize), &'static [u8]> {
