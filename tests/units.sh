@@ -43,7 +43,7 @@ copy_crates() {
 }
 
 # Copies the tests to a folder. They end in .rs here, since the gate takes every file that ends in .rt for part of a crate. Where one test is
-# wanted, the others are functions that nobody calls.
+# wanted, the others are left out: only a test may start threads by its runtime. A test ends at the brace under its `fn`.
 copy_tests() { # the group, the folder
   local file to name
   while read -r file; do
@@ -51,12 +51,17 @@ copy_tests() { # the group, the folder
     mkdir -p "$(dirname "$to")"
     name=$wanted
     if [ -n "$place" ] && [ "$file" != "./$place" ]; then
-      name=- # no function is called so
+      name=- # no test is called so
     fi
     awk -v wanted="$name" '
-      wanted != "" && /^ *#\[test\]/ { mark = $0; next }
-      mark != "" && /^ *fn / { if ($0 ~ "fn " wanted "[(<]") print mark; mark = "" }
-      { print }' "$units/$1/$file" >"$to"
+      ending != "" { if ($0 == ending) ending = ""; next }
+      wanted != "" && /^ *(\/\/\/|#\[test\])/ { head = head $0 "\n"; next }
+      head ~ /#\[test\]/ && /^ *fn / && $0 !~ "fn " wanted "[(<]" {
+        ending = substr($0, 1, match($0, /fn /) - 1) "}"
+        head = ""
+        next
+      }
+      { printf "%s", head; head = ""; print }' "$units/$1/$file" >"$to"
   done < <(cd "$units/$1" && find . -name '*.rs')
 }
 
