@@ -2,7 +2,7 @@
 // about both first ones at once.
 use super::samples::in_record;
 use cy_msg::Text;
-use cy_run::Gate;
+use cy_run::{Gate, OpenGate};
 use cy_store::{MemSink, MemStore, Store};
 use cy_table::Hold;
 use cyber_cli::{Status, cyber};
@@ -32,6 +32,9 @@ const PLAY: &str = "play --dag d.dag --record a.rec --out out.rec --trace t.txt 
 
 const SERIAL_PLAY: &str =
     "play --dag d.dag --record a.rec --out out.rec --trace t.txt --sched s.sched --serial";
+
+/// The words that verify what a play wrote.
+const VERIFY: &str = "verify --dag d.dag --record a.rec --out out.rec --trace t.txt";
 
 /// How often a first call looks for the other one.
 const LOOKS: u32 = 10_000_000;
@@ -100,20 +103,37 @@ fn words_of(alloc: Global, line: &str) -> Result<Vec<Text>, Fail> {
     Ok(words)
 }
 
-// Plays the one message through the two components, and whether that was done as asked.
+// Whether the program does what a line asks, over a store, and prints this line alone.
+fn prints<G: Gate, R: Threads + Wait + Sync>(
+    rt: &R,
+    alloc: Global,
+    store: &mut MemStore,
+    line: &str,
+    gate: &G,
+    printed: &[u8],
+) -> Result<bool, Fail> {
+    let words = words_of(alloc, line)?;
+    let mut out = MemSink::new(alloc);
+    let mut err = MemSink::new(alloc);
+    let status = cyber(rt, alloc, &words, store, &mut out, &mut err, gate);
+    Ok(status == Status::Done && out.bytes() == printed && err.bytes().is_empty())
+}
+
+// Plays the one message through the two components, and whether that was done as asked and what it
+// wrote is lawful.
 fn plays<G: Gate, R: Threads + Wait + Sync>(
     rt: &R,
     alloc: Global,
     line: &str,
     gate: &G,
 ) -> Result<bool, Fail> {
-    let words = words_of(alloc, line)?;
     let mut store = pair_store(alloc)?;
-    let mut out = MemSink::new(alloc);
-    let mut err = MemSink::new(alloc);
-    let status = cyber(rt, alloc, &words, &mut store, &mut out, &mut err, gate);
-    let told = b"done: played 1, shadowed 0, calls 2, written 3\n".as_slice();
-    Ok(status == Status::Done && out.bytes() == told && err.bytes().is_empty())
+    let done = b"done: played 1, shadowed 0, calls 2, written 3\n".as_slice();
+    let lawful = b"lawful: played 1, shadowed 0, calls 2, written 3\n".as_slice();
+    Ok(
+        prints(rt, alloc, &mut store, line, gate, done)?
+            && prints(rt, alloc, &mut store, VERIFY, &OpenGate, lawful)?,
+    )
 }
 
 #[test]
