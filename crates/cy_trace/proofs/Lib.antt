@@ -19,6 +19,7 @@ pub mod TextRead
 pub mod Gathered
 pub mod Pages
 pub mod Keeping
+pub mod Parting
 pub mod Places
 pub mod FusedRoles
 pub mod SameArrivals

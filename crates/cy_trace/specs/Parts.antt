@@ -1,6 +1,6 @@
 -- A trace in parts.
-use Rattle.std.specs.Prelude.{ℕ, ◌+◌, ◌^◌, ◌≡◌, ◌≤◌, ◌<◌, ⊤, true, List, ◌++◌, length, take, drop, All}
-use Rattle.std.specs.Prelude.{slice_get, Option, None, Some, codes, []}
+use Rattle.std.specs.Prelude.{ℕ, ◌+◌, ◌^◌, ◌≡◌, ◌≤◌, ◌<◌, ⊤, true, List, [], ◌++◌, length, take, drop}
+use Rattle.std.specs.Prelude.{All, slice_get, Option, None, Some, codes}
 use Rattle.std.specs.List.{flat_map}
 use Rattle.cy_msg.specs.Quoted.{quoted}
 use Rattle.cy_fuse.specs.Fusion.{Arrival}

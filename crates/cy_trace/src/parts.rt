@@ -1,7 +1,8 @@
 // A trace in parts, each of which is made by itself.
 ghost use Rattle.std.specs.Prelude.{◌≡◌, ◌≤◌, ◌<◌, ◌+◌, ◌++◌, ℕ, List, length, take, drop, All};
-ghost use Rattle.std.specs.Prelude.{slice_get, Some, IfOk, IfErr, OnOk};
+ghost use Rattle.std.specs.Prelude.{slice_get, Some, is_some, filter, IfOk, IfErr, OnOk};
 ghost use Rattle.std.specs.List.{flat_map};
+ghost use Rattle.cy_comp.specs.declared.call.Call.{Call};
 ghost use Rattle.cy_comp.specs.declared.plan.Plan.{Plan};
 ghost use Rattle.wake_core.specs.Events.{is_finished};
 ghost use Rattle.wake_core.specs.LawfulRun.{Quiet};
@@ -9,9 +10,9 @@ ghost use Rattle.wake_core.specs.Rest.{run_shown};
 ghost use Rattle.wake_core.specs.Run.{Run, routes_of};
 ghost use Rattle.wake_core.specs.WorldOf.{plain_of};
 ghost use Rattle.cy_trace.specs.Parts.{ArePartsOf, IsPartOf, parts_text, part_text as text_of};
-ghost use Rattle.cy_trace.specs.TraceText.{call_lines, component_text, tape_line, version_of as version_for};
+ghost use Rattle.cy_trace.specs.TraceText.{call_lines, component_text, tape_line};
+ghost use Rattle.cy_trace.specs.TraceText.{version_of as version_for};
 ghost use Rattle.cy_trace.specs.private.Adding.{Adds, AreTexts};
-ghost use Rattle.cy_trace.specs.private.OutsAfter.{outs_after};
 
 use crate::TraceError;
 use crate::lines::{push_call_lines, push_end_line, push_head, push_opening, push_tape_lines};
@@ -66,7 +67,7 @@ pub enum Part {
 
 // How many outputs calls have.
 fn outputs_of(calls: Calls<'_>) -> usize
-    ensures { (before : ℕ) → before + result ≡ outs_after before calls.entry }
+    ensures { result ≡ length (filter (λ (x : Call). is_some x.out) calls.entry) }
 {
     calls.filter(|call| call.out.is_some()).count()
 }
@@ -125,14 +126,14 @@ fn push_component_parts(
 }
 
 // Adds the parts of a tape of so many messages.
-fn push_tape_parts(parts: &mut Vec<Part>, length: usize) -> Result<(), AllocError>
+fn push_tape_parts(parts: &mut Vec<Part>, messages: usize) -> Result<(), AllocError>
     ensures { OnOk result ((names : List (List ℕ)) (plans : List Plan) (shadowed : ℕ) (w : Run)
-        → length w.tape ≡ length → Adds names plans shadowed w parts.old.items parts.new.items
+        → length w.tape ≡ messages → Adds names plans shadowed w parts.old.items parts.new.items
         (flat_map (tape_line names) w.tape)) }
 {
     let mut from = 0;
-    while from < length {
-        let count = (length - from).min(PART_LINES);
+    while from < messages {
+        let count = (messages - from).min(PART_LINES);
         parts.push(Part::Tape { from, count })?;
         from += count;
     }
@@ -289,9 +290,13 @@ fn texts_of<R: Threads + Sync>(
         .with_min_len(1)
         .map(
             |part: &Part| -> Result<Bytes, AllocError>
-                requires { IsPartOf wiring.now.plans (run_shown (plain_of world.now)) part.now }
-                ensures { IfOk result (λ t. t ≡ text_of wiring.now.names wiring.now.plans shadowed
-                    (run_shown (plain_of world.now)) part.now) }
+                requires quiet { Quiet (plain_of world.now) }
+                requires routes { (plain_of world.now).routes ≡ routes_of wiring.now.plans }
+                requires channels { length (plain_of world.now).counts ≡ length wiring.now.names }
+                requires fit { IsPartOf wiring.now.plans (run_shown (plain_of world.now)) part.now }
+                ensures { IfOk result (λ t. t ≡ text_of wiring.entry.now.names
+                    wiring.entry.now.plans shadowed (run_shown (plain_of world.entry.now))
+                    part.now) }
             { part_text(alloc, world, wiring, shadowed, *part) },
         )
         .collect(rt, alloc)
