@@ -39,7 +39,7 @@ from damage import spoiled_record, spoiled_text, spoiled_trace
 from mutations import changed_record, read, write
 from parted import recovered
 from record import messages_of
-from replays import CHANNELS, verify_words, without, write_files
+from replays import CHANNELS, make_for, verify_words, without, write_files
 from strict import Bad, read_trace
 
 MB = 2**20
@@ -366,6 +366,7 @@ def report(suite, count, faults, seconds):
 
 def main():
     program, count, seed = os.path.abspath(sys.argv[1]), int(sys.argv[2]), int(sys.argv[3])
+    make_for(program)
     first = int(sys.argv[4]) if len(sys.argv) > 4 else 0
     begun, faults = time.monotonic(), 0
     with tempfile.TemporaryDirectory() as folder:

@@ -24,7 +24,7 @@ from judge import judge, record_of, task_of
 from judging import Told, first_fault
 from playlist import Filter, names_of, stop_of
 from record import content_of, forms_of, messages_of, record
-from replays import verify_words, without, write_files
+from replays import make_for, verify_words, without, write_files
 from strict import Bad, read_trace
 
 TRACES, RECORDS, STEPS = 14, 3, 150  # how many changed ones there are of each run, and how many changes are tried in turn
@@ -413,6 +413,7 @@ def kind_of(line):
 
 def main():
     program, count, seed = os.path.abspath(sys.argv[1]), int(sys.argv[2]), int(sys.argv[3])
+    make_for(program)
     counts = Counter()
     for number in range(count):
         folder = tempfile.mkdtemp()

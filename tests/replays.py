@@ -178,6 +178,29 @@ def has_verify(program):
     return subprocess.run([program, *words], capture_output=True).returncode != 2
 
 
+def has_external(program):
+    """Whether a program knows the class of external components: one without it says so of a DAG file that has one."""
+    with tempfile.TemporaryDirectory() as folder:
+        files = {
+            "m.dag": 'module_config { components { class_name: "ExternalComponent" config '
+            '{ name: "c" config_file_path: "c.conf" readers { channel: "/a" } } } }',
+            "c.conf": 'out: "/o" out_type: "t"',
+        }
+        for name, text in files.items():
+            with open(os.path.join(folder, name), "w", encoding="utf-8") as file:
+                file.write(text)
+        with open(os.path.join(folder, "in.rec"), "wb") as file:
+            file.write(record([], {}))
+        words = ["play", "--dag", "m.dag", "--record", "in.rec", "--out", "out.rec", "--trace", "out.trace"]
+        return b"UnknownClass" not in subprocess.run([program, *words], capture_output=True, cwd=folder).stderr
+
+
+def make_for(program):
+    """Makes external components only for a program that knows their class."""
+    if not has_external(program):
+        KINDS.pop("External", None)
+
+
 def write_passing(source, target):
     """Makes the DAG file that says what `pass` does, and gives the words that name it."""
     config = f'name: "pass" config_file_path: "pass.conf" readers {{ channel: "{source}" }}'
@@ -213,6 +236,7 @@ def is_as_expected(program, words, verifies):
 def main():
     program, count, seed = os.path.abspath(sys.argv[1]), int(sys.argv[2]), int(sys.argv[3])
     differ, verifies = 0, has_verify(program)
+    make_for(program)
     for number in range(count):
         folder = tempfile.mkdtemp()
         os.chdir(folder)
