@@ -379,7 +379,7 @@ open_files() {
 
 # Runs the program in more and more room for addresses, and looks at each answer: Done, or 6 with the line of that, or a front of it. Where
 # there is too little for the C library, that says so, and no program begins (127). Of what was begun before 6 the out file is whole, or of no
-# byte, or incomplete.
+# byte, or incomplete. The trace is begun only behind a whole record, and then has its beginning, of no byte or some.
 memory_runs_out() { # the words, the line of Done, and the kilobytes: from, step, to
   local room answers=' '
   begin "where memory runs out, asked for '$1'"
@@ -406,7 +406,13 @@ memory_runs_out() { # the words, the line of Done, and the kilobytes: from, step
 tells_of_no_memory() { # the kilobytes that there were, and the words
   [ ! -s out ] && head -c "$(stat -c %s err)" <(echo 'cyber: out of memory') | cmp -s - err
   count $? "$name: in $1 KB it says '$(cat out err)'"
-  lacks files/trace
+  if [[ $2 = play* || $2 = pass* ]] && [ -e files/trace ]; then
+    holds files/out.rec want/rec
+    cmp -s files/trace <(head -c "$(stat -c %s files/trace)" want/trace)
+    count $? "$name: in $1 KB the trace isn't the front of what was to be written"
+  else
+    lacks files/trace
+  fi
   if [ -s files/out.rec ] && ! cmp -s files/out.rec want/rec; then
     is_cut_short files/out.rec
   elif [[ $2 = recover* || $2 = split* ]]; then
