@@ -41,6 +41,7 @@ not_held (kind.Take n) kept m tuple e = test (counted kept.calls == n)
     test : (b : Bool) → held_until (Some (if b then Last (Some (passed m)) else passes m)) ≡ None
     test true = refl
     test false = refl
+not_held (kind.External answers) kept m tuple e = refl
 
 -- Only a component of the class that holds back has outputs that were held back, ..
 pub held_holds : (k : Kind) (earlier : List Tuple) (tuple : Tuple) → held_until (Some (outcome_after k earlier tuple)) ≢ None → holds_outputs k ≡ true
@@ -64,3 +65,4 @@ holds_held (kind.Window n) earlier tuple e = cc
 holds_held kind.Change earlier tuple e = cc
 holds_held kind.Select earlier tuple e = cc
 holds_held (kind.Take n) earlier tuple e = cc
+holds_held (kind.External answers) earlier tuple e = cc

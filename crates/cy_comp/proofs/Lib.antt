@@ -6,3 +6,4 @@ pub mod Ends
 pub mod Rowing
 pub mod Holding
 pub mod Rising
+pub mod Searching

@@ -1,4 +1,5 @@
 pub mod private
+pub mod Answers
 pub mod Kind
 pub mod Step
 pub mod Laws

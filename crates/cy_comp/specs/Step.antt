@@ -9,11 +9,13 @@ use Rattle.cy_msg.specs.declared.token.Token.{Token}
 use Rattle.cy_msg.specs.declared.token.Tuple.{Tuple}
 use Rattle.cy_msg.specs.declared.token.Tuple.TheVariants.{One, Two, Three, Four}
 use Rattle.cy_msg.specs.Tuple.{first_of, messages_of}
+use Rattle.cy_comp.specs.declared.answers.Answer.{Answer}
 use Rattle.cy_comp.specs.declared.kind.Kind.{Kind}
 use Rattle.cy_comp.specs.declared.kind.Kind.TheVariants as kind
 use Rattle.cy_comp.specs.declared.call.Out.{Out}
 use Rattle.cy_comp.specs.declared.call.Outcome.{Outcome}
 use Rattle.cy_comp.specs.declared.call.Outcome.TheVariants.{Emit, Hold, Last}
+use Rattle.cy_comp.specs.Answers.{answered}
 
 -- What a component keeps from its earlier calls, each class but what it needs: how many calls there
 -- were, the greatest value, the last values, and the value that passed last.
@@ -38,6 +40,10 @@ passed m = passed_at m.time m
 -- A value of its own, whose content is the written form of the value.
 abbrev pub made_at : ℕ → ℤ → Out
 made_at time value = record { time = time; whole = Some value; origin = None }
+
+-- An answer put out at a time: with its value and its content.
+abbrev pub answer_at : ℕ → Answer → Out
+answer_at time a = record { time = time; whole = a.whole; origin = Some a.origin }
 
 -- A value, held within the signed numbers of 64 bits.
 abbrev pub held_within : ℤ → ℤ
@@ -138,6 +144,9 @@ answer_of (kind.Hold delay) kept m tuple =
 answer_of (kind.Take n) kept m tuple =
     let calls = counted kept.calls in
     (record kept { calls = calls }, if calls == n then Last (Some (passed m)) else passes m)
+answer_of (kind.External answers) kept m tuple =
+    let calls = counted kept.calls in
+    (record kept { calls = calls }, Emit (option_map (answer_at m.time) (answered answers calls)))
 
 -- What a component keeps after a call, and what it answers. An output has the time of the first
 -- message, but a held one.

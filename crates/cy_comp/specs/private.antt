@@ -1,5 +1,6 @@
 pub mod CallsView
 pub mod Rows
+pub mod Searches
 pub mod Class
 pub mod Keeping
 pub mod Sums

@@ -51,7 +51,7 @@ impl Body {
         ensures { IfOk result (λ b. b ≡ new_body kind.now) }
     {
         Ok(Body {
-            class: Class::new(alloc, *kind)?,
+            class: Class::new(alloc, kind)?,
         })
     }
 }

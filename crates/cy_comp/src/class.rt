@@ -1,14 +1,15 @@
 // What a component keeps, by its class, and what it answers.
-ghost use Rattle.std.specs.Prelude.{◌≡◌};
+ghost use Rattle.std.specs.Prelude.{◌≡◌, option_map};
 ghost use Rattle.cy_comp.specs.declared.class.Class.TheVariants as class;
-ghost use Rattle.cy_comp.specs.Step.{counted as number_with};
+ghost use Rattle.cy_comp.specs.Answers.{answered};
+ghost use Rattle.cy_comp.specs.Step.{answer_at, counted as number_with};
 ghost use Rattle.cy_comp.specs.private.Class.{Steps};
 
 use crate::messages::{
     first_message, makes, passed_on_at, passes, second_message, sum_of_values, third_message,
 };
 use crate::window::Window;
-use crate::{CompError, Kind, Outcome};
+use crate::{Answers, CompError, Kind, Out, Outcome};
 use cy_msg::Tuple;
 use std::alloc::Global;
 
@@ -25,6 +26,7 @@ pub(crate) enum Class {
     Select,
     Hold { delay: u64 },
     Take(Taken),
+    External(Outside),
 }
 
 /// The values that a filter passes.
@@ -41,6 +43,13 @@ pub(crate) struct Taken {
     calls: u64,
 }
 
+/// What a file says for each call, and how many calls there were.
+#[derive(Drop)]
+pub(crate) struct Outside {
+    answers: Answers,
+    calls: u64,
+}
+
 // The greatest time until which an output is held back.
 const LAST_WAKE: u64 = u64::MAX - 1;
 
@@ -50,20 +59,24 @@ impl Class {
     ghost use Rattle.cy_comp.specs.private.Class.{body_of, Steps};
 
     /// The state before the first call.
-    pub(crate) fn new(alloc: Global, kind: Kind) -> Result<Self, CompError>
-        ensures { IfOk result (λ c. body_of c ≡ new_body kind) }
+    pub(crate) fn new(alloc: Global, kind: &Kind) -> Result<Self, CompError>
+        ensures { IfOk result (λ c. body_of c ≡ new_body kind.now) }
     {
         Ok(match kind {
             Kind::Pass => Class::Pass,
-            Kind::Filter { lo, hi } => Class::Filter(Bounds { lo, hi }),
+            Kind::Filter { lo, hi } => Class::Filter(Bounds { lo: *lo, hi: *hi }),
             Kind::Sum => Class::Sum,
             Kind::Count => Class::Count { calls: 0 },
             Kind::Max => Class::Max { greatest: None },
-            Kind::Window { n } => Class::Window(Window::new(alloc, n)?),
+            Kind::Window { n } => Class::Window(Window::new(alloc, *n)?),
             Kind::Change => Class::Change { passed: None },
             Kind::Select => Class::Select,
-            Kind::Hold { delay } => Class::Hold { delay },
-            Kind::Take { n } => Class::Take(Taken { n, calls: 0 }),
+            Kind::Hold { delay } => Class::Hold { delay: *delay },
+            Kind::Take { n } => Class::Take(Taken { n: *n, calls: 0 }),
+            Kind::External { answers } => Class::External(Outside {
+                answers: answers.copy()?,
+                calls: 0,
+            }),
         })
     }
 
@@ -83,6 +96,7 @@ impl Class {
             Class::Select => select(tuple),
             Class::Hold { delay } => hold(*delay, tuple),
             Class::Take(taken) => take(taken, tuple),
+            Class::External(outside) => answer(outside, tuple),
         }
     }
 }
@@ -206,4 +220,25 @@ fn take(taken: &mut Taken, tuple: &Tuple) -> Outcome
     } else {
         passes(&message)
     }
+}
+
+// Puts out what the file says for this call.
+fn answer(outside: &mut Outside, tuple: &Tuple) -> Outcome
+    ensures { Steps (class.External outside.old) (class.External outside.new) tuple.now result }
+{
+    outside.calls = counted(outside.calls);
+    let time = first_message(tuple).time;
+    Outcome::Emit(answer_at(&outside.answers, outside.calls, time))
+}
+
+// The answer of a call, put out at a time.
+fn answer_at(answers: &Answers, call: u64, time: u64) -> Option<Out>
+    ensures { result ≡ option_map (answer_at time) (answered answers.now call) }
+{
+    let answer = answers.to_call(call)?;
+    Some(Out {
+        time,
+        whole: answer.whole,
+        origin: Some(answer.origin),
+    })
 }

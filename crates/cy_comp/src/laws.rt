@@ -3,8 +3,9 @@ ghost use Rattle.cy_comp.specs.Laws.{OutcomesAreAnswers, HoldsByClass, Positions
 
 use cy_fuse::fetches_find;
 
-/// Whatever its class, a component answers to a tuple in one of five ways: with nothing, with a
-/// message of the tuple, with a value that it makes, with one that it holds back, or with its last.
+/// Whatever its class, a component answers to a tuple in one of six ways: with nothing, with a
+/// message of the tuple, with a value that it makes, with an answer that its class has from a file,
+/// with one that it holds back, or with its last.
 #[inline(always)]
 pub fn outcomes_are_answers()
     ensures { OutcomesAreAnswers }

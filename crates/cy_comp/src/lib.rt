@@ -5,6 +5,7 @@
 //! `specs/Options` what else component files say.
 #![tactic(auto)]
 
+mod answers;
 mod body;
 mod call;
 mod calls;
@@ -20,6 +21,7 @@ mod state;
 mod window;
 mod wiring;
 
+pub use answers::{Answer, Answers};
 pub use body::{Body, Component};
 pub use call::{Call, Out, Outcome};
 pub use calls::Calls;

@@ -2,7 +2,7 @@
 ghost use Rattle.std.specs.Prelude.{◌≡◌, IfOk, IfErr};
 ghost use Rattle.cy_comp.specs.Options.{options_with};
 
-use cy_msg::{NamesError, Text};
+use cy_msg::{Bytes, NamesError, Text};
 use std::alloc::Global;
 
 /// What the file of a component may say beside its class, its channel and its overflow. It goes
@@ -11,6 +11,10 @@ use std::alloc::Global;
 pub struct Options {
     /// The type of the messages on its channel, empty where the file has none.
     pub out_type: Text,
+    /// The description of that type, where the record of the answers has one; else empty.
+    pub description: Bytes,
+    /// The name of the record that has the answers of the calls; empty where there is none.
+    pub answers: Text,
 }
 
 impl Options {
@@ -21,6 +25,8 @@ impl Options {
     {
         Ok(Options {
             out_type: Text::new(alloc, out_type)?,
+            description: Bytes::new(alloc, &[])?,
+            answers: Text::new(alloc, "")?,
         })
     }
 
@@ -31,6 +37,8 @@ impl Options {
     {
         Ok(Options {
             out_type: Text::new(alloc, self.out_type.as_str())?,
+            description: Bytes::new(alloc, self.description.as_slice())?,
+            answers: Text::new(alloc, self.answers.as_str())?,
         })
     }
 }

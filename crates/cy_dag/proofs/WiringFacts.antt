@@ -39,6 +39,7 @@ kind_needs kind.Change = refl
 kind_needs kind.Select = refl
 kind_needs (kind.Hold delay) = refl
 kind_needs (kind.Take n) = refl
+kind_needs (kind.External answers) = refl
 
 queue_some : (readers : List DagReader) → ((j : ℕ) (r : DagReader) → slice_get readers j ≡ Some r → 1 ≤ r.queue) → 1 ≤ queue_of_first readers
 queue_some [] each = omega arith

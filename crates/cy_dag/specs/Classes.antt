@@ -7,6 +7,7 @@ use Rattle.cy_comp.specs.declared.kind.Kind.TheVariants as kind
 use Rattle.cy_dag.specs.declared.class.Class.{Class}
 use Rattle.cy_dag.specs.declared.class.Class.TheVariants.{Pass, Filter, Sum, Count, Max, Window}
 use Rattle.cy_dag.specs.declared.class.Class.TheVariants.{Change, Select, Hold, Take}
+use Rattle.cy_dag.specs.declared.class.Class.TheVariants.{External}
 
 abbrev pub class_names : List (List ℕ × Class)
 class_names =
@@ -20,6 +21,7 @@ class_names =
     ∷ (codes "SelectComponent", Select)
     ∷ (codes "HoldComponent", Hold)
     ∷ (codes "TakeComponent", Take)
+    ∷ (codes "ExternalComponent", External)
     ∷ []
 
 abbrev pub class_in : List (List ℕ × Class) → List ℕ → Option Class
@@ -61,7 +63,8 @@ parameters_of Hold = number_parameter (codes "delay") 0 18446744073709551615 ∷
 parameters_of Take = number_parameter (codes "n") 1 4294967295 ∷ []
 parameters_of _ = []
 
--- A class with parameters, where each name has a value.
+-- A class with parameters, where each name has a value; one whose answers come from a file has none
+-- before that is read.
 abbrev pub kind_of : Class → (List ℕ → ℤ) → Kind
 kind_of Pass value = kind.Pass
 kind_of Filter value = kind.Filter (value (codes "lo")) (value (codes "hi"))
@@ -73,6 +76,7 @@ kind_of Change value = kind.Change
 kind_of Select value = kind.Select
 kind_of Hold value = kind.Hold (nat_abs (value (codes "delay")))
 kind_of Take value = kind.Take (nat_abs (value (codes "n")))
+kind_of External value = kind.External []
 
 -- The class of a kind, without its parameters.
 abbrev pub class_of : Kind → Class
@@ -86,3 +90,4 @@ class_of kind.Change = Change
 class_of kind.Select = Select
 class_of (kind.Hold delay) = Hold
 class_of (kind.Take n) = Take
+class_of (kind.External answers) = External

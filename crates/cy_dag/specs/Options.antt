@@ -1,5 +1,6 @@
 -- What a component file may say beside its class, its channel and its overflow.
-use Rattle.std.specs.Prelude.{ℕ, List, [], ◌∷◌, map, codes, Option, None}
+use Rattle.std.specs.Prelude.{ℕ, List, [], ◌∷◌, map, codes, Option, None, Bool, true, false}
+use Rattle.std.specs.Prelude.{if◌then◌else◌}
 use Rattle.cy_text.specs.Fields.{Fields}
 use Rattle.cy_comp.specs.declared.options.Options.{Options}
 use Rattle.cy_config.specs.Refusals.{first_of}
@@ -8,6 +9,7 @@ use Rattle.cy_config.specs.declared.field.Field.{Field}
 use Rattle.cy_config.specs.declared.field.Kind.TheVariants as kind
 use Rattle.cy_dag.specs.DagFile.{text_in}
 use Rattle.cy_dag.specs.declared.class.Class.{Class}
+use Rattle.cy_dag.specs.declared.class.Class.TheVariants.{External}
 use Rattle.cy_dag.specs.declared.error.DagError.{DagError}
 
 -- A field that a component file may have: its name, what it may hold, and why a file is refused
@@ -29,11 +31,27 @@ refusal_among rows component file = first_of (map (λ row. row.refusal component
 abbrev pub any_taken : ℕ → Fields → Option DagError
 any_taken component file = None
 
--- The options that the file of a class may have.
+-- Whether the answers of a class come from a file.
+abbrev pub has_answers : Class → Bool
+has_answers External = true
+has_answers _ = false
+
+abbrev pub any_text : List ℕ → Row
+any_text name = record { name = name; field = single kind.Text; refusal = any_taken }
+
+-- The options that the file of a class may have: the record of the answers, where they come from
+-- one.
 abbrev pub option_rows : Class → List Row
-option_rows c =
-    record { name = codes "out_type"; field = single kind.Text; refusal = any_taken } ∷ []
+option_rows c = any_text (codes "out_type")
+    ∷ (if has_answers c then any_text (codes "answers") ∷ [] else [])
+
+abbrev pub answers_in : Class → Fields → List ℕ
+answers_in c file = if has_answers c then text_in (codes "answers") file else []
 
 -- What a file of a class says of them.
 abbrev pub options_in : Class → Fields → Options
-options_in c file = record { out_type = text_in (codes "out_type") file }
+options_in c file = record {
+  out_type = text_in (codes "out_type") file;
+  description = [];
+  answers = answers_in c file;
+}

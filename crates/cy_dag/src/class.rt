@@ -9,7 +9,7 @@ ghost use Rattle.cy_dag.specs.declared.class.Class.TheVariants.{Filter};
 
 use crate::DagError;
 use crate::config::parameter;
-use cy_comp::Kind;
+use cy_comp::{Answers, Kind};
 use cy_text::Tree;
 use std::alloc::Global;
 
@@ -32,6 +32,7 @@ pub enum Class {
     Select,
     Hold,
     Take,
+    External,
 }
 
 impl Class {
@@ -50,6 +51,7 @@ impl Class {
             "SelectComponent" => Some(Class::Select),
             "HoldComponent" => Some(Class::Hold),
             "TakeComponent" => Some(Class::Take),
+            "ExternalComponent" => Some(Class::External),
             _ => None,
         }
     }
@@ -100,6 +102,9 @@ impl Class {
             },
             Class::Take => Kind::Take {
                 n: parameter(alloc, tree, component, "n", 1, 4_294_967_295)? as u32,
+            },
+            Class::External => Kind::External {
+                answers: Answers::none(alloc)?,
             },
         })
     }

@@ -1,6 +1,7 @@
 // What a component file may say beside its class, its channel and its overflow.
 ghost use Rattle.std.specs.Prelude.{◌≡◌, IfOk, IfErr, None};
-ghost use Rattle.cy_dag.specs.Options.{field_among, option_rows, options_in, refusal_among};
+ghost use Rattle.cy_dag.specs.Options.{answers_in, field_among, has_answers, option_rows};
+ghost use Rattle.cy_dag.specs.Options.{options_in, refusal_among};
 ghost use Rattle.cy_dag.specs.Refusals.{IsDue};
 
 use crate::DagError;
@@ -8,6 +9,7 @@ use crate::class::Class;
 use crate::component::text;
 use cy_comp::Options;
 use cy_config::{Field, Kind};
+use cy_msg::{Bytes, NamesError, Text};
 use cy_text::Tree;
 use std::alloc::Global;
 
@@ -18,7 +20,26 @@ impl Class {
     {
         match name {
             "out_type" => Some(Field::single(Kind::Text)),
+            "answers" if self.has_answers() => Some(Field::single(Kind::Text)),
             _ => None,
+        }
+    }
+
+    // Whether the answers of its components come from a file.
+    fn has_answers(self) -> bool
+        ensures { result ≡ has_answers self }
+    {
+        matches!(self, Class::External)
+    }
+
+    // The name of the record that has the answers, empty where there is none.
+    fn answers(self, alloc: Global, tree: &Tree) -> Result<Text, NamesError>
+        ensures { IfOk result (λ name. name ≡ answers_in self tree.now) }
+    {
+        if self.has_answers() {
+            text(alloc, tree, "answers")
+        } else {
+            Text::new(alloc, "")
         }
     }
 
@@ -37,6 +58,8 @@ impl Class {
     {
         Ok(Options {
             out_type: text(alloc, tree, "out_type")?,
+            description: Bytes::new(alloc, &[])?,
+            answers: self.answers(alloc, tree)?,
         })
     }
 }

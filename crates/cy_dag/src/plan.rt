@@ -42,7 +42,7 @@ fn plan(
     let readers = component.readers.as_slice();
     Ok(Plan {
         name: Text::new(alloc, component.name.as_str())?,
-        kind: config.kind,
+        kind: config.kind.copy()?,
         readers: Items::new(numbers(alloc, names, readers)?),
         queue: queue_of_first(readers),
         overflow: config.overflow,

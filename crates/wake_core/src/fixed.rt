@@ -119,7 +119,7 @@ fn routes_from(alloc: Global, plans: &[Plan]) -> Result<Vec<Route>, CoreError>
     let mut routes = Vec::with_capacity(alloc, plans.len())?;
     for plan in plans {
         routes.push(Route {
-            kind: plan.kind,
+            kind: plan.kind.copy()?,
             readers: Items::new(Vec::from_slice(alloc, plan.readers.as_slice())?),
             queue: plan.queue,
             overflow: plan.overflow,

@@ -20,6 +20,7 @@ kind_of (class.Change passed) = kind.Change
 kind_of class.Select = kind.Select
 kind_of (class.Hold delay) = kind.Hold delay
 kind_of (class.Take t) = kind.Take t.n
+kind_of (class.External e) = kind.External e.answers
 
 abbrev pub kept_of : Class → Kept
 kept_of (class.Count calls) = record (opening_of kind.Count) { calls = calls }
@@ -27,6 +28,7 @@ kept_of (class.Max greatest) = record (opening_of kind.Max) { greatest = greates
 kept_of (class.Window w) = record (opening_of (kind.Window w.n)) { last = w.values.items }
 kept_of (class.Change passed) = record (opening_of kind.Change) { passed = passed }
 kept_of (class.Take t) = record (opening_of (kind.Take t.n)) { calls = t.calls }
+kept_of (class.External e) = record (opening_of (kind.External e.answers)) { calls = e.calls }
 kept_of _ = opening_of kind.Pass
 
 abbrev pub body_of : Class → BodyView
