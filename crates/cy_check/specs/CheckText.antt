@@ -1,12 +1,14 @@
 -- The text that tells what the configuration files of a run say.
-use Rattle.std.specs.Prelude.{ℕ, true, List, [], ◌∷◌, ◌++◌, codes, slice_get, Option, Some, None}
-use Rattle.std.specs.Prelude.{unwrap_or, option_map}
+use Rattle.std.specs.Prelude.{ℕ, true, List, [], ◌∷◌, ◌++◌, codes, length, slice_get, Option, Some}
+use Rattle.std.specs.Prelude.{None, unwrap_or, option_map}
 use Rattle.std.specs.Fmt.{decimal}
 use Rattle.std.specs.List.{flat_map, zip}
 use Rattle.cy_msg.specs.Quoted.{quoted}
 use Rattle.cy_msg.specs.declared.placement.ContextPlan.{ContextPlan}
 use Rattle.cy_fuse.specs.declared.overflow.Overflow.{Overflow}
 use Rattle.cy_fuse.specs.declared.overflow.Overflow.TheVariants.{Newest, Oldest}
+use Rattle.cy_comp.specs.declared.kind.Kind.{Kind}
+use Rattle.cy_comp.specs.declared.kind.Kind.TheVariants.{External}
 use Rattle.cy_dag.specs.Wiring.{queue_of_first}
 use Rattle.cy_dag.specs.declared.config.Config.{Config}
 use Rattle.cy_dag.specs.declared.dag.DagComponent.{DagComponent}
@@ -20,25 +22,41 @@ unfoldable pub overflow_text : Overflow → List ℕ
 overflow_text Newest = []
 overflow_text Oldest = codes " overflow OLDEST"
 
+-- How many answers a class has from a file.
+abbrev pub answer_count : Kind → ℕ
+answer_count (External answers) = length answers
+answer_count _ = 0
+
+-- The record that answers come from, and how many come; nothing is said where there is none.
+unfoldable pub answers_text : List ℕ → ℕ → List ℕ
+answers_text [] count = []
+answers_text (c ∷ cs) count = codes " answers" ++ spaced (c ∷ cs) ++ codes " " ++ decimal count
+
+-- The answers of a component, by its file.
+abbrev pub answers_of : Config → List ℕ
+answers_of config = answers_text config.options.answers (answer_count config.kind)
+
 -- A component: its name, its class, the channels that it reads, how many tuples wait for it, the
--- channel that it writes, and what it does where a tuple isn't kept any more.
+-- channel that it writes, what it does where a tuple isn't kept any more, and its answers.
 abbrev pub component_line : DagComponent → Config → List ℕ
 component_line c config =
     codes "component " ++ quoted true c.name ++ codes " class " ++ c.class_name ++ codes " reads"
     ++ flat_map (λ r. spaced r.channel) c.readers
     ++ codes " queue " ++ decimal (queue_of_first c.readers)
-    ++ codes " writes " ++ quoted true config.out ++ overflow_text config.overflow ++ codes "\n"
+    ++ codes " writes " ++ quoted true config.out ++ overflow_text config.overflow
+    ++ answers_of config ++ codes "\n"
 
 -- How often a tick triggers a timer component.
 unfoldable pub interval_text : ℕ → List ℕ
 interval_text interval = codes " every " ++ decimal interval ++ codes " ms"
 
--- A timer component: its name, its class, each how many milliseconds a tick triggers it, and the
--- channel that it writes.
+-- A timer component: its name, its class, each how many milliseconds a tick triggers it, the
+-- channel that it writes, and its answers.
 abbrev pub timer_line : ℕ → DagComponent → Config → List ℕ
 timer_line interval c config =
     codes "timer " ++ quoted true c.name ++ codes " class " ++ c.class_name
-    ++ interval_text interval ++ codes " writes " ++ quoted true config.out ++ codes "\n"
+    ++ interval_text interval ++ codes " writes " ++ quoted true config.out ++ answers_of config
+    ++ codes "\n"
 
 -- The line of a component of either kind.
 abbrev pub line_by : Option ℕ → DagComponent → Config → List ℕ

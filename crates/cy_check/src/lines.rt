@@ -2,12 +2,14 @@
 ghost use Rattle.std.specs.Prelude.{true, ◌≡◌, ◌++◌, length, OnOk};
 ghost use Rattle.std.specs.List.{flat_map};
 ghost use Rattle.cy_msg.specs.Quoted.{quoted};
-ghost use Rattle.cy_check.specs.CheckText.{component_line, component_lines, config_lines};
+ghost use Rattle.cy_check.specs.CheckText.{answer_count, answers_of, component_line};
+ghost use Rattle.cy_check.specs.CheckText.{component_lines, config_lines};
 ghost use Rattle.cy_check.specs.CheckText.{context_head, context_line, context_lines, name_in};
 ghost use Rattle.cy_check.specs.CheckText.{interval_text, line_by, order_text, overflow_text, spaced};
 ghost use Rattle.cy_check.specs.CheckText.{timer_line, unknown_lines};
 ghost use Rattle.cy_dag.specs.Wiring.{queue_of_first};
 
+use cy_comp::Kind;
 use cy_dag::{Config, DagComponent, DagReader};
 use cy_fuse::Overflow;
 use cy_msg::{ContextPlan, Text, push_quoted};
@@ -57,6 +59,7 @@ fn push_timer(
     push_interval(to, interval)?;
     write!(to, " writes ")?;
     push_name(to, config.out.as_str())?;
+    push_answers(to, config)?;
     writeln!(to, "")
 }
 
@@ -80,6 +83,7 @@ fn push_component(to: &mut Vec<u8>, component: &DagComponent, config: &Config) -
     write!(to, " queue {} writes ", queue_of_first(readers))?;
     push_name(to, config.out.as_str())?;
     push_overflow(to, config.overflow)?;
+    push_answers(to, config)?;
     writeln!(to, "")
 }
 
@@ -91,6 +95,30 @@ fn push_overflow(to: &mut Vec<u8>, overflow: Overflow) -> io::Result<()>
     match overflow {
         Overflow::Newest => Ok(()),
         Overflow::Oldest => write!(to, " overflow OLDEST"),
+    }
+}
+
+// The record of a component's answers and how many there are, where it has one.
+#[tactic(auto, unfolding(crate::specs::CheckText::answers_text))]
+fn push_answers(to: &mut Vec<u8>, config: &Config) -> io::Result<()>
+    ensures { OnOk result (to.new.items ≡ to.old.items ++ answers_of config.now) }
+{
+    let name = config.options.answers.as_str();
+    if name.is_empty() {
+        return Ok(());
+    }
+    write!(to, " answers")?;
+    push_spaced(to, name)?;
+    write!(to, " {}", answer_count(&config.kind))
+}
+
+// How many answers a class has from a file.
+fn answer_count(kind: &Kind) -> usize
+    ensures { result ≡ answer_count kind.now }
+{
+    match kind {
+        Kind::External { answers } => answers.as_slice().len(),
+        _ => 0,
     }
 }
 

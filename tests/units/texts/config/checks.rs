@@ -73,6 +73,21 @@ fn tells_components_contexts_and_unknown_fields(rt: HostRuntime) -> Result<(), F
             context \"default_grp\" processors 2 order \"p\" \"t\"\n\
             unknown s.conf scheduler_conf.depth\nok\n",
         ),
+        (
+            "module_config { components { class_name: \"ExternalComponent\" \
+            config { name: \"e\" config_file_path: \"e\" readers { channel: \"/a\" } } } \
+            timer_components { class_name: \"ExternalComponent\" \
+            config { name: \"t\" config_file_path: \"t\" interval: 20 } } }",
+            &[
+                "out: \"/o\" answers: \"a\\n\" on_overflow: OLDEST",
+                "out: \"/q\" answers: \"b.rec\"",
+            ],
+            "component \"e\" class ExternalComponent reads \"/a\" queue 1 writes \"/o\" \
+            overflow OLDEST answers \"a\\n\" 0\n\
+            timer \"t\" class ExternalComponent every 20 ms writes \"/q\" answers \"b.rec\" 0\n\
+            context \"default_grp\" processors 2 order \"e\" \"t\"\n\
+            unknown s.conf scheduler_conf.depth\nok\n",
+        ),
     ] {
         let text = told(&rt, dag, files)?;
         assert_eq!(rt; text.as_str(), want);
