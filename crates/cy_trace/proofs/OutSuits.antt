@@ -18,7 +18,7 @@ use Rattle.wake_core.specs.Sound.{Sound, IsOutput, StandsOn}
 use Rattle.wake_core.specs.Bounds.{PlaceLaws}
 use Rattle.cy_trace.specs.TraceForm.{IsLong, IsValue}
 use Rattle.cy_trace.specs.Laws.{Suits}
-use Rattle.cy_trace.proofs.StepSuits.{AllSuit, SuitsOut, outcome_suits}
+use Rattle.cy_trace.proofs.StepSuits.{AllSuit, GivenSuit, SuitsOut, outcome_suits}
 
 -- What holds of each message of a tape holds of each on a channel.
 pub on_each : (P : Token → Type 0) (tape : List Token) → ((n : ℕ) (t : Token) → slice_get tape n ≡ Some t → P t) → (channel i : ℕ) (m : Token) → slice_get (on_channel channel tape) i ≡ Some m → P m
@@ -133,13 +133,13 @@ passing p (s ∷ tape) (suc i) t e is = by (p s) (passing p tape i t e is)
     by true h = (suc h.0, h.1)
     by false h = h
 
-module _ (answers : OutcomesAreAnswers) (places : PlaceLaws) (w : Plain) (s : Sound w) (played : (n : ℕ) (t : Token) → slice_get (played_of w.routes w.tape) n ≡ Some t → Suits t) where
+module _ (answers : OutcomesAreAnswers) (places : PlaceLaws) (w : Plain) (s : Sound w) (played : (n : ℕ) (t : Token) → slice_get (played_of w.routes w.tape) n ≡ Some t → Suits t) (given : (c : ℕ) (x : Route) → slice_get w.routes c ≡ Some x → GivenSuit x.kind) where
   -- A call's output fits where every message does that was fused when it was made.
   call_suits : (c n : ℕ) (x : Route) (call : Call) → slice_get w.routes c ≡ Some x → slice_get (w.calls c) n ≡ Some call
       → ((k : ℕ) (tuple : Tuple) → k < call.tail → slice_get (fused (w.arrivals c) (length x.readers)) k ≡ Some tuple → AllSuit tuple) → SuitsOut call.out
   call_suits c n x call at is all =
       let lawful = s.consistent.called.lawful c x at in
-      subst SuitsOut (sym (lawful.outputs n call is)) (outcome_suits answers x.kind (tuples_of (take n (w.calls c))) call.tuple earlier (own n call is (omega arith)))
+      subst SuitsOut (sym (lawful.outputs n call is)) (outcome_suits answers x.kind (tuples_of (take n (w.calls c))) call.tuple (given c x at) earlier (own n call is (omega arith)))
     where
       own : (i : ℕ) (y : Call) → slice_get (w.calls c) i ≡ Some y → y.tail ≤ call.tail → AllSuit y.tuple
       own i y on less =

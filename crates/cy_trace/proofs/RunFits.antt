@@ -34,7 +34,7 @@ use Rattle.cy_trace.specs.Laws.{IsOf, AreTyped}
 use Rattle.cy_trace.specs.declared.line.Line.TheVariants as line
 use Rattle.cy_trace.proofs.Order.{are_lines-append}
 use Rattle.cy_trace.proofs.OutSuits.{outs_suit}
-use Rattle.cy_trace.proofs.StepSuits.{SuitsOut}
+use Rattle.cy_trace.proofs.StepSuits.{GivenSuit, SuitsOut}
 
 mapped_each : {X : Type 0} (P : ℕ → Type 0) (f : X → ℕ) (xs : List X) → ((n : ℕ) (x : X) → slice_get xs n ≡ Some x → P (f x)) → Each P (map f xs)
 mapped_each P f [] all = tt
@@ -117,6 +117,15 @@ module _ (answers : OutcomesAreAnswers) (places : PlaceLaws) (bounds : BoundLaws
   route_at : (c : ℕ) (p : Plan) → slice_get plans c ≡ Some p → slice_get w.routes c ≡ Some (route_of p)
   route_at c p at = ap (λ (rs : List Route). slice_get rs c) of.routes ∙ slice_get-map route_of plans c ∙ ap (option_map route_of) at
 
+  given_suit : (c : ℕ) (x : Route) → slice_get w.routes c ≡ Some x → GivenSuit x.kind
+  given_suit c x at = by (slice_get plans c) refl
+    where
+      by : (o : Option Plan) → slice_get plans c ≡ o → GivenSuit x.kind
+      by None e = absurd (none-some x (sym (ap (λ (rs : List Route). slice_get rs c) of.routes ∙ slice_get-map route_of plans c ∙ ap (option_map route_of) e) ∙ at))
+      by (Some p) e =
+          let same : route_of p ≡ x = same_Some (route_of p) x (sym (route_at c p e) ∙ at) in
+          subst (λ (r : Route). GivenSuit r.kind) same (λ a is. typed.answers c p a e is)
+
   stands_short : (m : Token) → StandsOn w.tape m → IsShort m.seq
   stands_short m on =
       let known = on_known (length w.counts) w.tape s.consistent.room.channels m.channel (m.seq - 1) m on in
@@ -157,7 +166,7 @@ module _ (answers : OutcomesAreAnswers) (places : PlaceLaws) (bounds : BoundLaws
           omega (arith, size, mapped, of.wiring.some_reader c p at),
           omega (arith, size, mapped, of.wiring.few_readers c p at),
         );
-        out = λ o e. subst SuitsOut e (outs_suit answers places w s typed.played c n (route_of p) x (route_at c p at) is);
+        out = λ o e. subst SuitsOut e (outs_suit answers places w s typed.played given_suit c n (route_of p) x (route_at c p at) is);
       }
 
   role_at : (c n : ℕ) (p : Plan) (a : Arrival) → slice_get plans c ≡ Some p → slice_get (w.arrivals c) n ≡ Some a → a.0 < 10

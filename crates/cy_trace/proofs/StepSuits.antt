@@ -10,7 +10,8 @@ use Rattle.cy_comp.specs.declared.call.Out.{Out}
 use Rattle.cy_comp.specs.declared.call.Outcome.{Outcome}
 use Rattle.cy_comp.specs.declared.kind.Kind.{Kind}
 use Rattle.cy_comp.specs.Step.{outcome_after, out_of}
-use Rattle.cy_comp.specs.Laws.{IsMade, IsAnswer, no_output, passes_on, makes_value, holds_back, ends_with, OutcomesAreAnswers}
+use Rattle.cy_comp.specs.declared.answers.Answer.{Answer}
+use Rattle.cy_comp.specs.Laws.{IsMade, IsAnswer, IsGiven, no_output, passes_on, makes_value, gives_answer, holds_back, ends_with, OutcomesAreAnswers}
 use Rattle.cy_trace.specs.TraceForm.{IsLong, IsLongSigned, IsValue}
 use Rattle.cy_trace.specs.Laws.{Suits}
 
@@ -44,13 +45,18 @@ made_suits tuples value all made = elim made [
   | inr held ↦ subst IsLongSigned (sym held.1) (held_suits held.0)
 ]
 
+-- The values of the answers that a class has from a file fit.
+abbrev pub GivenSuit : Kind → Type 0
+GivenSuit k = (a : Answer) → IsGiven k a → IsValue a.whole
+
 -- What an answer puts out fits.
-answer_suits : (tuples : List Tuple) (tuple : Tuple) → TuplesSuit tuples → AllSuit tuple → (o : Outcome) → IsAnswer tuples tuple o → SuitsOut (out_of o)
-answer_suits tuples tuple each all o no_output = tt
-answer_suits tuples tuple each all o (passes_on {m} is) = ((first_suits tuple all).0, (all is.place m is.there).1)
-answer_suits tuples tuple each all o (makes_value {value} is) = ((first_suits tuple all).0, made_suits tuples value each is)
-answer_suits tuples tuple each all o (holds_back {until} {m} few is) = (omega (arith, few), (all is.place m is.there).1)
-answer_suits tuples tuple each all o (ends_with {m} is) = ((first_suits tuple all).0, (all is.place m is.there).1)
+answer_suits : (k : Kind) (tuples : List Tuple) (tuple : Tuple) → GivenSuit k → TuplesSuit tuples → AllSuit tuple → (o : Outcome) → IsAnswer k tuples tuple o → SuitsOut (out_of o)
+answer_suits k tuples tuple given each all o no_output = tt
+answer_suits k tuples tuple given each all o (passes_on {m} is) = ((first_suits tuple all).0, (all is.place m is.there).1)
+answer_suits k tuples tuple given each all o (makes_value {value} is) = ((first_suits tuple all).0, made_suits tuples value each is)
+answer_suits k tuples tuple given each all o (gives_answer {a} is) = ((first_suits tuple all).0, given a is)
+answer_suits k tuples tuple given each all o (holds_back {until} {m} few is) = (omega (arith, few), (all is.place m is.there).1)
+answer_suits k tuples tuple given each all o (ends_with {m} is) = ((first_suits tuple all).0, (all is.place m is.there).1)
 
 each_suits : (earlier : List Tuple) (last : Tuple) → TuplesSuit earlier → AllSuit last → TuplesSuit (earlier ++ last ∷ [])
 each_suits [] last before all zero u e = let same : last ≡ u = cc in subst AllSuit same all
@@ -59,5 +65,5 @@ each_suits (x ∷ earlier) last before all zero u e = before zero u e
 each_suits (x ∷ earlier) last before all (suc i) u e = each_suits earlier last (λ i. before (suc i)) all i u e
 
 -- What a call puts out fits, where what it and those before it took does.
-pub outcome_suits : OutcomesAreAnswers → (k : Kind) (earlier : List Tuple) (tuple : Tuple) → TuplesSuit earlier → AllSuit tuple → SuitsOut (out_of (outcome_after k earlier tuple))
-outcome_suits law k earlier tuple before all = answer_suits (earlier ++ tuple ∷ []) tuple (each_suits earlier tuple before all) all (outcome_after k earlier tuple) (law k earlier tuple)
+pub outcome_suits : OutcomesAreAnswers → (k : Kind) (earlier : List Tuple) (tuple : Tuple) → GivenSuit k → TuplesSuit earlier → AllSuit tuple → SuitsOut (out_of (outcome_after k earlier tuple))
+outcome_suits law k earlier tuple given before all = answer_suits k (earlier ++ tuple ∷ []) tuple given (each_suits earlier tuple before all) all (outcome_after k earlier tuple) (law k earlier tuple)

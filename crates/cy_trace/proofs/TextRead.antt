@@ -7,6 +7,7 @@ use Rattle.std.specs.Str.{IsUtf8}
 use Rattle.cy_msg.specs.declared.token.Token.{Token}
 use Rattle.cy_comp.specs.declared.plan.Plan.{Plan}
 use Rattle.cy_comp.specs.Wiring.{IsWiring}
+use Rattle.cy_trace.proofs.StepSuits.{GivenSuit}
 use Rattle.wake_core.specs.declared.entries.TheConstants.{MOST_PLANNED}
 use Rattle.wake_core.specs.Plain.{Plain}
 use Rattle.wake_core.specs.Planned.{planned}
@@ -25,23 +26,25 @@ kept_hold P keep ts all n t here =
     subst P (get_or_from_slice_get (filter keep ts) n t t here) (each n t (slice_get_within (filter keep ts) n t here))
 
 -- What is written of a sound world is the text of a trace, where no more is planned than a world keeps.
-pub text_is_read : (names : List (List ℕ)) (plans : List Plan) (shadowed : ℕ) (w : Plain) → IsWiring names plans → w.routes ≡ routes_of plans → length w.counts ≡ length names → ((n : ℕ) (name : List ℕ) → slice_get names n ≡ Some name → IsUtf8 name) → ((c : ℕ) (p : Plan) → slice_get plans c ≡ Some p → IsUtf8 p.name) → ((n : ℕ) (t : Token) → slice_get w.tape n ≡ Some t → Suits t) → IsShort shadowed → Sound w → RunsFit → RunsAreTraces → planned w.routes w.counts ≤ MOST_PLANNED → IsTraceText (trace_text names plans shadowed (run_shown w))
-text_is_read names plans shadowed w wiring routes channels texts named suit short sound fit same limited =
+pub text_is_read : (names : List (List ℕ)) (plans : List Plan) (shadowed : ℕ) (w : Plain) → IsWiring names plans → w.routes ≡ routes_of plans → length w.counts ≡ length names → ((n : ℕ) (name : List ℕ) → slice_get names n ≡ Some name → IsUtf8 name) → ((c : ℕ) (p : Plan) → slice_get plans c ≡ Some p → IsUtf8 p.name) → ((c : ℕ) (p : Plan) → slice_get plans c ≡ Some p → GivenSuit p.kind) → ((n : ℕ) (t : Token) → slice_get w.tape n ≡ Some t → Suits t) → IsShort shadowed → Sound w → RunsFit → RunsAreTraces → planned w.routes w.counts ≤ MOST_PLANNED → IsTraceText (trace_text names plans shadowed (run_shown w))
+text_is_read names plans shadowed w wiring routes channels texts named given suit short sound fit same limited =
     let of : IsOf names plans w = record { wiring = wiring; routes = routes; channels = channels; limited = limited } in
     let typed : AreTyped names plans w = record {
       channels = texts;
       components = named;
+      answers = λ c p a at is. given c p at a is;
       played = kept_hold Suits (λ t. not (is_some (writes_from 0 w.routes t.channel))) w.tape suit;
     } in
     (trace_of_run names plans shadowed (run_shown w), fit names plans shadowed w of typed short sound, same names plans shadowed (run_shown w))
 
 -- So has a world in which these messages were played a trace of the form.
-pub traces_fit : (names : List (List ℕ)) (plans : List Plan) (shadowed : ℕ) (messages : List Token) → IsWiring names plans → ((n : ℕ) (name : List ℕ) → slice_get names n ≡ Some name → IsUtf8 name) → ((c : ℕ) (p : Plan) → slice_get plans c ≡ Some p → IsUtf8 p.name) → ((n : ℕ) (t : Token) → slice_get messages n ≡ Some t → Suits t) → IsShort shadowed → RunsFit → (w : Plain) → w.routes ≡ routes_of plans → length w.counts ≡ length names → planned w.routes w.counts ≤ MOST_PLANNED → played_of w.routes w.tape ≡ messages → Sound w → IsTrace (trace_of_run names plans shadowed (run_shown w))
-traces_fit names plans shadowed messages wiring texts named suit short fit w routes channels limited same sound =
+pub traces_fit : (names : List (List ℕ)) (plans : List Plan) (shadowed : ℕ) (messages : List Token) → IsWiring names plans → ((n : ℕ) (name : List ℕ) → slice_get names n ≡ Some name → IsUtf8 name) → ((c : ℕ) (p : Plan) → slice_get plans c ≡ Some p → IsUtf8 p.name) → ((c : ℕ) (p : Plan) → slice_get plans c ≡ Some p → GivenSuit p.kind) → ((n : ℕ) (t : Token) → slice_get messages n ≡ Some t → Suits t) → IsShort shadowed → RunsFit → (w : Plain) → w.routes ≡ routes_of plans → length w.counts ≡ length names → planned w.routes w.counts ≤ MOST_PLANNED → played_of w.routes w.tape ≡ messages → Sound w → IsTrace (trace_of_run names plans shadowed (run_shown w))
+traces_fit names plans shadowed messages wiring texts named given suit short fit w routes channels limited same sound =
     let of : IsOf names plans w = record { wiring = wiring; routes = routes; channels = channels; limited = limited } in
     let typed : AreTyped names plans w = record {
       channels = texts;
       components = named;
+      answers = λ c p a at is. given c p at a is;
       played = λ n t at. suit n t (ap (λ (l : List Token). slice_get l n) (sym same) ∙ at);
     } in
     fit names plans shadowed w of typed short sound

@@ -3,7 +3,9 @@ use Rattle.std.specs.Prelude.{ℕ, ◌≡◌, ◌≤◌, List, length, slice_get
 use Rattle.std.specs.Prelude.{IfOk}
 use Rattle.std.specs.Str.{IsUtf8}
 use Rattle.cy_msg.specs.declared.token.Token.{Token}
+use Rattle.cy_comp.specs.declared.answers.Answer.{Answer}
 use Rattle.cy_comp.specs.declared.plan.Plan.{Plan}
+use Rattle.cy_comp.specs.Laws.{IsGiven}
 use Rattle.cy_comp.specs.Wiring.{IsWiring}
 use Rattle.wake_core.specs.declared.entries.TheConstants.{MOST_PLANNED}
 use Rattle.wake_core.specs.Plain.{Plain}
@@ -58,10 +60,13 @@ pub record IsOf (names : List (List ℕ)) (plans : List Plan) (w : Plain) : Type
 abbrev pub Suits : Token → Type 0
 Suits m = IsLong m.time × IsValue m.whole
 
--- What values of the code's types keep: names are texts, and what is played fits 64 bits.
+-- What values of the code's types keep: names are texts, and what is played and what classes have
+-- from files fits 64 bits.
 pub record AreTyped (names : List (List ℕ)) (plans : List Plan) (w : Plain) : Type 0 where
   pub channels : (n : ℕ) (name : List ℕ) → slice_get names n ≡ Some name → IsUtf8 name
   pub components : (c : ℕ) (p : Plan) → slice_get plans c ≡ Some p → IsUtf8 p.name
+  pub answers : (c : ℕ) (p : Plan) (a : Answer) → slice_get plans c ≡ Some p → IsGiven p.kind a
+      → IsValue a.whole
   pub played : (n : ℕ) (t : Token) → slice_get (played_of w.routes w.tape) n ≡ Some t → Suits t
 
 -- The numbers of every sound world fit those of a trace,

@@ -2,6 +2,8 @@
 ghost use Rattle.std.specs.Prelude.{◌≡◌, ◌≤◌, ℕ, List, Some, length, slice_get};
 ghost use Rattle.std.specs.Str.{IsUtf8};
 ghost use Rattle.cy_msg.specs.declared.token.Token.{Token};
+ghost use Rattle.cy_comp.specs.Laws.{IsGiven};
+ghost use Rattle.cy_comp.specs.declared.answers.Answer.{Answer};
 ghost use Rattle.cy_comp.specs.declared.plan.Plan.{Plan};
 ghost use Rattle.wake_core.specs.declared.entries.TheConstants.{MOST_PLANNED};
 ghost use Rattle.wake_core.specs.Planned.{planned};
@@ -11,12 +13,12 @@ ghost use Rattle.wake_core.specs.Run.{played_of, routes_of};
 ghost use Rattle.wake_core.specs.Sound.{Sound};
 ghost use Rattle.wake_core.specs.WorldOf.{plain_of};
 ghost use Rattle.cy_trace.specs.Laws.{Suits};
-ghost use Rattle.cy_trace.specs.TraceForm.{IsTrace, IsTraceText};
+ghost use Rattle.cy_trace.specs.TraceForm.{IsTrace, IsTraceText, IsValue};
 ghost use Rattle.cy_trace.specs.TraceOfRun.{trace_of_run};
 ghost use Rattle.cy_trace.specs.TraceText.{trace_text as text_of};
 
 use crate::laws::{runs_are_read_back, runs_are_traces};
-use cy_comp::{Plan, Wiring};
+use cy_comp::{Answer, Kind, Plan, Wiring};
 use cy_msg::{Names, Token};
 use wake_core::World;
 
@@ -38,14 +40,49 @@ fn components_have_texts(plans: &[Plan])
     }
 }
 
+// A value fits 64 bits.
+fn value_suits(whole: Option<i64>)
+    ensures { IsValue whole }
+{
+    if let Some(value) = whole {
+        let _value = value;
+    }
+}
+
+// The values of answers fit 64 bits.
+fn answers_suit(answers: &[Answer])
+    ensures { (n : ℕ) (a : Answer) → slice_get answers.now n ≡ Some a → IsValue a.whole }
+{
+    for answer in answers {
+        value_suits(answer.whole);
+    }
+}
+
+// So do those of the answers that a class has from a file,
+fn class_suits(kind: &Kind)
+    ensures { (a : Answer) → IsGiven kind.now a → IsValue a.whole }
+{
+    if let Kind::External { answers } = kind {
+        answers_suit(answers.as_slice());
+    }
+}
+
+// and those of all classes.
+fn classes_suit(plans: &[Plan])
+    ensures { (c : ℕ) (p : Plan) → slice_get plans.now c ≡ Some p
+        → (a : Answer) → IsGiven p.kind a → IsValue a.whole }
+{
+    for plan in plans {
+        class_suits(&plan.kind);
+    }
+}
+
 // The time and the value of a message fit 64 bits.
 fn suits(message: Token)
     ensures { Suits message }
 {
     let _time = message.time;
-    if let Some(value) = message.whole {
-        let _value = value;
-    }
+    value_suits(message.whole);
 }
 
 // So it is with all messages.
@@ -59,7 +96,6 @@ fn messages_suit(messages: &[Token])
 
 /// What `trace_text` writes of a world is the text of a trace, where no more is planned than a
 /// world keeps. Proved here, and nothing to run.
-#[tactic(auto, using(crate::proofs::TextRead::text_is_read))]
 pub fn trace_is_read_back(world: &World, wiring: &Wiring, shadowed: u32)
     requires routes { (plain_of world.now).routes ≡ routes_of wiring.now.plans }
     requires channels { (length (plain_of world.now).counts) ≡ length wiring.now.names }
@@ -69,6 +105,7 @@ pub fn trace_is_read_back(world: &World, wiring: &Wiring, shadowed: u32)
 {
     names_are_texts(&wiring.names);
     components_have_texts(wiring.plans.as_slice());
+    classes_suit(wiring.plans.as_slice());
     messages_suit(world.tape_list());
     runs_are_read_back();
     runs_are_traces();
@@ -77,7 +114,6 @@ pub fn trace_is_read_back(world: &World, wiring: &Wiring, shadowed: u32)
 
 /// Every sound world of this wiring in which just these messages were played has a trace of the
 /// form, where no more is planned than a world keeps. Proved here, and nothing to run.
-#[tactic(auto, using(crate::proofs::TextRead::traces_fit))]
 pub fn traces_of_runs_fit(wiring: &Wiring, messages: &[Token], shadowed: u32)
     ensures { (w : Plain) → w.routes ≡ routes_of wiring.now.plans
         → length w.counts ≡ length wiring.now.names → planned w.routes w.counts ≤ MOST_PLANNED
@@ -86,6 +122,7 @@ pub fn traces_of_runs_fit(wiring: &Wiring, messages: &[Token], shadowed: u32)
 {
     names_are_texts(&wiring.names);
     components_have_texts(wiring.plans.as_slice());
+    classes_suit(wiring.plans.as_slice());
     messages_suit(messages);
     runs_are_read_back();
 }
