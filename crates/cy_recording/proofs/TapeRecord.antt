@@ -7,6 +7,7 @@ use Rattle.std.proofs.lemmas.List.{length-map}
 use Rattle.std.proofs.lemmas.Option.{slice_get-map, slice_get-get_or, slice_get_within, same_Some, none-some}
 use Rattle.cy_msg.specs.Names.{channel_name}
 use Rattle.cy_msg.specs.Once.{IsOnce}
+use Rattle.cy_msg.specs.Tokens.{most_played}
 use Rattle.cy_msg.specs.declared.token.Token.{Token}
 use Rattle.cy_store.specs.Store.{StoreView}
 use Rattle.cy_section.specs.declared.types.Channel.{Channel}
@@ -156,8 +157,8 @@ recorded r name s order tape channels messages old new is_order is_channels is_m
 pub first_placed : (order : List ℕ) (tape rest : List Token) (t : Token) → tape ≡ t ∷ rest → ArePlaced order tape → list_any (λ other. t.channel == other) order ≡ true
 first_placed order tape rest t e placed = placed 0 t (ap (λ (l : List Token). slice_get l 0) e)
 
-pub first_origin : (s : Source) (tape rest : List Token) (t : Token) → tape ≡ t ∷ rest → IsWritable s tape → (o : ℕ) → t.origin ≡ Some o → o < length s.places
-first_origin s tape rest t e writable o from = writable.origins 0 o t (ap (λ (l : List Token). slice_get l 0) e) from
+pub first_origin : (s : Source) (tape rest : List Token) (t : Token) → tape ≡ t ∷ rest → IsWritable s tape → (o : ℕ) → t.origin ≡ Some o → o < most_played → o < length s.places
+first_origin s tape rest t e writable o from low = writable.origins 0 o t (ap (λ (l : List Token). slice_get l 0) e) from low
 
 pub rest_placed : (order : List ℕ) (tape rest : List Token) (t : Token) → tape ≡ t ∷ rest → ArePlaced order tape → ArePlaced order rest
 rest_placed order tape rest t e placed = λ n u there. placed (suc n) u (ap (λ (l : List Token). slice_get l (suc n)) e ∙ there)
@@ -165,6 +166,6 @@ rest_placed order tape rest t e placed = λ n u there. placed (suc n) u (ap (λ 
 pub rest_writable : (s : Source) (tape rest : List Token) (t : Token) → tape ≡ t ∷ rest → IsWritable s tape → IsWritable s rest
 rest_writable s tape rest t e writable = record {
   channels = λ n u there. writable.channels (suc n) u (ap (λ (l : List Token). slice_get l (suc n)) e ∙ there);
-  origins = λ n o u there from. writable.origins (suc n) o u (ap (λ (l : List Token). slice_get l (suc n)) e ∙ there) from;
+  origins = λ n o u there from low. writable.origins (suc n) o u (ap (λ (l : List Token). slice_get l (suc n)) e ∙ there) from low;
   places = writable.places;
 }

@@ -82,7 +82,8 @@ fn form_of<'a>(played: &Played<'a>, channel: u32) -> (&'a str, &'a [u8])
 {
     let plans = played.wiring.plans.as_slice();
     if let Some(plan) = writer_of(plans, channel) {
-        return (plan.options.out_type.as_str(), &[]);
+        let options = &plan.options;
+        return (options.out_type.as_str(), options.description.as_slice());
     }
     if has_ticks(plans, channel) {
         return ("", &[]);
@@ -131,9 +132,10 @@ fn written_channels<'a>(
 /// Writes the record of a tape into the file of a name: the channels that have a message on it, in
 /// the order of their first messages, and then each message, with its time and content. A content
 /// is that of the played message which it comes from, where it lies in the record that was read, or
-/// the written form of the message's value. A channel that a component writes has that component's
-/// type, one of ticks has none, and any other the type and description that it has in the record
-/// that was read.
+/// that of the answer which it comes from, where the component's class has it, or the written form
+/// of the message's value. A channel that a component writes has that component's type and
+/// description, one of ticks has none, and any other the type and description that it has in the
+/// record that was read.
 ///
 /// After an error the writes before the one that failed, or that wanted memory, are done. It takes
 /// the room for its tables of channels before it makes the file.

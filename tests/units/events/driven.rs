@@ -52,7 +52,7 @@ fn wiring(rt: &HostRuntime, channels: &[&str], rows: &[Row]) -> Result<Wiring, F
     for (kind, readers, queue, out) in rows {
         plans.push(Plan {
             name: Text::new(rt.alloc(), channels[*out as usize])?,
-            kind: *kind,
+            kind: kind.copy()?,
             readers: Items::new(Vec::from_slice(rt.alloc(), readers)?),
             queue: *queue,
             overflow: Overflow::Newest,

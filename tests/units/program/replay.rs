@@ -1,8 +1,8 @@
 // Records of tapes, byte by byte.
 use crate::records::HEADER_END;
-use cy_comp::{Kind, Options, Plan, Wiring};
+use cy_comp::{Answer, Answers, Kind, Options, Plan, Wiring};
 use cy_fuse::Overflow;
-use cy_msg::{Items, Names, PlayList, Text, Token};
+use cy_msg::{Bytes, Items, Names, PlayList, Text, Token};
 use cy_reader::{Record, load_whole};
 use cy_recording::{Played, write_record};
 use cy_store::MemStore;
@@ -87,6 +87,47 @@ pub fn pass_wiring(rt: &HostRuntime) -> Result<Wiring, Fail> {
         interval: None,
     };
     Ok(Wiring::of_one(names, Items::new(vec![in rt.alloc(); plan]?)))
+}
+
+// A class that has answers with these contents.
+fn external(rt: &HostRuntime, contents: &[&[u8]]) -> Result<Kind, Fail> {
+    let mut answers = Vec::new(rt.alloc());
+    for (place, content) in contents.iter().enumerate() {
+        answers.push(Answer {
+            call: place as u64 + 1,
+            whole: None,
+            origin: 8_388_608 + place as u32,
+            content: Bytes::new(rt.alloc(), content)?,
+        })?;
+    }
+    Ok(Kind::External {
+        answers: Answers::new(answers)?,
+    })
+}
+
+// Two components that read `/in`: one passes it on to `/p`, and one has answers with these contents
+// for `/out`, whose messages have the type `U` and the description `V`.
+fn answering_wiring(rt: &HostRuntime, contents: &[&[u8]]) -> Result<Wiring, Fail> {
+    let mut names = Names::new(rt.alloc());
+    let mut plans = Vec::new(rt.alloc());
+    names.add(rt.alloc(), "/in")?;
+    names.add(rt.alloc(), "/out")?;
+    for (name, kind) in [("/p", Kind::Pass), ("/out", external(rt, contents)?)] {
+        let out = names.add(rt.alloc(), name)?;
+        let mut options = Options::with_type(rt.alloc(), "U")?;
+        options.description = Bytes::new(rt.alloc(), b"V")?;
+        plans.push(Plan {
+            name: Text::new(rt.alloc(), name)?,
+            kind,
+            readers: Items::new(vec![in rt.alloc(); 0]?),
+            queue: 1,
+            overflow: Overflow::Newest,
+            out,
+            options,
+            interval: None,
+        })?;
+    }
+    Ok(Wiring::new(names, Items::new(plans)))
 }
 
 /// The played message of `/in`.
@@ -191,5 +232,37 @@ fn fails_each_call_in_turn(rt: HostRuntime) -> Result<(), Fail> {
     let mut store = MemStore::new(rt.alloc());
     store.fail_at(9, 0)?;
     assert_eq!(rt; write_to(&rt, &mut store, &tape)?, Ok(()));
+    Ok(())
+}
+
+#[test]
+fn writes_the_contents_of_answers(rt: HostRuntime) -> Result<(), Fail> {
+    let record = small_record(&rt)?;
+    let wiring = answering_wiring(&rt, &[b"one", b"", b"three"])?;
+    let list = one_played(&rt)?;
+    let played = Played {
+        whole: &record,
+        wiring: &wiring,
+        list: &list,
+    };
+    let mut tape = vec![in rt.alloc(); in_message()]?;
+    for (place, origin) in [8_388_610, 8_388_608, 8_388_609].into_iter().enumerate() {
+        tape.push(Token {
+            seq: place as u32 + 1,
+            origin: Some(origin),
+            ..out_message(None)
+        })?;
+    }
+    let mut store = MemStore::new(rt.alloc());
+    write_record(rt.alloc(), &mut store, "out.rec", &played, tape.as_slice())?;
+    let written = load_whole(rt.alloc(), &mut store, "out.rec")?;
+    let contents: [&[u8]; 4] = [b"\x08\x0e", b"three", b"one", b""];
+    for (place, content) in contents.iter().enumerate() {
+        assert_eq!(rt; written.content(place as u32), *content, "{place}");
+    }
+    let Some(out) = written.channel_named("/out") else {
+        return Err(Fail::from("/out is written"));
+    };
+    assert_eq!(rt; (out.message_type.as_str(), out.proto_desc.as_slice()), ("U", b"V" as &[u8]));
     Ok(())
 }

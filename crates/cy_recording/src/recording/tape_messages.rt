@@ -1,18 +1,22 @@
 // The messages of a tape, given one after another.
-ghost use Rattle.std.specs.Prelude.{◌≡◌, ◌<◌, ℕ, List, Some, None, length, slice_get, unwrap_or};
-ghost use Rattle.std.specs.Prelude.{option_copied, IfOk, OnOk, IsOkUnless};
-ghost use Rattle.cy_recording.specs.Recording.{source_of, content_by, content_of, played_contents};
+ghost use Rattle.std.specs.Prelude.{◌≡◌, ◌≤◌, ◌<◌, ℕ, List, Some, None, length, slice_get};
+ghost use Rattle.std.specs.Prelude.{unwrap_or, option_copied, IfOk, OnOk, IsOkUnless};
+ghost use Rattle.cy_comp.specs.declared.plan.Plan.{Plan};
+ghost use Rattle.cy_msg.specs.Tokens.{most_played};
+ghost use Rattle.cy_recording.specs.Recording.{source_of, content_by, content_from, content_in};
+ghost use Rattle.cy_recording.specs.Recording.{answer_content, content_of, played_contents};
 ghost use Rattle.cy_recording.specs.Recording.{IsWritable};
 ghost use Rattle.cy_recording.specs.private.RecordSteps.{ArePlaced, CanGoOn, all_given, giving_of};
 
 use crate::Played;
-use cy_msg::Token;
+use cy_comp::Kind;
+use cy_msg::{MOST_PLAYED, Token};
 use cy_wire::{WireError, Writer, put_whole};
 use cy_writer::{ChannelOrder, Messages, Stamp, WriteError};
 use std::alloc::Global;
 
 // The messages of a tape: those that are still to come, and the content of the one that was taken
-// last, lent by the record that was read or else made here.
+// last, lent by the record that was read or by the class that has it, or else made here.
 #[derive(Drop)]
 pub(crate) struct TapeMessages<'a> {
     played: &'a Played<'a>,
@@ -33,8 +37,8 @@ fn no_memory_for_number(error: WireError) -> WriteError
 
 // Writes a value, or nothing, in place of the last content.
 fn make_content(made: &mut Writer, value: Option<i64>) -> Result<(), WriteError>
-    ensures content { (contents : List (List ℕ))
-        → OnOk result (made.new ≡ content_by contents None value) }
+    ensures content { (contents : List (List ℕ)) (plans : List Plan)
+        → OnOk result (made.new ≡ content_by contents plans None value) }
     ensures only_memory { IsOkUnless result WriteError.Memory }
 {
     made.clear();
@@ -55,14 +59,56 @@ fn played_content<'a>(played: &Played<'a>, origin: u32) -> &'a [u8]
     played.whole.content(place)
 }
 
-// The content of a message, where it lies in the record that was read; else it is made.
+// The content of an answer by its place among those that a class has from a file: a slice of it.
+fn content_in(kind: &Kind, place: usize) -> &[u8]
+    ensures { result.now ≡ content_in kind.now place }
+{
+    let Kind::External { answers } = kind else {
+        return &[];
+    };
+    match answers.as_slice().get(place) {
+        Some(answer) => answer.content.as_slice(),
+        None => &[],
+    }
+}
+
+// The content of the answer that an origin is of.
+fn answer_content<'a>(played: &Played<'a>, origin: usize) -> &'a [u8]
+    requires { most_played ≤ origin }
+    ensures { result.now ≡ answer_content (source_of played.now).plans origin }
+{
+    let component = origin / MOST_PLAYED - 1;
+    match played.wiring.plans.as_slice().get(component) {
+        Some(plan) => content_in(&plan.kind, origin % MOST_PLAYED),
+        None => &[],
+    }
+}
+
+// The content of the played message or the answer that an origin is of.
+fn content_from<'a>(played: &Played<'a>, origin: u32) -> &'a [u8]
+    requires origin { origin < most_played → origin < length (source_of played.now).places }
+    requires places { (n place : ℕ) → slice_get (source_of played.now).places n ≡ Some place
+        → place < length (source_of played.now).whole.messages }
+    ensures { result.now ≡ content_from (played_contents (source_of played.now))
+        (source_of played.now).plans origin }
+{
+    let number = origin as usize;
+    if number < MOST_PLAYED {
+        played_content(played, origin)
+    } else {
+        answer_content(played, number)
+    }
+}
+
+// The content of a message, where it lies in the record that was read or in a class; else it is
+// made.
 fn take_content<'a>(
     played: &Played<'a>,
     made: &mut Writer,
     token: &Token,
 ) -> Result<Option<&'a [u8]>, WriteError>
     requires origin { (o : ℕ) → token.now.origin ≡ Some o
-        → o < length (source_of played.now).places }
+        → o < most_played → o < length (source_of played.now).places }
     requires places { (n place : ℕ) → slice_get (source_of played.now).places n ≡ Some place
         → place < length (source_of played.now).whole.messages }
     ensures content { IfOk result (λ lent. unwrap_or (option_copied lent) made.new
@@ -70,7 +116,7 @@ fn take_content<'a>(
     ensures only_memory { IsOkUnless result WriteError.Memory }
 {
     match token.origin {
-        Some(origin) => Ok(Some(played_content(played, origin))),
+        Some(origin) => Ok(Some(content_from(played, origin))),
         None => {
             make_content(made, token.whole)?;
             Ok(None)

@@ -1,7 +1,7 @@
 // What each class answers.
 use super::messages::message;
-use cy_comp::{Body, Component, Kind, Out, Outcome};
-use cy_msg::Tuple;
+use cy_comp::{Answer, Answers, Body, Component, Kind, Out, Outcome};
+use cy_msg::{Bytes, Tuple};
 use std::test::Fail;
 
 // The value of an output at once: none where nothing is put out.
@@ -225,5 +225,51 @@ fn takes_no_more_than_so_many(rt: HostRuntime) -> Result<(), Fail> {
     let mut pair = Body::new(rt.alloc(), &Kind::Take { n: 2 })?;
     assert_eq!(rt; pair.step(&tuple), Outcome::Emit(Some(out)));
     assert_eq!(rt; pair.step(&tuple), Outcome::Last(Some(out)));
+    Ok(())
+}
+
+// A class that has answers to its first, third and fourth call.
+fn external(rt: &HostRuntime) -> Result<Kind, Fail> {
+    let mut answers = Vec::new(rt.alloc());
+    for (call, whole, origin) in [
+        (1, Some(8), 4_194_304),
+        (3, None, 4_194_305),
+        (4, Some(-5), 4_194_306),
+    ] {
+        answers.push(Answer {
+            call,
+            whole,
+            origin,
+            content: Bytes::new(rt.alloc(), b"C")?,
+        })?;
+    }
+    Ok(Kind::External {
+        answers: Answers::new(answers)?,
+    })
+}
+
+#[test]
+fn puts_out_the_answers_to_its_calls(rt: HostRuntime) -> Result<(), Fail> {
+    let kind = external(&rt)?;
+    for kind in [kind.copy()?, kind] {
+        let mut body = Body::new(rt.alloc(), &kind)?;
+        for (time, want) in [
+            (10, Some((Some(8), 4_194_304))),
+            (20, None),
+            (20, Some((None, 4_194_305))),
+            (35, Some((Some(-5), 4_194_306))),
+            (40, None),
+        ] {
+            let first = message(0, 1, time, Some(3));
+            let second = message(1, 1, time + 5, None);
+            let out = want.map(|(whole, origin)| Out {
+                time,
+                whole,
+                origin: Some(origin),
+            });
+            let outcome = body.step(&Tuple::Two(first, second));
+            assert_eq!(rt; outcome, Outcome::Emit(out), "at time {time}");
+        }
+    }
     Ok(())
 }

@@ -31,7 +31,7 @@ struct Run<'a> {
 
 // The trace of the serial run.
 fn traced(rt: &HostRuntime, run: &Run) -> Result<String, Fail> {
-    let wiring = wiring(rt, &["/a", "/o"], &[(run.kind, &[0])])?;
+    let wiring = wiring(rt, &["/a", "/o"], &[(run.kind.copy()?, &[0])])?;
     let list = list(rt, run.messages)?;
     let counts = counts(rt, wiring.names.count(), list.tokens.as_slice())?;
     let mut world = World::new(rt.alloc(), &wiring, &counts, stop_after(run.after))?;

@@ -38,7 +38,7 @@ fn plan(rt: &HostRuntime, inputs: u32, row: u8, kind: Kind, readers: &[u32]) -> 
 fn plans(rt: &HostRuntime, inputs: u32, rows: &[(Kind, &[u32])]) -> Result<Vec<Plan>, Fail> {
     let mut plans = Vec::new(rt.alloc());
     for (row, (kind, readers)) in rows.iter().enumerate() {
-        plans.push(plan(rt, inputs, row as u8, *kind, readers)?)?;
+        plans.push(plan(rt, inputs, row as u8, kind.copy()?, readers)?)?;
     }
     Ok(plans)
 }

@@ -1,5 +1,6 @@
 // DAG files and component files.
 use super::texts::{parsed, tree};
+use cy_comp::Kind;
 use cy_dag::{DagError, read_component_config, read_dag};
 use cy_fuse::Overflow;
 use std::test::Fail;
@@ -297,6 +298,25 @@ fn reads_and_refuses_timer_components(rt: HostRuntime) -> Result<(), Fail> {
     Ok(())
 }
 
+// A class with its parameters; of one whose answers come from a file, how many there are.
+fn class_text(rt: &HostRuntime, kind: &Kind) -> Result<String, Fail> {
+    Ok(match kind {
+        Kind::Pass => format!(in rt.alloc(); "Pass")?,
+        Kind::Filter { lo, hi } => format!(in rt.alloc(); "Filter {lo} {hi}")?,
+        Kind::Sum => format!(in rt.alloc(); "Sum")?,
+        Kind::Count => format!(in rt.alloc(); "Count")?,
+        Kind::Max => format!(in rt.alloc(); "Max")?,
+        Kind::Window { n } => format!(in rt.alloc(); "Window {n}")?,
+        Kind::Change => format!(in rt.alloc(); "Change")?,
+        Kind::Select => format!(in rt.alloc(); "Select")?,
+        Kind::Hold { delay } => format!(in rt.alloc(); "Hold {delay}")?,
+        Kind::Take { n } => format!(in rt.alloc(); "Take {n}")?,
+        Kind::External { answers } => {
+            format!(in rt.alloc(); "External {}", answers.as_slice().len())?
+        }
+    })
+}
+
 // What a component file says, or why it is refused, in one line.
 fn config(rt: &HostRuntime, class: &str, text: &str) -> Result<String, Fail> {
     let tree = tree(rt, text.as_bytes())?;
@@ -304,12 +324,16 @@ fn config(rt: &HostRuntime, class: &str, text: &str) -> Result<String, Fail> {
         Ok(config) => config,
         Err(error) => return refusal(rt, &error),
     };
+    let class = class_text(rt, &config.kind)?;
     let mut line = format!(in rt.alloc();
-        "{:?} {} {}",
-        config.kind,
+        "{class} {} {}",
         config.out.as_str(),
         config.options.out_type.as_str()
     )?;
+    if !config.options.answers.as_str().is_empty() {
+        line.push_str(" of ")?;
+        line.push_str(config.options.answers.as_str())?;
+    }
     if config.overflow == Overflow::Oldest {
         line.push_str(" OLDEST")?;
     }
@@ -328,7 +352,7 @@ fn reads_and_refuses_component_files(rt: HostRuntime) -> Result<(), Fail> {
         (
             "FilterComponent",
             "out: \"/o\" lo: -9223372036854775808 hi: 9223372036854775807",
-            "Filter { lo: -9223372036854775808, hi: 9223372036854775807 } /o ",
+            "Filter -9223372036854775808 9223372036854775807 /o ",
         ),
         ("FilterComponent", "out: \"/o\" lo: 1", "Missing 5 hi"),
         ("FilterComponent", "out: \"/o\" lo: \"x\"", "NotWhole 5 lo"),
@@ -407,31 +431,43 @@ fn reads_and_refuses_component_files(rt: HostRuntime) -> Result<(), Fail> {
         ),
         ("FilterComponent", "out: 3", "Shape out"),
         ("CountComponent", "out: \"/o\"", "Count /o "),
+        (
+            "ExternalComponent",
+            "out: \"/o\" answers: \"a.rec\" n: 1",
+            "External 0 /o  of a.rec n",
+        ),
+        ("ExternalComponent", "out: \"/o\" answers: \"\"", "External 0 /o "),
+        ("ExternalComponent", "out: \"/o\" answers: 3", "Shape answers"),
+        (
+            "PassComponent",
+            "out: \"/o\" answers: \"a.rec\"",
+            "Pass /o  answers",
+        ),
         ("MaxComponent", "out: \"/o\"", "Max /o "),
         (
             "WindowComponent",
             "out: \"/o\" n: 4096",
-            "Window { n: 4096 } /o ",
+            "Window 4096 /o ",
         ),
         ("WindowComponent", "out: \"/o\" n: 4097", "NotWhole 5 n"),
         ("WindowComponent", "out: \"/o\" n: 0", "NotWhole 5 n"),
         (
             "WindowComponent",
             "out: \"/o\" n: \"x\" n: 8",
-            "Window { n: 8 } /o ",
+            "Window 8 /o ",
         ),
         ("ChangeComponent", "out: \"/o\"", "Change /o "),
         ("SelectComponent", "out: \"/o\"", "Select /o "),
         (
             "HoldComponent",
             "out: \"/o\" delay: 18446744073709551615",
-            "Hold { delay: 18446744073709551615 } /o ",
+            "Hold 18446744073709551615 /o ",
         ),
         ("HoldComponent", "out: \"/o\" delay: -1", "NotWhole 5 delay"),
         (
             "TakeComponent",
             "out: \"/o\" n: 4294967295",
-            "Take { n: 4294967295 } /o ",
+            "Take 4294967295 /o ",
         ),
         ("TakeComponent", "out: \"/o\" n: 4294967296", "NotWhole 5 n"),
         ("FooComponent", "out: 3", "UnknownClass 5"),

@@ -7,5 +7,6 @@ pub returns-in_ok-make_content-in-None-clause-content :
 returns-in_ok-make_content-in-None-clause-content c =
     let token = c.args.token.now in
     let contents = played_contents (source_of c.args.played.now) in
-    c.in_ok-make_content-in-None.ensures.content contents
-    ∙ ap (λ (o : Option ℕ). content_by contents o token.whole) (sym c.in-None.is)
+    let plans = (source_of c.args.played.now).plans in
+    c.in_ok-make_content-in-None.ensures.content contents plans
+    ∙ ap (λ (o : Option ℕ). content_by contents plans o token.whole) (sym c.in-None.is)
