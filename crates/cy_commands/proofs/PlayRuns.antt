@@ -60,7 +60,7 @@ planned_as x w routes counts few =
 pub writable : (r : Request) (x : Replay) (w : Plain) → PlacesAreThere → PlaceLaws → IsSetUp r x → LawfulRun x.list.tokens (routes_of x.wiring.plans) x.stop w → length w.counts ≡ length x.wiring.names → IsWritable (source_by x) w.tape
 writable r x w places stand s lawful many = record {
   channels = λ n t at. let below = lawful.sound.consistent.room.channels n t at in omega (arith, below, many);
-  origins = lawful_origins stand x.list (routes_of x.wiring.plans) x.stop w lawful;
+  origins = lawful_origins stand x.list x.wiring.plans x.wiring.lawful.in_range x.stop w lawful;
   places = λ n place at. places x.recorded (choice_of r.filter (wired_by x.wiring)) s.listed.messages s.listed.chosen n place (ap (λ (ps : List ℕ). slice_get ps n) (sym s.listed.merged.places) ∙ at);
 }
 
