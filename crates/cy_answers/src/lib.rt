@@ -1,0 +1,11 @@
+//! The answers of a component, as a record has them: a message on the component's channel is what
+//! the call puts out that has its time as its number.
+//!
+//! `specs/Answers` says which answers a record has, and why it is refused.
+#![tactic(auto)]
+
+mod error;
+mod reading;
+
+pub use error::AnswersError;
+pub use reading::read_answers;
