@@ -2,7 +2,7 @@
 # What a status and the program's line mean, in plain sentences; front/refusals.txt has one for each refusal.
 
 CLASSES=(PassComponent FilterComponent SumComponent CountComponent MaxComponent WindowComponent ChangeComponent SelectComponent
-  HoldComponent TakeComponent)
+  HoldComponent TakeComponent ExternalComponent)
 
 # Prints a paragraph, with two spaces before each line and at most 100 columns.
 say() { # the sentences

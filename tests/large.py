@@ -2,6 +2,7 @@
 """Writes records that are large, though little is said of them. Each is one that is still being written, without an index.
 
     large.py FILE messages [CHANNEL COUNT TIME]..   COUNT messages of the value 1 on a channel at a time, for each three words
+    large.py FILE answers CHANNEL COUNT             COUNT messages without content on a channel, at the times 1, 2 and so on
     large.py FILE content SIZE                      one message on /a at time 1, whose content is SIZE zeros
     large.py FILE channel SIZE                      the channel /a, whose name, type and description have SIZE bytes together
     large.py FILE sections TYPE COUNT               COUNT sections of a type's number, without a byte of their own
@@ -36,6 +37,15 @@ def write_messages(file, rows):
         file.write(section(2, block(1, block(1, channel) + number(2, time) + block(3, number(1, 2))) * count))
 
 
+def write_answers(file, channel, count):
+    """Writes the channel, and chunks of a thousand messages whose times rise by one."""
+    file.write(section(4, block(1, channel)))
+    front = block(1, channel)
+    for first in range(1, count + 1, 1000):
+        times = range(first, min(first + 1000, count + 1))
+        file.write(section(2, b"".join(block(1, front + number(2, time)) for time in times)))
+
+
 def main():
     name, what, *words = sys.argv[1:]
     with open(name, "wb") as file:
@@ -43,6 +53,8 @@ def main():
         if what == "messages":
             numbers = zip(map(int, words[1::3]), map(int, words[2::3]))
             write_messages(file, [(os.fsencode(channel), *it) for channel, it in zip(words[::3], numbers)])
+        elif what == "answers":
+            write_answers(file, os.fsencode(words[0]), int(words[1]))
         elif what == "content":
             size = int(words[0])
             message = block(1, b"/a") + number(2, 1) + opening(3, size)

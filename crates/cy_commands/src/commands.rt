@@ -58,7 +58,7 @@ pub fn begin_command<'a, S: Store, R: Threads + Sync>(
         (S.shows store.new) result }
 {
     match command {
-        Command::Check(check) => Begun::Ended(run_check(alloc, check, store)),
+        Command::Check(check) => Begun::Ended(run_check(rt, alloc, check, store)),
         Command::Info(info) => Begun::Ended(run_info(rt, alloc, info, store)),
         Command::Play(play) => begin_play(rt, alloc, play, store),
         Command::Make(make) => Begun::Ended(run_make(rt, alloc, make, store)),

@@ -1,9 +1,7 @@
 -- The files of components, one after another.
-use Rattle.std.proofs.Common.{ℕ, ◌+◌, ◌≡◌, ◌≤◌, ◌<◌, List, [], ◌∷◌, ◌++◌, length, drop, Option, Some, None, IfSome, Result, Ok, Err, refl, sym, ap, subst, ◌∙◌, append_assoc, append-nil, Vec, Global, option_map, get_or}
-use Rattle.std.specs.List.{Contains}
+use Rattle.std.proofs.Common.{ℕ, ◌+◌, ◌≡◌, ◌≤◌, ◌<◌, List, [], ◌∷◌, ◌++◌, length, drop, Option, Some, None, IfSome, Result, Ok, Err, refl, sym, ap, subst, ◌∙◌, append_assoc, append-nil, Vec, Global, get_or}
 use Rattle.std.proofs.lemmas.List.{drop_all, drop_more}
-use Rattle.std.proofs.lemmas.Option.{slice_get-map, slice_get-get_or}
-use Rattle.cy_msg.proofs.OnceSteps.{Contains-from_slice_get}
+use Rattle.std.proofs.lemmas.Option.{slice_get-get_or}
 use Rattle.cy_store.specs.Files.{Files}
 use Rattle.cy_store.specs.Reads.{Reads, Accepts, Refuses, Absent, ◌>>=◌}
 use Rattle.cy_store.specs.Store.{StoreView}
@@ -12,7 +10,7 @@ use Rattle.cy_dag.specs.declared.dag.DagComponent.{DagComponent}
 use Rattle.cy_replay.specs.declared.error.Refusal.{Refusal}
 use Rattle.cy_replay.specs.declared.error.SetupError.{SetupError}
 use Rattle.cy_replay.specs.declared.error.SetupError.TheVariants.{Memory}
-use Rattle.cy_replay.specs.Configuration.{config_in, configs_from, configs_in, files_of}
+use Rattle.cy_replay.specs.Configuration.{config_in, configs_from, configs_in, IsAskedFor, IsAskedOf}
 use Rattle.cy_replay.specs.Comes.{ComesTo}
 use Rattle.cy_replay.proofs.Coming.{Stands, told_map, then, comes_err, comes_ok, comes_memory, comes_same}
 
@@ -78,30 +76,35 @@ pub config_read : (components : List DagComponent) (n : ℕ) (c : DagComponent) 
     → ComesTo (λ x. x) (config_in n c) P mid new (Ok config) → AreRead components (n + 1) (done ++ config ∷ []) old new
 config_read components n c done config P old mid new so_far within at came = one_more_read components n c done config P old mid new so_far (drop_at components n c within at) came
 
-asked_for : (components : List DagComponent) (n : ℕ) (c : DagComponent) (file : List ℕ) → n < length components → c ≡ get_or components n c → file ≡ c.config_file_path → Contains (files_of components) file
-asked_for components n c file within at is = Contains-from_slice_get (files_of components) n file (slice_get-map (λ d. d.config_file_path) components n ∙ ap (option_map (λ (d : DagComponent). d.config_file_path)) (slice_get-get_or components n c within ∙ ap Some (sym at)) ∙ ap Some (sym is))
+asked_for : (components : List DagComponent) (n : ℕ) (c : DagComponent) (files told : Option Files) (file : List ℕ) → n < length components → c ≡ get_or components n c → files ≡ told → IsAskedFor n c files file → IsAskedOf components told file
+asked_for components n c files told file within at same asked = record {
+  number = n;
+  component = c;
+  there = slice_get-get_or components n c within ∙ ap Some (sym at);
+  asked = subst (λ f. IsAskedFor n c f file) same asked;
+}
 
 -- it is in the way
 pub config_stops : (components : List DagComponent) (n : ℕ) (c : DagComponent) (done : List Config) (e : SetupError) (old mid new : StoreView) → AreRead components n done old mid → n < length components → c ≡ get_or components n c
-    → (let r : Result Config SetupError = Err e in ComesTo (λ x. x) (config_in n c) (λ file. file ≡ c.config_file_path) mid new r)
-    → (let r : Result (Vec Config Global) SetupError = Err e in ComesTo (λ v. v.items) (configs_in components) (Contains (files_of components)) old new r)
+    → (let r : Result Config SetupError = Err e in ComesTo (λ x. x) (config_in n c) (IsAskedFor n c mid.files) mid new r)
+    → (let r : Result (Vec Config Global) SetupError = Err e in ComesTo (λ v. v.items) (configs_in components) (IsAskedOf components old.files) old new r)
 config_stops components n c done e old mid new so_far within at came =
     let rest : Config → Files → Reads Refusal (List Config) = λ x m. configs_from (n + 1) (drop (n + 1) components) m >>= λ xs. Accepts (x ∷ xs) in
-    let first = comes_err (λ (v : Vec Config Global). v.items) (config_in n c) rest (λ file. file ≡ c.config_file_path) mid new e (λ file asked. asked) came in
-    let then_done = comes_err (λ (v : Vec Config Global). v.items) (then (config_in n c) rest) (λ xs m. Accepts (done ++ xs)) (Contains (files_of components)) mid new e (λ file asked. asked_for components n c file within at asked) first in
-    comes_same (λ (v : Vec Config Global). v.items) (configs_in components) (then (then (config_in n c) rest) (λ xs m. Accepts (done ++ xs))) (Contains (files_of components)) (Contains (files_of components)) old mid new _ so_far.stands
+    let first = comes_err (λ (v : Vec Config Global). v.items) (config_in n c) rest (IsAskedFor n c mid.files) mid new e (λ file asked. asked) came in
+    let then_done = comes_err (λ (v : Vec Config Global). v.items) (then (config_in n c) rest) (λ xs m. Accepts (done ++ xs)) (IsAskedOf components old.files) mid new e (λ file asked. asked_for components n c mid.files old.files file within at so_far.stands.same asked) first in
+    comes_same (λ (v : Vec Config Global). v.items) (configs_in components) (then (then (config_in n c) rest) (λ xs m. Accepts (done ++ xs))) (IsAskedOf components old.files) (IsAskedOf components old.files) old mid new _ so_far.stands
     (told_map old.files (λ m was. was ∙ ap (λ (cs : List DagComponent). behind done (configs_from n cs m)) (drop_at components n c within at)) so_far.read) (λ file asked. asked) then_done
 
 -- no room for what it says
 pub config_left : (components : List DagComponent) (n : ℕ) (c : DagComponent) (config : Config) (done : List Config) (P : List ℕ → Type 0) (old mid new : StoreView) → AreRead components n done old mid → ComesTo (λ x. x) (config_in n c) P mid new (Ok config)
-    → (let r : Result (Vec Config Global) SetupError = Err Memory in ComesTo (λ v. v.items) (configs_in components) (Contains (files_of components)) old new r)
-config_left components n c config done P old mid new so_far came = comes_memory (λ (v : Vec Config Global). v.items) (configs_in components) (Contains (files_of components)) old new record {
+    → (let r : Result (Vec Config Global) SetupError = Err Memory in ComesTo (λ v. v.items) (configs_in components) (IsAskedOf components old.files) old new r)
+config_left components n c config done P old mid new so_far came = comes_memory (λ (v : Vec Config Global). v.items) (configs_in components) (IsAskedOf components old.files) old new record {
   same = came.same ∙ so_far.stands.same;
   counts = record { faults = came.accepted.0.faults ∙ so_far.stands.counts.faults; misses = came.accepted.0.misses ∙ so_far.stands.counts.misses };
 }
 
 -- all were read
 pub configs_read : (components : List DagComponent) (n : ℕ) (done : Vec Config Global) (old new : StoreView) → length components ≤ n → AreRead components n done.items old new
-    → ComesTo (λ v. v.items) (configs_in components) (Contains (files_of components)) old new (Ok done)
-configs_read components n done old new end all = comes_ok (λ (v : Vec Config Global). v.items) (configs_in components) (Contains (files_of components)) old new done all.stands
+    → ComesTo (λ v. v.items) (configs_in components) (IsAskedOf components old.files) old new (Ok done)
+configs_read components n done old new end all = comes_ok (λ (v : Vec Config Global). v.items) (configs_in components) (IsAskedOf components old.files) old new done all.stands
     (told_map old.files (λ m was. was ∙ ap (λ (cs : List DagComponent). behind done.items (configs_from n cs m)) (drop_all n components end) ∙ ap Accepts (append-nil done.items)) all.read)

@@ -1,6 +1,5 @@
 -- The DAG, the component files and the scheduler, one after another.
-use Rattle.std.proofs.Common.{ℕ, ◌≡◌, List, Option, Some, IfSome, Result, Ok, Err, ap, inl, inr, Vec, Global}
-use Rattle.std.specs.List.{Contains}
+use Rattle.std.proofs.Common.{ℕ, ◌≡◌, List, Option, Some, IfSome, Result, Ok, Err, ap, subst, inl, inr, Vec, Global}
 use Rattle.cy_store.specs.Files.{Files}
 use Rattle.cy_store.specs.Reads.{Reads, Accepts, ◌>>=◌}
 use Rattle.cy_store.specs.Store.{StoreView}
@@ -10,7 +9,7 @@ use Rattle.cy_sched.specs.declared.sched.Sched.{Sched}
 use Rattle.cy_replay.specs.declared.configuration.Configuration.{Configuration}
 use Rattle.cy_replay.specs.declared.error.Refusal.{Refusal}
 use Rattle.cy_replay.specs.declared.error.SetupError.{SetupError}
-use Rattle.cy_replay.specs.Configuration.{DagSays, Configured, dag_in, configs_in, sched_in, files_of, configuration_in, IsAsked}
+use Rattle.cy_replay.specs.Configuration.{DagSays, Configured, dag_in, configs_in, sched_in, configuration_in, IsAsked, IsAskedOf}
 use Rattle.cy_replay.specs.Steps.{dag_says, configured, scheduled_in}
 use Rattle.cy_replay.specs.Comes.{ComesTo}
 use Rattle.cy_replay.proofs.Coming.{then, told_map, comes_err, comes_ok, comes_then}
@@ -36,20 +35,20 @@ pub dag_read : {r : Result Configuration SetupError} (dag : List ℕ) (sched : O
 dag_read {r} dag sched says P old mid new came more rest =
     comes_then configured (dag_in dag) (with_dag sched) P (IsAsked dag sched old.files) old mid new (dag_says says) r record { same = came.same; counts = came.accepted.0 } came.accepted.1 more rest
 
-named : (dag : List ℕ) (sched : Option (List ℕ)) (says : Dag) (files : Option Files) → IfSome files (λ m. dag_in dag m ≡ Accepts (dag_says says)) → (file : List ℕ) → Contains (files_of says.components) file → IsAsked dag sched files file
-named dag sched says files read file c = inr (inr record { says = dag_says says; read = read; named = c })
+named : (dag : List ℕ) (sched : Option (List ℕ)) (says : Dag) (files told : Option Files) → files ≡ told → IfSome told (λ m. dag_in dag m ≡ Accepts (dag_says says)) → (file : List ℕ) → IsAskedOf says.components files file → IsAsked dag sched told file
+named dag sched says files told same read file c = inr (inr record { says = dag_says says; read = read; named = subst (λ f. IsAskedOf says.components f file) same c })
 
 -- a component file is in the way
 pub configs_stop : (dag : List ℕ) (sched : Option (List ℕ)) (says : Dag) (old mid new : StoreView) (e : SetupError) → ComesTo dag_says (dag_in dag) (λ file. file ≡ dag) old mid (Ok says)
-    → (let r : Result (Vec Config Global) SetupError = Err e in ComesTo (λ v. v.items) (configs_in says.components) (Contains (files_of says.components)) mid new r)
+    → (let r : Result (Vec Config Global) SetupError = Err e in ComesTo (λ v. v.items) (configs_in says.components) (IsAskedOf says.components mid.files) mid new r)
     → (let r : Result Configuration SetupError = Err e in ComesTo configured (configuration_in dag sched) (IsAsked dag sched old.files) old new r)
 configs_stop dag sched says old mid new e came stops =
-    dag_read dag sched says (Contains (files_of says.components)) old mid new came (named dag sched says old.files came.accepted.1)
-    (comes_err configured (configs_in says.components) (with_configs sched (dag_says says)) (Contains (files_of says.components)) mid new e (λ file asked. asked) stops)
+    dag_read dag sched says (IsAskedOf says.components mid.files) old mid new came (named dag sched says mid.files old.files came.same came.accepted.1)
+    (comes_err configured (configs_in says.components) (with_configs sched (dag_says says)) (IsAskedOf says.components mid.files) mid new e (λ file asked. asked) stops)
 
 -- what follows the component files
 pub configs_read : {r : Result Configuration SetupError} (dag : List ℕ) (sched : Option (List ℕ)) (says : Dag) (configs : Vec Config Global) (old mid next new : StoreView) → ComesTo dag_says (dag_in dag) (λ file. file ≡ dag) old mid (Ok says)
-    → ComesTo (λ v. v.items) (configs_in says.components) (Contains (files_of says.components)) mid next (Ok configs)
+    → ComesTo (λ v. v.items) (configs_in says.components) (IsAskedOf says.components mid.files) mid next (Ok configs)
     → ComesTo configured (with_configs sched (dag_says says) configs.items) (λ file. sched ≡ Some file) next new r → ComesTo configured (configuration_in dag sched) (IsAsked dag sched old.files) old new r
 configs_read {r} dag sched says configs old mid next new came came_too rest =
     dag_read dag sched says (λ file. sched ≡ Some file) old mid new came (λ file asked. inr (inl asked))

@@ -1,3 +1,4 @@
+pub mod AnswersRead
 pub mod Coming
 pub mod Configs
 pub mod Counting

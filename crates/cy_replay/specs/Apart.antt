@@ -1,11 +1,13 @@
 -- A file that is written is to be another one than those that the same command reads or writes.
 use Rattle.std.specs.Prelude.{ℕ, ◌≡◌, ⊤, List, [], ◌∷◌, ◌++◌, find, Option, Some, None, IfSome}
 use Rattle.std.specs.Prelude.{Result, IsErrOf, codes}
-use Rattle.std.specs.List.{Contains}
+use Rattle.std.specs.List.{Contains, flat_map}
 use Rattle.std.specs.Str.{bytes_eq}
 use Rattle.cy_store.specs.Files.{Files}
 use Rattle.cy_store.specs.Reads.{Reads, Accepts, Refuses}
 use Rattle.cy_request.specs.Request.{Components, OfFiles, OfPass}
+use Rattle.cy_dag.specs.declared.config.Config.{Config}
+use Rattle.cy_replay.specs.AnswersFile.{answers_file}
 use Rattle.cy_replay.specs.Configuration.{Configured, files_of}
 use Rattle.cy_replay.specs.declared.error.Fault.TheVariants.{Also}
 use Rattle.cy_replay.specs.declared.error.Refusal.{Refusal}
@@ -50,8 +52,12 @@ abbrev pub maybe : Option (List ℕ) → List (List ℕ)
 maybe None = []
 maybe (Some name) = name ∷ []
 
+abbrev pub answers_read : List Config → List (List ℕ)
+answers_read configs = flat_map (λ config. maybe (answers_file config)) configs
+
 abbrev pub configs_read : Components → Configured → List (List ℕ)
-configs_read (OfFiles dag sched) c = dag ∷ (maybe sched ++ files_of c.dag.components)
+configs_read (OfFiles dag sched) c =
+    dag ∷ (maybe sched ++ files_of c.dag.components ++ answers_read c.configs)
 configs_read (OfPass from to) c = []
 
 abbrev pub files_read : Components → List ℕ → Configured → List (List ℕ)

@@ -1,9 +1,9 @@
 -- What the configuration files of a replay come to: a DAG file, the component files that it names,
--- in the order of the DAG, and a scheduler file. The first thing in the way stands.
+-- in the order of the DAG, each with its answers, and a scheduler file. The first thing in the way
+-- stands.
 use Rattle.std.specs.Prelude.{ℕ, ◌+◌, ◌≡◌, ◌⊎◌, nat_lt, List, [], ◌∷◌, length, Option, Some, None}
-use Rattle.std.specs.Prelude.{IfSome}
+use Rattle.std.specs.Prelude.{IfSome, slice_get}
 use Rattle.std.specs.Prelude.{Result, Ok, Err, if◌then◌else◌, map}
-use Rattle.std.specs.List.{Contains}
 use Rattle.cy_store.specs.Files.{Files}
 use Rattle.cy_store.specs.Reads.{Reads, Accepts, ◌>>=◌, file_in}
 use Rattle.cy_text.specs.Fields.{Fields}
@@ -22,6 +22,7 @@ use Rattle.cy_sched.specs.declared.sched.Sched.{Sched}
 use Rattle.cy_replay.specs.declared.error.Fault.{Fault}
 use Rattle.cy_replay.specs.declared.error.Fault.TheVariants as fault
 use Rattle.cy_replay.specs.declared.error.Refusal.{Refusal}
+use Rattle.cy_replay.specs.AnswersFile.{answered_in, answers_file}
 use Rattle.cy_replay.specs.Faults.{unless, in_file}
 
 -- The longest configuration file that is read, in bytes.
@@ -62,9 +63,14 @@ abbrev pub config_by : ℕ → Option Class → Fields → Result Config DagErro
 config_by component None file = Err (dag_error.UnknownClass component)
 config_by component (Some c) file = unless (class_refusal component c file) (config_of c file)
 
-abbrev pub config_in : ℕ → DagComponent → Files → Reads Refusal Config
-config_in component c files = text_in c.config_file_path files >>= λ file.
+abbrev pub said_in : ℕ → DagComponent → Files → Reads Refusal Config
+said_in component c files = text_in c.config_file_path files >>= λ file.
     in_file c.config_file_path fault.Dag (config_by component (class_named c.class_name) file)
+
+-- The same, and behind it the answers of the component, where its file names a record of them.
+abbrev pub config_in : ℕ → DagComponent → Files → Reads Refusal Config
+config_in component c files =
+    said_in component c files >>= λ config. answered_in component config files
 
 -- The files of components that are numbered from one on.
 abbrev pub configs_from : ℕ → List DagComponent → Files → Reads Refusal (List Config)
@@ -97,17 +103,36 @@ configuration_in dag_name sched_name files = do
   sched ← sched_in sched_name files
   Accepts record { dag = dag; configs = configs; sched = sched }
 
--- The files that components name.
+-- The component files.
 abbrev pub files_of : List DagComponent → List (List ℕ)
 files_of components = map (λ c. c.config_file_path) components
+
+-- The file of a component that was read names this one as the record of its answers.
+pub record NamesAnswers (number : ℕ) (c : DagComponent) (files : Option Files) (file : List ℕ)
+    : Type 0 where
+  pub says : Config
+  pub read : IfSome files (λ m. said_in number c m ≡ Accepts says)
+  pub named : answers_file says ≡ Some file
+
+-- The files that are asked for of the component of a number: its own, and that of its answers.
+abbrev pub IsAskedFor : ℕ → DagComponent → Option Files → List ℕ → Type 0
+IsAskedFor number c files file = (file ≡ c.config_file_path) ⊎ NamesAnswers number c files file
+
+-- And of all components.
+pub record IsAskedOf (components : List DagComponent) (files : Option Files) (file : List ℕ)
+    : Type 0 where
+  pub number : ℕ
+  pub component : DagComponent
+  pub there : slice_get components number ≡ Some component
+  pub asked : IsAskedFor number component files file
 
 -- A component of the DAG that was read names this file.
 pub record IsNamed (dag : List ℕ) (files : Option Files) (file : List ℕ) : Type 0 where
   pub says : DagSays
   pub read : IfSome files (λ m. dag_in dag m ≡ Accepts says)
-  pub named : Contains (files_of says.components) file
+  pub named : IsAskedOf says.components files file
 
 -- The files that are asked for: the DAG file, the scheduler file where one is given, and those that
--- the DAG names.
+-- the DAG and the component files name.
 abbrev pub IsAsked : (dag : List ℕ) (sched : Option (List ℕ)) → Option Files → List ℕ → Type 0
 IsAsked dag sched files file = (file ≡ dag) ⊎ ((sched ≡ Some file) ⊎ IsNamed dag files file)

@@ -5,6 +5,7 @@ use Rattle.cy_fault.specs.FaultText.{file_line, limit_text, named_text}
 use Rattle.cy_text.specs.FaultText.{text_text, is_text_limit}
 use Rattle.cy_dag.specs.FaultText.{dag_text, is_dag_limit}
 use Rattle.cy_sched.specs.FaultText.{sched_text, is_sched_limit}
+use Rattle.cy_answers.specs.FaultText.{answers_text, is_answers_limit}
 use Rattle.cy_reader.specs.FaultText.{load_text, is_load_limit}
 use Rattle.cy_replay.specs.declared.error.Fault.{Fault}
 use Rattle.cy_replay.specs.declared.error.Fault.TheVariants as fault
@@ -15,6 +16,7 @@ fault_text (fault.ConfigTooLarge count) = limit_text (codes "ConfigTooLarge") co
 fault_text (fault.Text e) = text_text e
 fault_text (fault.Dag e) = dag_text e
 fault_text (fault.Sched e) = sched_text e
+fault_text (fault.Answers e) = answers_text e
 fault_text (fault.StopUnknown name) = named_text (codes "StopUnknown") [] name
 fault_text (fault.Record e) = load_text e
 fault_text (fault.TooMany count) = limit_text (codes "TooMany") count
@@ -29,6 +31,7 @@ is_limit (fault.ConfigTooLarge count) = true
 is_limit (fault.Text e) = is_text_limit e
 is_limit (fault.Dag e) = is_dag_limit e
 is_limit (fault.Sched e) = is_sched_limit e
+is_limit (fault.Answers e) = is_answers_limit e
 is_limit (fault.StopUnknown name) = false
 is_limit (fault.Record e) = is_load_limit e
 is_limit (fault.TooMany count) = true

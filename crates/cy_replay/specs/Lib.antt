@@ -1,4 +1,5 @@
 pub mod private
+pub mod AnswersFile
 pub mod Apart
 pub mod Comes
 pub mod Configuration
@@ -6,6 +7,7 @@ pub mod FaultText
 pub mod Faults
 pub mod Listing
 pub mod Passing
+pub mod RecordFile
 pub mod Setup
 pub mod Steps
 pub mod Stops

@@ -1,9 +1,8 @@
 -- What a replay plays: messages of its record and the ticks of its timers, and how many there are
 -- on each channel.
 use Rattle.std.specs.Prelude.{ℕ, ◌≡◌, ◌+◌, ◌==◌, nat_lt, if◌then◌else◌, List, [], ◌∷◌, ◌++◌, length}
-use Rattle.std.specs.Prelude.{map, filter, sum_by, slice_index, Result, Ok, Err}
-use Rattle.cy_store.specs.Files.{Files}
-use Rattle.cy_store.specs.Reads.{Reads, Accepts, Refuses, ◌>>=◌, file_in}
+use Rattle.std.specs.Prelude.{map, filter, sum_by, slice_index}
+use Rattle.cy_store.specs.Reads.{Reads, Accepts, Refuses, ◌>>=◌}
 use Rattle.cy_msg.specs.declared.play_list.PlayList.{PlayList}
 use Rattle.cy_msg.specs.declared.token.Token.{Token}
 use Rattle.cy_msg.specs.Tokens.{on_channel}
@@ -13,10 +12,9 @@ use Rattle.cy_timer.specs.Ticks.{ticks_between}
 use Rattle.cy_timer.specs.Timers.{timers_of}
 use Rattle.cy_timer.specs.declared.timer.Timer.{Timer}
 use Rattle.cy_reader.specs.Info.{greatest, least}
-use Rattle.cy_reader.specs.declared.error.LoadError.{LoadError}
 use Rattle.cy_reader.specs.declared.error.LoadError.TheVariants.{TooManyPlayed}
 use Rattle.cy_request.specs.declared.filter.Filter.{Filter}
-use Rattle.cy_reader.specs.Record.{Contents, record_of}
+use Rattle.cy_reader.specs.Record.{Contents}
 use Rattle.cy_reader.specs.Play.{Choice, IsPlayList, most_played, chosen, number_at, places_below}
 use Rattle.cy_reader.specs.Play.{time_at}
 use Rattle.wake_core.specs.Run.{routes_of}
@@ -25,16 +23,10 @@ use Rattle.wake_core.specs.declared.entries.TheConstants.{MOST_PLANNED}
 use Rattle.cy_replay.specs.declared.error.Fault.{Fault}
 use Rattle.cy_replay.specs.declared.error.Fault.TheVariants as fault
 use Rattle.cy_replay.specs.declared.error.Refusal.{Refusal}
+pub use Rattle.cy_replay.specs.RecordFile.{contents_or, record_in}
 use Rattle.cy_replay.specs.Wiring.{Wired}
 
--- What the record of a name holds, and the names of its channels.
-abbrev pub contents_or : List ℕ → Result Contents LoadError → Result Contents Refusal
-contents_or file (Ok contents) = Ok contents
-contents_or file (Err e) = Err record { file = file; fault = fault.Record e }
-
-abbrev pub record_in : List ℕ → Files → Reads Refusal Contents
-record_in name files = file_in name (λ bytes. contents_or name (record_of name bytes)) files
-
+-- The names of a record's channels.
 abbrev pub channels_of : Contents → List (List ℕ)
 channels_of whole = map (λ known. known.channel.name) whole.channels
 

@@ -4,6 +4,8 @@ use Rattle.std.specs.Prelude.{IsErrOf}
 use Rattle.cy_store.specs.Files.{Files}
 use Rattle.cy_store.specs.Reads.{Reads, Accepts, ◌>>=◌}
 use Rattle.cy_text.specs.Fields.{Fields}
+use Rattle.cy_answers.specs.declared.error.AnswersError.{AnswersError}
+use Rattle.cy_answers.specs.declared.error.AnswersError.TheVariants as answers_error
 use Rattle.cy_dag.specs.declared.config.Config.{Config}
 use Rattle.cy_dag.specs.declared.dag.Dag.{Dag}
 use Rattle.cy_dag.specs.declared.error.DagError.{DagError}
@@ -55,6 +57,10 @@ dag_fault e = Some (fault.Dag e)
 abbrev pub sched_fault : SchedError → Option Fault
 sched_fault sched_error.Memory = None
 sched_fault e = Some (fault.Sched e)
+
+abbrev pub answers_fault : AnswersError → Option Fault
+answers_fault answers_error.Memory = None
+answers_fault e = Some (fault.Answers e)
 
 -- A fault of a record is answered, or want of memory: the store's failure at it, or its refusal.
 abbrev pub IsRecordFault : List ℕ → LoadError → SetupError → Type 0

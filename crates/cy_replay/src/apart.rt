@@ -4,13 +4,14 @@ ghost use Rattle.std.specs.List.{Contains};
 ghost use Rattle.std.specs.Option.{option_map};
 ghost use Rattle.std.specs.Str.{bytes_eq};
 ghost use Rattle.cy_request.specs.Request.{components_of};
-ghost use Rattle.cy_replay.specs.Apart.{IsApart, also, configs_read, files_read};
+ghost use Rattle.cy_replay.specs.Apart.{IsApart, also, answers_read, configs_read, files_read};
 ghost use Rattle.cy_replay.specs.Configuration.{files_of};
 ghost use Rattle.cy_replay.specs.Steps.{configured};
 
+use crate::answers::answers_file;
 use crate::error::refused;
 use crate::{Configuration, Fault, SetupError};
-use cy_dag::DagComponent;
+use cy_dag::{Config, DagComponent};
 use cy_msg::Text;
 use cy_request::Components;
 use cy_store::Store;
@@ -78,6 +79,19 @@ fn push_files<'a>(
     Ok(())
 }
 
+// Adds the names of the records that have the answers of components to others.
+fn push_answers<'a>(names: &mut Vec<&'a str>, configs: &'a [Config]) -> Result<(), AllocError>
+    ensures { OnOk result (map (λ n. n.now) names.new.items
+        ≡ map (λ n. n.now) names.old.items ++ answers_read configs.now) }
+{
+    for config in configs {
+        if let Some(name) = answers_file(config) {
+            names.push(name)?;
+        }
+    }
+    Ok(())
+}
+
 // Adds the names of configuration files to others.
 fn push_configs<'a>(
     names: &mut Vec<&'a str>,
@@ -94,7 +108,8 @@ fn push_configs<'a>(
             if let Some(sched) = sched {
                 names.push(sched)?;
             }
-            push_files(names, configuration.dag.components.as_slice())
+            push_files(names, configuration.dag.components.as_slice())?;
+            push_answers(names, configuration.configs.as_slice())
         }
     }
 }

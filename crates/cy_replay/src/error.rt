@@ -2,9 +2,11 @@
 ghost use Rattle.std.specs.Prelude.{◌≡◌, ◌⊎◌, ◌++◌, codes, IfOk, OnOk};
 ghost use Rattle.std.specs.Fmt.{decimal};
 ghost use Rattle.cy_replay.specs.FaultText.{fault_text, is_limit, refusal_line};
-ghost use Rattle.cy_replay.specs.Steps.{IsFault, IsRecordFault, dag_fault, sched_fault};
+ghost use Rattle.cy_replay.specs.Steps.{IsFault, IsRecordFault, answers_fault, dag_fault};
+ghost use Rattle.cy_replay.specs.Steps.{sched_fault};
 ghost use Rattle.cy_replay.specs.declared.error.SetupError.TheVariants as setup_error;
 
+use cy_answers::AnswersError;
 use cy_dag::DagError;
 use cy_fault::{push_file, push_limit, push_named, push_number};
 use cy_msg::{Bytes, NamesError, Text};
@@ -27,6 +29,8 @@ pub enum Fault {
     Dag(DagError),
     /// A scheduler file is refused.
     Sched(SchedError),
+    /// A record has no answers for the component whose file names it.
+    Answers(AnswersError),
     /// No component has the name that a stop gives.
     StopUnknown {
         /// This name.
@@ -90,6 +94,7 @@ impl Fault {
             Fault::Text(error) => error.push_to(to),
             Fault::Dag(error) => error.push_to(to),
             Fault::Sched(error) => error.push_to(to),
+            Fault::Answers(error) => error.push_to(to),
             Fault::StopUnknown { name } => push_named(to, "StopUnknown", &[], name),
             Fault::Record(error) => error.push_to(to),
             Fault::TooMany { count } => push_limit(to, "TooMany", *count),
@@ -110,6 +115,7 @@ impl Fault {
             Fault::Text(error) => error.is_limit(),
             Fault::Dag(error) => error.is_limit(),
             Fault::Sched(error) => error.is_limit(),
+            Fault::Answers(error) => error.is_limit(),
             Fault::StopUnknown { .. } => false,
             Fault::Record(error) => error.is_limit(),
             Fault::TooMany { .. } => true,
@@ -228,6 +234,16 @@ pub(crate) fn sched_fault(alloc: Global, file: &str, fault: SchedError) -> Setup
     match fault {
         SchedError::Memory => SetupError::Memory,
         fault => refused(alloc, file, Fault::Sched(fault)),
+    }
+}
+
+/// A fault of the answers of a component.
+pub(crate) fn answers_fault(alloc: Global, file: &str, fault: AnswersError) -> SetupError
+    ensures { IsFault file.now (answers_fault fault) result }
+{
+    match fault {
+        AnswersError::Memory => SetupError::Memory,
+        fault => refused(alloc, file, Fault::Answers(fault)),
     }
 }
 

@@ -1,13 +1,15 @@
 //! From the files of a replay to what is replayed.
 //!
 //! `specs/Setup` says what all files of a replay come to, and what it is set up with:
-//! `specs/Configuration` what the configuration files come to, `specs/Passing` what stands in their
-//! place where one component passes messages on, `specs/Wiring` what wiring components does,
+//! `specs/Configuration` what the configuration files come to, `specs/AnswersFile` what a component
+//! file comes to that names a record of answers, `specs/Passing` what stands in their place where
+//! one component passes messages on, `specs/Wiring` what wiring components does,
 //! `specs/Stops` what stop it has, `specs/Comes` what a call answers that reads files,
 //! `specs/FaultText` how a file that is refused is told. `specs/Apart` says that a file which is
 //! written is none of those that are read, `specs/TraceFile` which texts of traces are read.
 #![tactic(auto)]
 
+mod answers;
 mod apart;
 mod configuration;
 mod counts;

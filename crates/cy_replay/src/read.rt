@@ -1,13 +1,13 @@
 // Reads the configuration files of a replay.
-ghost use Rattle.std.specs.Prelude.{◌≡◌, ◌≤◌, Some, length, option_map, IfOk, IsOkUnless};
-ghost use Rattle.std.specs.List.{Contains};
+ghost use Rattle.std.specs.Prelude.{◌≡◌, ◌≤◌, ◌<◌, Some, length, option_map, IfOk, IsOkUnless};
 ghost use Rattle.cy_replay.specs.Comes.{ComesTo};
-ghost use Rattle.cy_replay.specs.Configuration.{dag_in, config_in, configs_in, sched_in, files_of};
-ghost use Rattle.cy_replay.specs.Configuration.{configuration_in, IsAsked};
+ghost use Rattle.cy_replay.specs.Configuration.{dag_in, config_in, configs_in, said_in, sched_in};
+ghost use Rattle.cy_replay.specs.Configuration.{configuration_in, IsAsked, IsAskedFor, IsAskedOf};
 ghost use Rattle.cy_dag.specs.Wiring.{AreConfigs, IsOfClass};
 ghost use Rattle.cy_sched.specs.SchedFile.{IsPlaceable, default_sched};
 ghost use Rattle.cy_replay.specs.Steps.{dag_says, configured, scheduled_in};
 
+use crate::answers::with_answers;
 use crate::error::{dag_fault, sched_fault};
 use crate::text::read_text;
 use crate::{Configuration, SetupError};
@@ -16,6 +16,7 @@ use cy_msg::Items;
 use cy_sched::{Sched, read_sched};
 use cy_store::Store;
 use std::alloc::Global;
+use std::thread::Threads;
 
 // Reads a DAG file.
 fn read_dag_file<S: Store>(alloc: Global, store: &mut S, name: &str) -> Result<Dag, SetupError>
@@ -29,14 +30,14 @@ fn read_dag_file<S: Store>(alloc: Global, store: &mut S, name: &str) -> Result<D
     }
 }
 
-// Reads the file of the component of a number.
-fn read_config<S: Store>(
+// Reads the file of the component of a number, without its answers.
+fn read_said<S: Store>(
     alloc: Global,
     store: &mut S,
     number: u32,
     component: &DagComponent,
 ) -> Result<Config, SetupError>
-    ensures comes { ComesTo (λ config. config) (config_in number component.now)
+    ensures comes { ComesTo (λ config. config) (said_in number component.now)
         (λ file. file ≡ component.now.config_file_path) (S.shows store.old) (S.shows store.new)
         result }
     ensures of_class { IfOk result (IsOfClass component.now.class_name) }
@@ -49,20 +50,40 @@ fn read_config<S: Store>(
     }
 }
 
+// Reads the file of the component of a number, and behind it its answers.
+fn read_config<S: Store, R: Threads + Sync>(
+    rt: &R,
+    alloc: Global,
+    store: &mut S,
+    number: u32,
+    component: &DagComponent,
+) -> Result<Config, SetupError>
+    requires { number < 64 }
+    ensures comes { ComesTo (λ config. config) (config_in number component.now)
+        (IsAskedFor number component.now (S.shows store.old).files) (S.shows store.old)
+        (S.shows store.new) result }
+    ensures of_class { IfOk result (IsOfClass component.now.class_name) }
+{
+    let config = read_said(alloc, store, number, component)?;
+    with_answers(rt, alloc, store, number, config)
+}
+
 // Reads the files of components, in their order.
-fn read_configs<S: Store>(
+fn read_configs<S: Store, R: Threads + Sync>(
+    rt: &R,
     alloc: Global,
     store: &mut S,
     components: &[DagComponent],
 ) -> Result<Vec<Config>, SetupError>
     requires { length components.now ≤ 64 }
     ensures comes { ComesTo (λ configs. configs.items) (configs_in components.now)
-        (Contains (files_of components.now)) (S.shows store.old) (S.shows store.new) result }
+        (IsAskedOf components.now (S.shows store.old).files) (S.shows store.old)
+        (S.shows store.new) result }
     ensures fit { IfOk result (λ configs. AreConfigs components.now configs.items) }
 {
     let mut configs = Vec::new(alloc);
     for (number, component) in components.iter().enumerate() {
-        configs.push(read_config(alloc, store, number as u32, component)?)?;
+        configs.push(read_config(rt, alloc, store, number as u32, component)?)?;
     }
     Ok(configs)
 }
@@ -139,8 +160,10 @@ fn with_scheduler<S: Store>(
 }
 
 /// Reads the configuration files of a replay: a DAG file, the component files that it names, in the
-/// order of the DAG, and a scheduler file, if one is given. The first thing in the way is answered.
-pub fn read_configuration<S: Store>(
+/// order of the DAG, each followed by the record of its answers, if it names one, and a scheduler
+/// file, if one is given. The first thing in the way is answered.
+pub fn read_configuration<S: Store, R: Threads + Sync>(
+    rt: &R,
     alloc: Global,
     store: &mut S,
     dag: &str,
@@ -153,7 +176,7 @@ pub fn read_configuration<S: Store>(
     ensures placeable { IfOk result (λ c. IsPlaceable c.sched) }
 {
     let dag = read_dag_file(alloc, store, dag)?;
-    match read_configs(alloc, store, dag.components.as_slice()) {
+    match read_configs(rt, alloc, store, dag.components.as_slice()) {
         Ok(configs) => with_scheduler(alloc, store, dag, Items::new(configs), sched),
         Err(error) => {
             drop(dag);

@@ -175,7 +175,7 @@ fn set_up_files<S: Store, R: Threads + Sync>(
         (S.shows store.old) (S.shows store.new) result }
     ensures set_up { IfOk result (IsSetUp (request_of request.now)) }
 {
-    let configuration = read_configuration(alloc, store, dag, sched)?;
+    let configuration = read_configuration(rt, alloc, store, dag, sched)?;
     match read_record(rt, alloc, store, request.input) {
         Ok(recorded) => judge(alloc, dag, request, configuration, recorded),
         Err(error) => {

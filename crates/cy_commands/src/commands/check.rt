@@ -22,9 +22,11 @@ use cy_sched::Sched;
 use cy_store::Store;
 use cy_words::Check;
 use std::alloc::Global;
+use std::thread::Threads;
 
 // Reads the files, and wires their components over no channels of a record.
-fn read_files<S: Store>(
+fn read_files<S: Store, R: Threads + Sync>(
+    rt: &R,
     alloc: Global,
     store: &mut S,
     check: &Check,
@@ -34,7 +36,7 @@ fn read_files<S: Store>(
         (S.shows store.old) (S.shows store.new) result }
     ensures placeable { IfOk result (λ c. IsPlaceable c.sched) }
 {
-    let configuration = read_configuration(alloc, store, check.dag, check.sched)?;
+    let configuration = read_configuration(rt, alloc, store, check.dag, check.sched)?;
     match wire_components(alloc, check.dag, &configuration, &[]) {
         Ok(wiring) => {
             drop(wiring);
@@ -85,11 +87,16 @@ fn text_of(alloc: Global, check: &Check, configuration: &Configuration) -> Resul
 
 /// What is due for `check` of a DAG file and a scheduler file: the text of what they say, or why
 /// they are not accepted. Nothing is written to the store.
-pub fn run_check<'a, S: Store>(alloc: Global, check: &Check<'a>, store: &mut S) -> Due<'a>
+pub fn run_check<'a, S: Store, R: Threads + Sync>(
+    rt: &R,
+    alloc: Global,
+    check: &Check<'a>,
+    store: &mut S,
+) -> Due<'a>
     ensures { IsDueFor (command.Check (check_words_of check.now)) (S.shows store.old)
         (S.shows store.new) result.status (bytes_of_line result.line) }
 {
-    let configuration = match read_files(alloc, store, check) {
+    let configuration = match read_files(rt, alloc, store, check) {
         Ok(configuration) => configuration,
         Err(error) => return due_unset(alloc, error),
     };
