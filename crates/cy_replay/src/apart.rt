@@ -5,6 +5,7 @@ ghost use Rattle.std.specs.Option.{option_map};
 ghost use Rattle.std.specs.Str.{bytes_eq};
 ghost use Rattle.cy_request.specs.Request.{components_of};
 ghost use Rattle.cy_replay.specs.Apart.{IsApart, also, answers_read, configs_read, files_read};
+ghost use Rattle.cy_replay.specs.Apart.{maybe};
 ghost use Rattle.cy_replay.specs.Configuration.{files_of};
 ghost use Rattle.cy_replay.specs.Steps.{configured};
 
@@ -79,15 +80,24 @@ fn push_files<'a>(
     Ok(())
 }
 
+// Adds a name to others, if there is one.
+fn push_name<'a>(names: &mut Vec<&'a str>, name: Option<&'a str>) -> Result<(), AllocError>
+    ensures { OnOk result (map (λ n. n.now) names.new.items
+        ≡ map (λ n. n.now) names.old.items ++ maybe (option_map (λ n. n.now) name.entry)) }
+{
+    if let Some(name) = name {
+        names.push(name)?;
+    }
+    Ok(())
+}
+
 // Adds the names of the records that have the answers of components to others.
 fn push_answers<'a>(names: &mut Vec<&'a str>, configs: &'a [Config]) -> Result<(), AllocError>
     ensures { OnOk result (map (λ n. n.now) names.new.items
         ≡ map (λ n. n.now) names.old.items ++ answers_read configs.now) }
 {
     for config in configs {
-        if let Some(name) = answers_file(config) {
-            names.push(name)?;
-        }
+        push_name(names, answers_file(config))?;
     }
     Ok(())
 }
