@@ -2,3 +2,4 @@ pub mod private
 pub mod Messages
 pub mod Texts
 pub mod Inputs
+pub mod Drafts

@@ -3,10 +3,12 @@
 //!
 //! `specs/Texts` says what the configuration files say, `specs/Messages` which messages the record
 //! has, and `specs/Inputs` in which order all of them are written, and what stands afterwards.
+//! `specs/Drafts` tells the store in which they are made before they are played.
 #![tactic(auto)]
 
 mod config;
 mod dag;
+mod drafts;
 mod error;
 mod inputs;
 mod laws;
@@ -16,6 +18,7 @@ mod value;
 
 pub use config::Config;
 pub use dag::name_with;
+pub use drafts::Drafts;
 pub use error::MakeError;
 pub use inputs::write_inputs;
 pub use laws::{

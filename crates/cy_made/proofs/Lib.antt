@@ -1,0 +1,11 @@
+pub mod AllAccepted
+pub mod ConfigsMade
+pub mod DagMade
+pub mod Found
+pub mod MessagesMade
+pub mod Reading
+pub mod RecordShort
+pub mod SameDag
+pub mod SameFields
+pub mod TextBytes
+pub mod WiringMade
