@@ -17,7 +17,8 @@ use Rattle.cy_dag.specs.declared.error.DagError.{DagError}
 use Rattle.cy_sched.specs.SchedFile.{default_sched}
 use Rattle.cy_replay.specs.declared.error.Fault.TheVariants as fault
 use Rattle.cy_replay.specs.declared.error.Refusal.{Refusal}
-use Rattle.cy_replay.specs.Configuration.{Configured, DagSays, config_by, config_in, configs_from, configs_in, configuration_in, dag_in, dag_of, fields_of, longest_config, refused_in, sched_in, text_in}
+use Rattle.cy_replay.specs.AnswersFile.{answered_by, answered_in, answers_file}
+use Rattle.cy_replay.specs.Configuration.{Configured, DagSays, config_by, config_in, configs_from, configs_in, configuration_in, dag_in, dag_of, fields_of, longest_config, refused_in, said_in, sched_in, text_in}
 use Rattle.cy_replay.specs.Faults.{in_file, unless}
 use Rattle.cy_make.specs.declared.config.Config.{Config}
 use Rattle.cy_make.specs.declared.config.Config.TheVariants.{Adder, Band, Last8, Late, Dag}
@@ -90,11 +91,18 @@ module _ (n : ℕ) (prefix : List ℕ) (files : Files) (small : length prefix �
 
   -- The component files.
 
-  config_there : (number : ℕ) (c : DagComponent) (which : Config) (config : dag.Config) → c.config_file_path ≡ prefix ++ suffix_of which → IsTaken number c.class_name (text_of prefix which) config
-      → config_in number c all ≡ Accepts config
-  config_there number c which config named taken =
+  said_there : (number : ℕ) (c : DagComponent) (which : Config) (config : dag.Config) → c.config_file_path ≡ prefix ++ suffix_of which → IsTaken number c.class_name (text_of prefix which) config
+      → said_in number c all ≡ Accepts config
+  said_there number c which config named taken =
       follow (text_in c.config_file_path all) taken.0 (λ (file : Fields). in_file c.config_file_path fault.Dag (config_by number (class_named c.class_name) file)) (text_there c.config_file_path (text_of prefix which) taken.0 all (ap (get all) named ∙ config_found n prefix files which) (short prefix which small) taken.1)
       ∙ ap (in_file c.config_file_path fault.Dag) taken.2
+
+  -- no record of answers is named
+  config_there : (number : ℕ) (c : DagComponent) (which : Config) (config : dag.Config) → c.config_file_path ≡ prefix ++ suffix_of which → answers_file config ≡ None → IsTaken number c.class_name (text_of prefix which) config
+      → config_in number c all ≡ Accepts config
+  config_there number c which config named unasked taken =
+      follow (said_in number c all) config (λ (x : dag.Config). answered_in number x all) (said_there number c which config named taken)
+      ∙ ap (λ (o : Option (List ℕ)). answered_by o number config all) unasked
 
   more_there : (number : ℕ) (c : DagComponent) (rest : List DagComponent) (config : dag.Config) (others : List dag.Config) → config_in number c all ≡ Accepts config → configs_from (number + 1) rest all ≡ Accepts others
       → configs_from number (c ∷ rest) all ≡ Accepts (config ∷ others)
@@ -116,10 +124,10 @@ module _ (n : ℕ) (prefix : List ℕ) (files : Files) (small : length prefix �
 
   pub configs_there : configs_in (made prefix) all ≡ Accepts configs
   configs_there =
-      more_there 0 one (two ∷ three ∷ four ∷ []) sums (filters ∷ averages ∷ holds_back ∷ []) (config_there 0 one Adder sums refl (adder_taken prefix))
-      (more_there 1 two (three ∷ four ∷ []) filters (averages ∷ holds_back ∷ []) (config_there 1 two Band filters refl (band_taken prefix))
-      (more_there 2 three (four ∷ []) averages (holds_back ∷ []) (config_there 2 three Last8 averages refl (last8_taken prefix))
-      (more_there 3 four [] holds_back [] (config_there 3 four Late holds_back refl (late_taken prefix)) refl)))
+      more_there 0 one (two ∷ three ∷ four ∷ []) sums (filters ∷ averages ∷ holds_back ∷ []) (config_there 0 one Adder sums refl refl (adder_taken prefix))
+      (more_there 1 two (three ∷ four ∷ []) filters (averages ∷ holds_back ∷ []) (config_there 1 two Band filters refl refl (band_taken prefix))
+      (more_there 2 three (four ∷ []) averages (holds_back ∷ []) (config_there 2 three Last8 averages refl refl (last8_taken prefix))
+      (more_there 3 four [] holds_back [] (config_there 3 four Late holds_back refl refl (late_taken prefix)) refl)))
 
   abbrev pub configured : Configured
   configured = record { dag = says; configs = configs; sched = default_sched }
