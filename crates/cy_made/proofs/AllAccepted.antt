@@ -1,15 +1,12 @@
 -- All files that are made are accepted.
-use Rattle.std.proofs.Common.{◌≡◌, ◌≤◌, ◌<◌, ◌+◌, ◌++◌, ◌==◌, ℕ, zero, suc, List, [], ◌∷◌, Bool, true, false, if◌then◌else◌, Ok, None, Some, Option, Result, length, map, filter, codes, refl, sym, ap, ◌∙◌, zip, arith, length-append}
+use Rattle.std.proofs.Common.{◌≡◌, ◌≤◌, ◌<◌, ◌+◌, ◌++◌, ◌==◌, ℕ, zero, suc, List, [], ◌∷◌, Bool, true, false, if◌then◌else◌, None, Option, Result, length, map, filter, codes, refl, ap, ◌∙◌, zip, arith, length-append}
 use Rattle.std.specs.Prelude.{nat_lt}
-use Rattle.std.specs.FinMap.{get}
 use Rattle.std.specs.Str.{IsUtf8}
 use Rattle.std.proofs.lemmas.Bool.{le-ltb}
 use Rattle.std.proofs.lemmas.List.{length-map}
 use Rattle.cy_store.specs.Files.{Files}
-use Rattle.cy_store.specs.Reads.{Reads, Accepts, Refuses, ◌>>=◌, file_by, judged}
+use Rattle.cy_store.specs.Reads.{Accepts, Refuses, ◌>>=◌, file_by, judged}
 use Rattle.cy_section.specs.Chunks.{messages_in}
-use Rattle.cy_section.specs.declared.types.BodyMessage.{BodyMessage}
-use Rattle.cy_section.specs.declared.types.Channel.{Channel}
 use Rattle.cy_dag.specs.Wiring.{plans_of}
 use Rattle.cy_dag.specs.declared.error.DagError.{DagError}
 use Rattle.cy_request.specs.declared.filter.Filter.{Filter}
@@ -25,7 +22,6 @@ use Rattle.wake_core.specs.Run.{routes_of}
 use Rattle.wake_core.specs.declared.entries.TheConstants.{MOST_PLANNED}
 use Rattle.cy_replay.specs.declared.error.Fault.{Fault}
 use Rattle.cy_replay.specs.declared.error.Fault.TheVariants as fault
-use Rattle.cy_replay.specs.declared.error.Refusal.{Refusal}
 use Rattle.cy_replay.specs.Configuration.{Configured, configuration_in}
 use Rattle.cy_replay.specs.Faults.{in_file, unless}
 use Rattle.cy_replay.specs.Listing.{all_count, channels_of as channel_names, choice_of, contents_or, counts_of, few_in, limited, planned_in, played_in, played_on, record_in, ticks_on, times_of}
@@ -33,8 +29,8 @@ use Rattle.cy_replay.specs.Setup.{judged_in, replay_in}
 use Rattle.cy_replay.specs.Stops.{stop_in}
 use Rattle.cy_replay.specs.Wiring.{Wired, wired_of, wiring_in}
 use Rattle.cy_make.specs.declared.config.Config.TheVariants.{Adder, Band, Last8, Late, Dag}
-use Rattle.cy_make.specs.Inputs.{made_record, record_name, with_inputs}
-use Rattle.cy_make.specs.Messages.{channels_of, messages_to, untyped}
+use Rattle.cy_make.specs.Inputs.{record_name, with_inputs}
+use Rattle.cy_make.specs.Messages.{channels_of, untyped}
 use Rattle.cy_make.specs.Texts.{longest_prefix, suffix_of}
 use Rattle.cy_made.specs.Accepted.{MadeFilesAreAccepted, over_made}
 use Rattle.cy_made.proofs.Found.{record_found}

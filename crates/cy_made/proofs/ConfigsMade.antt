@@ -1,5 +1,5 @@
 -- The component files that are made are accepted, and what they say.
-use Rattle.std.proofs.Common.{◌≡◌, ◌<◌, ℕ, ℤ, pos, List, [], ◌∷◌, Ok, Some, codes, refl}
+use Rattle.std.proofs.Common.{◌≡◌, ℕ, pos, List, [], Ok, codes, refl}
 use Rattle.std.specs.Prelude.{negsuc}
 use Rattle.cy_text.specs.Fields.{Fields}
 use Rattle.cy_text.specs.Form.{read_text, read, after_token, at_field, after_name, after_colon, at_value, placed, after_value, after_string, after_sign, finish, ends_value, all_closed}

@@ -1,12 +1,12 @@
 -- The DAG file that is made is accepted: it has the four components.
-use Rattle.std.proofs.Common.{◌≡◌, ◌++◌, ◌==◌, ℕ, zero, suc, List, [], ◌∷◌, Bool, true, false, if◌then◌else◌, Option, Some, None, unwrap_or, is_some, length, map, option_map, codes, refl, sym, ap, ◌∙◌, subst, arith}
+use Rattle.std.proofs.Common.{◌≡◌, ◌++◌, ◌==◌, ℕ, List, [], ◌∷◌, Bool, true, false, if◌then◌else◌, Option, Some, None, unwrap_or, is_some, length, map, option_map, codes, refl, ap, ◌∙◌, arith}
 use Rattle.std.specs.Option.{option_or}
 use Rattle.std.specs.Str.{IsUtf8, is_utf8, chars}
 use Rattle.std.proofs.lemmas.Bool.{ne_eqb}
 use Rattle.std.proofs.lemmas.Str.{is_utf8-from_IsUtf8, IsUtf8-append, IsUtf8-from_is_utf8}
 use Rattle.cy_text.specs.Fields.{Fields, Nothing}
 use Rattle.cy_config.specs.Checks.{first_misfit, index_text}
-use Rattle.cy_dag.specs.DagFile.{component_of, component_refusal, components_of, components_refusal, dag_refusal, described_refusal}
+use Rattle.cy_dag.specs.DagFile.{component_of, component_refusal, components_of, components_refusal, dag_refusal}
 use Rattle.cy_dag.specs.Format.{dag_field}
 use Rattle.cy_dag.specs.declared.dag.DagComponent.{DagComponent}
 use Rattle.cy_dag.specs.declared.error.DagError.{DagError}
@@ -14,7 +14,7 @@ use Rattle.cy_dag.specs.declared.error.DagError.TheVariants.{Missing, Shape}
 use Rattle.cy_dag.specs.declared.format.DagMessage.TheVariants.{File, Settings}
 use Rattle.cy_make.specs.declared.config.Config.{Config}
 use Rattle.cy_make.specs.declared.config.Config.TheVariants.{Adder, Band, Last8, Late, Dag}
-use Rattle.cy_make.specs.Texts.{and_said, component, components, config_said, dag_fields, holds, says, suffix_of}
+use Rattle.cy_make.specs.Texts.{and_said, component, config_said, dag_fields, holds, says, suffix_of}
 
 -- A component as the file says it, whatever the name of its file.
 abbrev pub said : (name class file : List ℕ) (channels : List (List ℕ)) → DagComponent

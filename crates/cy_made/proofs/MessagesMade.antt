@@ -1,8 +1,8 @@
 -- The record that is made is read.
-use Rattle.std.proofs.Common.{◌≡◌, ◌≤◌, ◌<◌, ◌+◌, ◌*◌, ◌%◌, ◌^◌, ◌==◌, ℕ, zero, suc, List, [], ◌∷◌, Bool, true, false, if◌then◌else◌, Ok, length, codes, refl, sym, ap, ◌∙◌, subst, arith, lit≤, sum_by, map}
+use Rattle.std.proofs.Common.{◌≡◌, ◌≤◌, ◌<◌, ◌+◌, ◌%◌, ◌==◌, ℕ, zero, suc, List, [], ◌∷◌, Bool, true, false, if◌then◌else◌, Ok, length, codes, refl, ap, arith, lit≤, sum_by, map}
 use Rattle.std.specs.Prelude.{nat_lt}
 use Rattle.std.specs.List.{AllByRecursion}
-use Rattle.std.specs.Str.{IsUtf8, is_utf8, chars}
+use Rattle.std.specs.Str.{is_utf8, chars}
 use Rattle.std.proofs.lemmas.Str.{IsUtf8-from_is_utf8}
 use Rattle.cy_wire.specs.Wire.{whole_content, zigzag}
 use Rattle.cy_section.specs.declared.types.BodyMessage.{BodyMessage}
@@ -12,8 +12,8 @@ use Rattle.cy_piece.proofs.Lengths.{length-field_u64}
 use Rattle.cy_read_back.specs.Records.{AreReadable, IsReadableChannel, IsReadableMessage, text_contents}
 use Rattle.cy_read_back.proofs.TextRead.{is_text, text_read}
 use Rattle.cy_reader.specs.Record.{record_of, size_of, with_section}
-use Rattle.cy_make.specs.Messages.{channel_on, channels_of, message_of, messages_after, messages_to, time_of, untyped, value_of}
-use Rattle.cy_make.specs.Inputs.{made_chunks, made_record, record_name}
+use Rattle.cy_make.specs.Messages.{channels_of, messages_after, messages_to, untyped, value_of}
+use Rattle.cy_make.specs.Inputs.{made_record, record_name}
 use Rattle.cy_make.proofs.RecordText.{record_text}
 use Rattle.cy_made.proofs.RecordShort.{IsLight, IsPlain, record_short}
 

@@ -1,11 +1,10 @@
 -- The files that are made are read, one after another, and accepted.
-use Rattle.std.proofs.Common.{◌≡◌, ◌≤◌, ◌<◌, ◌+◌, ◌++◌, ℕ, List, [], ◌∷◌, Bool, Ok, Some, None, Option, length, refl, sym, ap, ◌∙◌, zip}
-use Rattle.std.specs.Prelude.{nat_lt, if◌then◌else◌, codes}
+use Rattle.std.proofs.Common.{◌≡◌, ◌≤◌, ◌+◌, ◌++◌, ℕ, List, [], ◌∷◌, Ok, Some, None, Option, length, refl, sym, ap, ◌∙◌}
 use Rattle.std.specs.FinMap.{get}
 use Rattle.std.specs.Str.{IsUtf8}
 use Rattle.std.proofs.lemmas.Bool.{le-ltb}
 use Rattle.cy_store.specs.Files.{Files}
-use Rattle.cy_store.specs.Reads.{Reads, Accepts, Refuses, Absent, ◌>>=◌, file_by}
+use Rattle.cy_store.specs.Reads.{Reads, Accepts, ◌>>=◌, file_by}
 use Rattle.cy_text.specs.Fields.{Fields}
 use Rattle.cy_text.specs.Places.{fields_of_text}
 use Rattle.cy_text.specs.Printable.{SameButSpans, without_spans}
@@ -13,13 +12,12 @@ use Rattle.cy_dag.specs.Classes.{class_named}
 use Rattle.cy_dag.specs.DagFile.{components_of, dag_refusal, unknown_in_dag}
 use Rattle.cy_dag.specs.declared.config.Config as dag
 use Rattle.cy_dag.specs.declared.dag.DagComponent.{DagComponent}
-use Rattle.cy_dag.specs.declared.error.DagError.{DagError}
 use Rattle.cy_sched.specs.SchedFile.{default_sched}
 use Rattle.cy_replay.specs.declared.error.Fault.TheVariants as fault
 use Rattle.cy_replay.specs.declared.error.Refusal.{Refusal}
 use Rattle.cy_replay.specs.AnswersFile.{answered_by, answered_in, answers_file}
 use Rattle.cy_replay.specs.Configuration.{Configured, DagSays, config_by, config_in, configs_from, configs_in, configuration_in, dag_in, dag_of, fields_of, longest_config, refused_in, said_in, sched_in, text_in}
-use Rattle.cy_replay.specs.Faults.{in_file, unless}
+use Rattle.cy_replay.specs.Faults.{in_file}
 use Rattle.cy_make.specs.declared.config.Config.{Config}
 use Rattle.cy_make.specs.declared.config.Config.TheVariants.{Adder, Band, Last8, Late, Dag}
 use Rattle.cy_make.specs.Inputs.{with_inputs}

@@ -1,8 +1,7 @@
 -- A record of few light messages on short channels without types is within the limit of files.
-use Rattle.std.proofs.Common.{◌≡◌, ℕ, ◌+◌, ◌*◌, ◌≤◌, List, [], ◌∷◌, ◌++◌, Bool, true, false, ◌&&◌, length, map, refl, sym, ap, subst, arith, length-append, lit≤, le_trans}
+use Rattle.std.proofs.Common.{◌≡◌, ℕ, ◌+◌, ◌*◌, ◌≤◌, List, [], ◌∷◌, ◌++◌, Bool, true, false, ◌&&◌, length, map, refl, sym, ap, subst, arith, length-append, lit≤}
 use Rattle.std.specs.Prelude.{IsTrue}
-use Rattle.std.specs.List.{AllByRecursion, flat_map}
-use Rattle.std.proofs.lemmas.List.{length-map}
+use Rattle.std.specs.List.{AllByRecursion}
 use Rattle.std.proofs.lemmas.List.Concat.{flat_map-append}
 use Rattle.cy_wire.specs.Wire.{field_u64, field_bytes}
 use Rattle.cy_wire.proofs.Varints.{length-varint_bytes}
@@ -14,8 +13,8 @@ use Rattle.cy_section.specs.declared.types.ChunkHeaderCache.{ChunkHeaderCache}
 use Rattle.cy_section.specs.declared.types.ChunkBodyCache.{ChunkBodyCache}
 use Rattle.cy_section.specs.declared.types.SectionKind.TheVariants as kind
 use Rattle.cy_section.specs.Rows.{numbered, chunk_header_rows, chunk_header_cache_rows, chunk_body_cache_rows}
-use Rattle.cy_section.specs.Section.{section, channel_body, chunk_header_body, chunk_body, chunk_header_cache_body, chunk_body_cache_body, channel_cache_body, entry_field, index_body, message_field, optional_field, header_section}
-use Rattle.cy_section.specs.Chunks.{AreChunksOf, messages_in, are_chunks, all_taken, is_full, is_nonempty}
+use Rattle.cy_section.specs.Section.{channel_body, chunk_header_body, chunk_body, chunk_header_cache_body, chunk_body_cache_body, channel_cache_body, entry_field, index_body, message_field, header_section}
+use Rattle.cy_section.specs.Chunks.{messages_in, are_chunks, all_taken, is_full, is_nonempty}
 use Rattle.cy_section.specs.RecordText.{Part, bytes_of, parts_of, entries_from, channel_part, chunk_header_part, chunk_body_part, chunk_header_of, complete_header, header_end, index_section, record_bytes, IsRecordText, least_time, greatest_time, raw_size, count_on}
 use Rattle.cy_read_back.proofs.TextFits.{cache_short, join_all, length-any_field, split_all}
 use Rattle.cy_read_back.proofs.TextMet.{chunk_parts}

@@ -37,16 +37,27 @@ reader_same fields = rw (text_same (codes "channel") fields, whole_same (codes "
 
 component_same : (fields : Fields) → component_of (without_spans fields) ≡ component_of fields
 component_same fields =
-    rw (settings_same fields, text_same (codes "class_name") fields, text_same (codes "name") (settings_of fields), text_same (codes "config_file_path") (settings_of fields),
-    messages_same (codes "readers") (settings_of fields), mapped_same reader_of (messages_under (codes "readers") (settings_of fields)) reader_same) refl
+    rw (
+      settings_same fields,
+      text_same (codes "class_name") fields,
+      text_same (codes "name") (settings_of fields),
+      text_same (codes "config_file_path") (settings_of fields),
+      messages_same (codes "readers") (settings_of fields),
+      mapped_same reader_of (messages_under (codes "readers") (settings_of fields)) reader_same,
+    ) refl
 
 interval_same : (fields : Fields) → interval_of (without_spans fields) ≡ interval_of fields
 interval_same fields = rw (settings_same fields, whole_same (codes "interval") (settings_of fields)) refl
 
 timer_same : (fields : Fields) → timer_of (without_spans fields) ≡ timer_of fields
 timer_same fields =
-    rw (settings_same fields, text_same (codes "class_name") fields, text_same (codes "name") (settings_of fields), text_same (codes "config_file_path") (settings_of fields),
-    whole_same (codes "interval") (settings_of fields)) refl
+    rw (
+      settings_same fields,
+      text_same (codes "class_name") fields,
+      text_same (codes "name") (settings_of fields),
+      text_same (codes "config_file_path") (settings_of fields),
+      whole_same (codes "interval") (settings_of fields),
+    ) refl
 
 -- the messages of all modules
 flat_same : (name : List ℕ) (modules : List Fields) → flat_map (messages_under name) (map without_spans modules) ≡ map without_spans (flat_map (messages_under name) modules)
@@ -59,8 +70,12 @@ modules_same name file = rw (messages_same (codes "module_config") file) (flat_s
 
 pub components_same : (file : Fields) → components_of (without_spans file) ≡ components_of file
 components_same file =
-    rw (modules_same (codes "components") file, modules_same (codes "timer_components") file,
-    mapped_same component_of (in_modules (codes "components") file) component_same, mapped_same timer_of (in_modules (codes "timer_components") file) timer_same) refl
+    rw (
+      modules_same (codes "components") file,
+      modules_same (codes "timer_components") file,
+      mapped_same component_of (in_modules (codes "components") file) component_same,
+      mapped_same timer_of (in_modules (codes "timer_components") file) timer_same,
+    ) refl
 
 -- Refusals.
 

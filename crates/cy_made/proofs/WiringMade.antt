@@ -1,15 +1,12 @@
 -- The components that are made are wired over the channels of the record that is made, and few
 -- entries are planned.
-use Rattle.std.proofs.Common.{◌≡◌, ◌≤◌, ◌+◌, ◌*◌, ℕ, List, [], ◌∷◌, Bool, true, false, if◌then◌else◌, None, codes, refl, sym, ap, ◌∙◌, arith, zip, pos, length, map}
-use Rattle.std.specs.Prelude.{negsuc, nat_lt}
-use Rattle.cy_comp.specs.declared.kind.Kind.TheVariants as kind
+use Rattle.std.proofs.Common.{◌≡◌, ◌≤◌, ℕ, List, [], ◌∷◌, Bool, true, false, if◌then◌else◌, None, codes, refl, arith, zip}
 use Rattle.cy_comp.specs.declared.plan.Plan.{Plan}
 use Rattle.cy_dag.specs.Triggers.{writers_refusal, ticks_refusal, cycle_refusal, way_back}
 use Rattle.cy_dag.specs.Wiring.{names_of, plans_of, wire_refusal}
 use Rattle.cy_dag.specs.declared.config.Config as dag
 use Rattle.wake_core.specs.Planned.{planned, planned_count}
 use Rattle.wake_core.specs.Run.{routes_of}
-use Rattle.cy_make.specs.Messages.{channels_of}
 use Rattle.cy_made.proofs.ConfigsMade.{averages, filters, holds_back, sums}
 use Rattle.cy_made.proofs.DagMade.{four}
 
