@@ -246,7 +246,7 @@ fn writes_the_contents_of_answers(rt: HostRuntime) -> Result<(), Fail> {
         list: &list,
     };
     let mut tape = vec![in rt.alloc(); in_message()]?;
-    for (place, origin) in [8_388_610, 8_388_608, 8_388_609].into_iter().enumerate() {
+    for (place, origin) in [8_388_610u32, 8_388_608, 8_388_609].into_iter().enumerate() {
         tape.push(Token {
             seq: place as u32 + 1,
             origin: Some(origin),
