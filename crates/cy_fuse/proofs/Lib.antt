@@ -1,5 +1,6 @@
+mod Fieldless
 pub mod Fetched
-pub mod Placed
 pub mod Fusing
+pub mod Mapped
+pub mod Joined
 pub mod Arrivals
-pub mod Visited

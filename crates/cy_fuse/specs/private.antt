@@ -1,3 +1,5 @@
 pub mod Arriving
 pub mod Caching
+pub mod Joining
+pub mod Holding
 pub mod Visiting

@@ -6,7 +6,7 @@ use std::marker::Model;
 
 /// A message and the number of the reader that it came to, in 32 bytes; a `Token` alone takes 40.
 /// Contracts see it as an `Arrival`.
-#[derive(Drop)]
+#[derive(Clone, Copy)]
 pub struct Arrived {
     time: u64,
     whole: i64,
@@ -23,7 +23,9 @@ impl Model for Arrived {
 
     ghost Value = { Arrival };
 
-    ghost use Rattle.cy_fuse.specs.private.Arriving.{given};
+    ghost use Rattle.std.specs.Prelude.{pos};
+    ghost use Rattle.cy_fuse.specs.private.Arriving.{given, told, is_told, IsBlank};
+    ghost use Rattle.cy_fuse.specs.private.Arriving.{told_back, is_told_back};
 
     ghost view = { λ a. (
       a.role,
@@ -35,6 +37,30 @@ impl Model for Arrived {
         origin = given a.has_origin a.origin;
       },
     ) };
+
+    ghost invariant = { λ a. IsBlank a.has_whole a.whole a.has_origin a.origin };
+
+    ghost inverse = { λ v. record {
+      time = v.1.time;
+      whole = told (pos 0) v.1.whole;
+      channel = v.1.channel;
+      seq = v.1.seq;
+      origin = told 0 v.1.origin;
+      has_whole = is_told v.1.whole;
+      has_origin = is_told v.1.origin;
+      role = v.0;
+    } };
+
+    ghost inverse_ok = { λ a blank. λ i. record {
+      time = a.time;
+      whole = told_back a.has_whole a.whole (pos 0) blank.no_whole i;
+      channel = a.channel;
+      seq = a.seq;
+      origin = told_back a.has_origin a.origin 0 blank.no_origin i;
+      has_whole = is_told_back a.has_whole a.whole i;
+      has_origin = is_told_back a.has_origin a.origin i;
+      role = a.role;
+    } };
 }
 
 impl Arrived {

@@ -9,11 +9,13 @@
 
 mod arrived;
 mod cache;
+mod came;
 mod cursor;
 mod error;
 mod fetch;
 mod laws;
 mod overflow;
+mod tuples;
 mod visitor;
 
 pub use arrived::Arrived;

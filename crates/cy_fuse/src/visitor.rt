@@ -1,32 +1,32 @@
 // What arrives at a component, and the tuples that it makes.
 ghost use Rattle.std.specs.Prelude.{◌≡◌, ◌≤◌, ◌<◌, ◌-◌, ◌↔◌, ◌++◌, ◌∷◌, [], IfOk};
-ghost use Rattle.std.specs.Prelude.{IsNone, IsSome, is_some, Some, vec_len, vec_capacity};
+ghost use Rattle.std.specs.Prelude.{IsNone, is_some, Some, vec_capacity, length, map};
 ghost use Rattle.std.specs.Prelude.{option_map};
 ghost use Rattle.cy_msg.specs.declared.token.Tuple.TheVariants.{One};
+ghost use Rattle.cy_fuse.specs.Fusion.{Arrival};
 ghost use Rattle.cy_fuse.specs.Visitor.{prepared, arrived, visited, position_at, index_after};
-ghost use Rattle.cy_fuse.specs.private.Visiting.{message_at, tuple_at, JoinsLast};
 
-use crate::{Arrived, CacheBuffer, Cursor, FuseError, Overflow, fetch_at};
+use crate::came::Came;
+use crate::tuples::{MOST_ROLES, TupleBuffer};
+use crate::{Arrived, Cursor, FuseError, Overflow, fetch_at};
 use cy_msg::{Token, Tuple};
 use std::alloc::Global;
 use std::marker::Model;
 
-// The most readers that a component has.
-const MOST_ROLES: usize = 4;
-
 /// The arrivals at a component, and the last tuples that they make. Contracts see it as a
 /// `VisitorView`: how many tuples it keeps, how many readers it has, where a fetch goes on whose
-/// tuple isn't kept any more, for how many more arrivals it has room, and all that arrived.
+/// tuple isn't kept any more, for how many more arrivals it has room, and all that arrived. Of most
+/// arrivals it keeps the number of the reader alone.
 #[derive(Drop)]
 pub struct Visitor {
-    roles: u8,
     overflow: Overflow,
     spare: u32,
-    arrivals: Vec<Arrived>,
-    // The place of each reader's last arrival.
-    last: [Option<u32>; MOST_ROLES],
-    // The last tuples, each by the places of the arrivals that it joins.
-    tuples: CacheBuffer<[u32; MOST_ROLES]>,
+    // The reader of each arrival.
+    readers: Vec<u8>,
+    came: Came,
+    // The last message of each reader but the first.
+    last: [Option<Token>; MOST_ROLES],
+    tuples: TupleBuffer,
 }
 
 impl Model for Visitor {
@@ -38,15 +38,15 @@ impl Model for Visitor {
     ghost use Rattle.cy_fuse.specs.private.Visiting.{IsVisitor};
 
     ghost view = { λ v. record {
-      queue = v.tuples.size;
-      roles = v.roles;
+      queue = v.tuples.cache.size;
+      roles = v.tuples.roles;
       overflow = v.overflow;
       spare = v.spare;
-      arrivals = v.arrivals.items;
+      arrivals = v.came.list;
     } };
 
-    ghost invariant = { λ v.
-        IsVisitor v.roles v.spare (vec_capacity v.arrivals) v.arrivals.items v.last v.tuples };
+    ghost invariant = { λ v. IsVisitor v.tuples.roles v.spare (vec_capacity v.readers)
+        v.readers.items v.came.list v.last v.tuples.cache };
 }
 
 impl Visitor {
@@ -65,12 +65,12 @@ impl Visitor {
         ensures { IfOk result (λ v. v ≡ prepared queue roles overflow spare) }
     {
         Ok(Visitor {
-            roles,
             overflow,
             spare,
-            arrivals: Vec::with_capacity(alloc, spare as usize)?,
+            readers: Vec::with_capacity(alloc, spare as usize)?,
+            came: Came::nothing(),
             last: [None; MOST_ROLES],
-            tuples: CacheBuffer::with_size(alloc, queue)?,
+            tuples: TupleBuffer::with_size(alloc, roles, queue)?,
         })
     }
 
@@ -81,11 +81,18 @@ impl Visitor {
         self.spare
     }
 
-    /// All arrivals, in order: the reader that each message came to, and the message.
-    pub fn arrivals(&self) -> &[Arrived]
-        ensures { result.now ≡ self.now.arrivals }
+    /// How many messages arrived.
+    pub fn arrival_count(&self) -> usize
+        ensures { result ≡ length self.now.arrivals }
     {
-        self.arrivals.as_slice()
+        self.readers.len()
+    }
+
+    /// The number of the reader that each message came to, in order.
+    pub fn arrival_roles(&self) -> &[u8]
+        ensures { result.now ≡ map (λ (a : Arrival). a.0) self.now.arrivals }
+    {
+        self.readers.as_slice()
     }
 
     /// A message comes to a reader. One of the first reader is joined with the last message of each
@@ -95,15 +102,13 @@ impl Visitor {
         requires room { 1 ≤ self.old.spare }
         ensures { self.new ≡ arrived self.old role token }
     {
-        let place = self.arrivals.len() as u32;
-        self.arrivals.push_reserved(Arrived::new(role, token));
-        self.last[role as usize] = Some(place);
+        self.readers.push_reserved(role);
+        self.came = self.came.then(&Arrived::new(role, token));
         self.spare -= 1;
-        if role != 0 {
-            return;
-        }
-        if let Some(places) = joined(self.roles, place, &self.last) {
-            self.tuples.fill(places);
+        if role == 0 {
+            self.tuples.join(token, &self.last);
+        } else {
+            self.last[role as usize] = Some(token);
         }
     }
 
@@ -115,8 +120,7 @@ impl Visitor {
         ensures next { cursor.new ≡ index_after cursor.old result }
         ensures none { IsNone result ↔ IsNone (position_at cursor.old self.now) }
     {
-        let (places, position) = cursor.fetch(&self.tuples, self.overflow)?;
-        let tuple = tuple_of(self.roles, self.arrivals.as_slice(), places);
+        let (tuple, position) = self.tuples.fetch(cursor, self.overflow)?;
         Some((tuple, position, self.tuples.tail()))
     }
 
@@ -129,8 +133,7 @@ impl Visitor {
             ≡ visited cursor.old self.now }
         ensures next { cursor.new ≡ index_after cursor.old (visited cursor.old self.now) }
     {
-        let (places, position) = cursor.fetch(&self.tuples, self.overflow)?;
-        let only = message(self.arrivals.as_slice(), places[0]);
+        let (only, position) = self.tuples.fetch_one(cursor, self.overflow)?;
         Some((only, position, self.tuples.tail()))
     }
 
@@ -138,7 +141,7 @@ impl Visitor {
     pub fn roles(&self) -> u8
         ensures { result ≡ self.now.roles }
     {
-        self.roles
+        self.tuples.roles()
     }
 
     /// Whether a fetch finds anything, without the fetch.
@@ -147,52 +150,5 @@ impl Visitor {
     {
         let (tail, queue) = (self.tuples.tail(), self.tuples.size());
         fetch_at(cursor.next(), tail, queue, self.overflow).is_some()
-    }
-}
-
-// The places of the tuple that an arrival of the first reader makes: it is joined with the last
-// arrival of each other reader, where each has one.
-fn joined(roles: u8, place: u32, last: &[Option<u32>; MOST_ROLES]) -> Option<[u32; MOST_ROLES]>
-    requires { (1 ≤ roles) × (roles ≤ 4) }
-    ensures { JoinsLast roles place last.now result }
-{
-    Some(match roles {
-        1 => [place, 0, 0, 0],
-        2 => [place, last[1]?, 0, 0],
-        3 => [place, last[1]?, last[2]?, 0],
-        _ => [place, last[1]?, last[2]?, last[3]?],
-    })
-}
-
-// The message of the arrival at a place.
-fn message(arrivals: &[Arrived], place: u32) -> Token
-    requires { IsSome (message_at arrivals.now place) }
-    ensures { message_at arrivals.now place ≡ Some result }
-{
-    arrivals[place as usize].message()
-}
-
-// The tuple of the messages at these places.
-#[inline(always)]
-fn tuple_of(roles: u8, arrivals: &[Arrived], places: [u32; MOST_ROLES]) -> Tuple
-    requires roles { (1 ≤ roles) × (roles ≤ 4) }
-    requires there { IsSome (tuple_at roles arrivals.now places) }
-    ensures { tuple_at roles arrivals.now places ≡ Some result }
-{
-    let first = message(arrivals, places[0]);
-    match roles {
-        1 => Tuple::One(first),
-        2 => Tuple::Two(first, message(arrivals, places[1])),
-        3 => Tuple::Three(
-            first,
-            message(arrivals, places[1]),
-            message(arrivals, places[2]),
-        ),
-        _ => Tuple::Four(
-            first,
-            message(arrivals, places[1]),
-            message(arrivals, places[2]),
-            message(arrivals, places[3]),
-        ),
     }
 }

@@ -1,5 +1,5 @@
 -- A trace in parts.
-use Rattle.std.proofs.Common.{ℕ, zero, suc, subst, get_or, ◌+◌, ◌^◌, ◌≡◌, ◌≤◌, ◌<◌, ◌∙◌, Bool, true, false, List, [], ◌∷◌, ◌++◌, length, take, drop, flat_map, Some, refl, sym, ap, arith, append_assoc, append-nil, is_some, if◌then◌else◌}
+use Rattle.std.proofs.Common.{ℕ, zero, suc, subst, get_or, ◌+◌, ◌^◌, ◌≡◌, ◌≤◌, ◌<◌, ◌∙◌, Bool, true, false, List, [], ◌∷◌, ◌++◌, length, map, take, drop, flat_map, Some, refl, sym, ap, arith, append_assoc, append-nil, is_some, if◌then◌else◌}
 use Rattle.std.specs.Prelude.{slice_get, filter, All}
 use Rattle.std.specs.List.{AllZip}
 use Rattle.std.proofs.Math.Seq.{drop-nil, take-add}
@@ -7,6 +7,7 @@ use Rattle.std.proofs.lemmas.Option.{slice_get_within, get_or_from_slice_get}
 use Rattle.std.proofs.lemmas.List.{length-take-le, take_more, flat_map_more}
 use Rattle.std.proofs.lemmas.List.Concat.{flat_map-append}
 use Rattle.std.proofs.lemmas.List.Elements.{All-nil, All-push}
+use Rattle.cy_fuse.specs.Fusion.{Arrival}
 use Rattle.cy_comp.specs.declared.plan.Plan.{Plan}
 use Rattle.cy_comp.specs.declared.call.Call.{Call}
 use Rattle.cy_comp.specs.Calls.{cursor_after}
@@ -126,7 +127,7 @@ module _ {names : List (List ℕ)} {plans : List Plan} {shadowed : ℕ} {w : Run
       let a = adds-as old opened _ _ (ap (λ o. opening_of (version_of plans) o (w.arrivals c)) at) (adds-one old opened (Opening c) first known) in
       let b = adds-trans old opened called _ _ a (middle known its) in
       let whole = adds-trans old called next _ _ b (adds-one called next (Ending c) last known) in
-      adds-as old next _ _ (ap (λ (l : List Call). opening_text (version_of plans) p (w.arrivals c) ++ call_lines 0 l ++ end_line (w.ended c) (cursor_after (w.calls c))) (sym its)) whole
+      adds-as old next _ _ (ap (λ (l : List Call). opening_text (version_of plans) p (map (λ (a : Arrival). a.0) (w.arrivals c)) ++ call_lines 0 l ++ end_line (w.ended c) (cursor_after (w.calls c))) (sym its)) whole
 
 -- The title and what was played come first.
 pub head_first : (names : List (List ℕ)) (plans : List Plan) (w : Run) (none first : List Part) → none ≡ [] → first ≡ none ++ Head ∷ []

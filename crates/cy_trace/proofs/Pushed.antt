@@ -1,24 +1,10 @@
 -- Parts of a trace that are pushed one behind another.
-use Rattle.std.proofs.Common.{ℕ, ◌+◌, ◌<◌, ◌≤◌, ◌≡◌, ◌∙◌, ap, sym, List, [], ◌∷◌, ◌++◌, length, map, take, drop, get_or, arith, append_assoc, append-nil}
-use Rattle.std.proofs.lemmas.List.{take_more, drop_more, drop_all, map-append, length-map}
-use Rattle.cy_fuse.specs.Fusion.{Arrival}
+use Rattle.std.proofs.Common.{ℕ, ◌+◌, ◌<◌, ◌≤◌, ◌≡◌, ◌∙◌, ap, sym, List, [], ◌∷◌, ◌++◌, length, drop, get_or, arith, append_assoc, append-nil}
+use Rattle.std.proofs.lemmas.List.{drop_more, drop_all, length-map}
 use Rattle.cy_comp.specs.declared.plan.Plan.{Plan}
 use Rattle.wake_core.specs.Run.{Run, route_of, routes_of}
 use Rattle.wake_core.specs.declared.route.Route.{Route}
 use Rattle.cy_trace.specs.TraceText.{component_text, components_text}
-
-abbrev digit : Arrival → ℕ
-digit a = 48 + a.0
-
--- one role more
-pub role_added : (arrivals : List Arrival) (n : ℕ) (d : Arrival) (to old new : List ℕ) → n < length arrivals → to ≡ old ++ map (λ (a : Arrival). 48 + a.0) (take n arrivals) → new ≡ to ++ (48 + (get_or arrivals n d).0) ∷ []
-    → new ≡ old ++ map (λ (a : Arrival). 48 + a.0) (take (n + 1) arrivals)
-role_added arrivals n d to old new inside so is =
-    let here = digit (get_or arrivals n d) ∷ [] in
-    is ∙ ap (λ (l : List ℕ). l ++ here) so
-    ∙ append_assoc old (map digit (take n arrivals)) here
-    ∙ ap (λ (l : List ℕ). old ++ l) (sym (map-append digit (take n arrivals) (get_or arrivals n d ∷ [])))
-    ∙ ap (λ (l : List Arrival). old ++ map digit l) (sym (take_more arrivals n d inside))
 
 -- one component more
 pub component_added : (version : ℕ) (w : Run) (plans : List Plan) (n : ℕ) (p : Plan) (to new whole : List ℕ) → n < length plans → p ≡ get_or plans n p → to ++ components_text version w n (drop n plans) ≡ whole → new ≡ to ++ component_text version p (w.arrivals n) (w.calls n) (w.ended n)

@@ -18,13 +18,9 @@ use Rattle.cy_trace.specs.TraceForm.{line_text, whole_line, lines_of_component, 
 use Rattle.cy_trace.specs.TraceOfRun.{output_of_call, trace_call, trace_calls, trace_component, trace_components, tape_entry, trace_of_run}
 use Rattle.cy_trace.specs.declared.line.Line.TheVariants as line
 
-roles_same : (arrivals : List Arrival) → roles_text arrivals ≡ digits_text (map (λ (a : Arrival). a.0) arrivals)
+roles_same : (roles : List ℕ) → roles_text roles ≡ digits_text roles
 roles_same [] = refl
-roles_same (a ∷ rest) = ap (λ (ds : List ℕ). (48 + a.0) ∷ ds) (digits_same rest)
-  where
-    digits_same : (xs : List Arrival) → map (λ (b : Arrival). 48 + b.0) xs ≡ map (λ n. 48 + n) (map (λ (b : Arrival). b.0) xs)
-    digits_same [] = refl
-    digits_same (x ∷ xs) = ap (λ (ds : List ℕ). (48 + x.0) ∷ ds) (digits_same xs)
+roles_same (r ∷ rest) = refl
 
 numbers_same : (ms : List Token) → flat_map (λ (m : Token). codes " " ++ decimal m.seq) ms ≡ numbers_text (map (λ (m : Token). m.seq) ms)
 numbers_same [] = refl
@@ -56,8 +52,8 @@ unfolding line_text
 component_same version p arrivals calls ended =
     let end = end_line ended (cursor_after calls) in
     let name = (codes "component " ++ quoted true p.name ++ told_text (told version p.overflow)) ++ 10 ∷ [] in
-    joined_component (codes "component ") (quoted true p.name) (told_text (told version p.overflow)) (codes "\n") (codes "roles ") (roles_text arrivals) (call_lines 0 calls) end
-    ∙ ap (λ (rs : List ℕ). name ++ ((codes "roles " ++ rs ++ 10 ∷ []) ++ (call_lines 0 calls ++ end))) (roles_same arrivals)
+    joined_component (codes "component ") (quoted true p.name) (told_text (told version p.overflow)) (codes "\n") (codes "roles ") (roles_text (map (λ (a : Arrival). a.0) arrivals)) (call_lines 0 calls) end
+    ∙ ap (λ (rs : List ℕ). name ++ ((codes "roles " ++ rs ++ 10 ∷ []) ++ (call_lines 0 calls ++ end))) (roles_same (map (λ (a : Arrival). a.0) arrivals))
     ∙ ap (λ (xs : List ℕ). name ++ ((codes "roles " ++ digits_text (map (λ (a : Arrival). a.0) arrivals) ++ 10 ∷ []) ++ xs)) (
     ap (λ (xs : List ℕ). xs ++ end) (calls_same 0 calls)
     ∙ ap (λ (xs : List ℕ). flat_map whole_line (map line.Call (trace_calls 0 calls)) ++ xs) (sym (append-nil end))

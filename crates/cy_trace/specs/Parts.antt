@@ -1,6 +1,6 @@
 -- A trace in parts.
-use Rattle.std.specs.Prelude.{ℕ, ◌+◌, ◌^◌, ◌≡◌, ◌≤◌, ◌<◌, ⊤, true, List, [], ◌++◌, length, take, drop}
-use Rattle.std.specs.Prelude.{All, slice_get, Option, None, Some, codes}
+use Rattle.std.specs.Prelude.{ℕ, ◌+◌, ◌^◌, ◌≡◌, ◌≤◌, ◌<◌, ⊤, true, List, [], ◌++◌, length, map, take}
+use Rattle.std.specs.Prelude.{drop, All, slice_get, Option, None, Some, codes}
 use Rattle.std.specs.List.{flat_map}
 use Rattle.cy_msg.specs.Quoted.{quoted}
 use Rattle.cy_fuse.specs.Fusion.{Arrival}
@@ -13,15 +13,16 @@ use Rattle.cy_trace.specs.TraceText.{version_of, title, played_line, told, told_
 use Rattle.cy_trace.specs.TraceText.{call_lines, end_line, tape_line, trace_text}
 
 -- What a trace has of a component before its calls.
-abbrev pub opening_text : (version : ℕ) → Plan → List Arrival → List ℕ
-opening_text version p arrivals =
+abbrev pub opening_text : (version : ℕ) → Plan → (roles : List ℕ) → List ℕ
+opening_text version p roles =
     codes "component " ++ quoted true p.name ++ told_text (told version p.overflow) ++ codes "\n"
-    ++ codes "roles " ++ roles_text arrivals ++ codes "\n"
+    ++ codes "roles " ++ roles_text roles ++ codes "\n"
 
 -- The same of a component that may not be there.
 abbrev pub opening_of : (version : ℕ) → Option Plan → List Arrival → List ℕ
 opening_of version None arrivals = []
-opening_of version (Some p) arrivals = opening_text version p arrivals
+opening_of version (Some p) arrivals =
+    opening_text version p (map (λ (a : Arrival). a.0) arrivals)
 
 -- The text of a part of a run's trace.
 abbrev pub part_text : List (List ℕ) → List Plan → ℕ → Run → Part → List ℕ

@@ -48,9 +48,9 @@ told_text None = []
 told_text (Some overflow) = codes " overflow " ++ overflow_word overflow
 
 -- A digit for each arrival, its role; a dash where there is none.
-abbrev pub roles_text : List Arrival → List ℕ
+abbrev pub roles_text : (roles : List ℕ) → List ℕ
 roles_text [] = codes "-"
-roles_text (a ∷ rest) = map (λ (b : Arrival). 48 + b.0) (a ∷ rest)
+roles_text (r ∷ rest) = map (λ n. 48 + n) (r ∷ rest)
 
 -- A value, where there is one.
 abbrev pub value_text : Option ℤ → List ℕ
@@ -84,12 +84,19 @@ abbrev pub end_line : (ended : Bool) → (next : ℕ) → List ℕ
 end_line ended next = codes "end " ++ (if ended then codes "FINISHED" else codes "DATA_WAIT")
     ++ codes " next " ++ decimal next ++ codes "\n"
 
+-- A component at which messages came to these readers.
+abbrev pub component_with : (version : ℕ) → Plan → (roles : List ℕ) → List Call → (ended : Bool)
+    → List ℕ
+component_with version p roles calls ended =
+    codes "component " ++ quoted true p.name ++ told_text (told version p.overflow) ++ codes "\n"
+    ++ codes "roles " ++ roles_text roles ++ codes "\n"
+    ++ call_lines 0 calls ++ end_line ended (cursor_after calls)
+
+-- A component, by all that arrived.
 abbrev pub component_text : (version : ℕ) → Plan → List Arrival → List Call → (ended : Bool)
     → List ℕ
 component_text version p arrivals calls ended =
-    codes "component " ++ quoted true p.name ++ told_text (told version p.overflow) ++ codes "\n"
-    ++ codes "roles " ++ roles_text arrivals ++ codes "\n"
-    ++ call_lines 0 calls ++ end_line ended (cursor_after calls)
+    component_with version p (map (λ (a : Arrival). a.0) arrivals) calls ended
 
 -- The components from a number on.
 abbrev pub components_text : (version : ℕ) → Run → ℕ → List Plan → List ℕ

@@ -5,11 +5,10 @@ ghost use Rattle.std.specs.Prelude.{IfOk, OnOk, All, IsTrue, codes};
 ghost use Rattle.std.specs.List.{flat_map};
 ghost use Rattle.std.specs.Fmt.{decimal};
 ghost use Rattle.cy_msg.specs.declared.token.Token.{Token};
-ghost use Rattle.cy_fuse.specs.Fusion.{Arrival};
 ghost use Rattle.cy_trace.specs.TraceText.{title, played_line, roles_text, value_text, out_text};
 ghost use Rattle.cy_trace.specs.TraceText.{seqs_text, call_line, call_lines, end_line};
 ghost use Rattle.cy_trace.specs.Parts.{opening_text};
-ghost use Rattle.cy_trace.specs.TraceText.{component_text, overflow_word, tape_line, told};
+ghost use Rattle.cy_trace.specs.TraceText.{component_with, overflow_word, tape_line, told};
 ghost use Rattle.cy_trace.specs.TraceText.{told_text};
 ghost use Rattle.cy_trace.specs.private.TapeLines.{tape_start, started_line};
 ghost use Rattle.cy_trace.specs.private.OutsAfter.{outs_after};
@@ -18,7 +17,7 @@ use crate::numeral::{Numeral, put_kept};
 use crate::page::{ROOM, put_byte, put_number, put_signed, put_word};
 use crate::start::{LineStart, are_short, line_starts, put_start};
 use cy_comp::{Call, Calls, Out, Plan};
-use cy_fuse::{Arrived, Overflow};
+use cy_fuse::Overflow;
 use cy_msg::{Names, Token, Tuple, push_quoted};
 use itoa::{Buffer, Integer};
 use std::alloc::{AllocError, Global};
@@ -234,25 +233,24 @@ pub(crate) fn push_call_lines(
 }
 
 // A digit for each arrival, its role.
-fn push_roles(to: &mut Vec<u8>, arrivals: &[Arrived]) -> Result<(), AllocError>
-    requires { (n : ℕ) (a : Arrival) → slice_get arrivals.now n ≡ Some a → a.0 < 10 }
-    ensures { OnOk result (to.new.items ≡ to.old.items ++ roles_text arrivals.now) }
+fn push_roles(to: &mut Vec<u8>, roles: &[u8]) -> Result<(), AllocError>
+    requires { (n r : ℕ) → slice_get roles.now n ≡ Some r → r < 10 }
+    ensures { OnOk result (to.new.items ≡ to.old.items ++ roles_text roles.now) }
 {
-    if arrivals.is_empty() {
+    if roles.is_empty() {
         return to.extend_from_slice(b"-");
     }
-    push_digits(to, arrivals)
+    push_digits(to, roles)
 }
 
 // The digits alone, none where there is no arrival.
-fn push_digits(to: &mut Vec<u8>, arrivals: &[Arrived]) -> Result<(), AllocError>
-    requires { (n : ℕ) (a : Arrival) → slice_get arrivals.now n ≡ Some a → a.0 < 10 }
-    ensures { OnOk result (to.new.items ≡ to.old.items
-        ++ map (λ (a : Arrival). 48 + a.0) arrivals.now) }
+fn push_digits(to: &mut Vec<u8>, roles: &[u8]) -> Result<(), AllocError>
+    requires { (n r : ℕ) → slice_get roles.now n ≡ Some r → r < 10 }
+    ensures { OnOk result (to.new.items ≡ to.old.items ++ map (λ n. 48 + n) roles.now) }
 {
-    to.reserve(arrivals.len())?;
-    for arrival in arrivals {
-        to.push(b'0' + arrival.role())?;
+    to.reserve(roles.len())?;
+    for role in roles {
+        to.push(b'0' + *role)?;
     }
     Ok(())
 }
@@ -295,17 +293,17 @@ pub(crate) fn push_opening(
     to: &mut Vec<u8>,
     version: u32,
     plan: &Plan,
-    arrivals: &[Arrived],
+    roles: &[u8],
 ) -> Result<(), AllocError>
-    requires { (n : ℕ) (a : Arrival) → slice_get arrivals.now n ≡ Some a → a.0 < 10 }
+    requires { (n r : ℕ) → slice_get roles.now n ≡ Some r → r < 10 }
     ensures { OnOk result (to.new.items
-        ≡ to.old.items ++ opening_text version plan.now arrivals.now) }
+        ≡ to.old.items ++ opening_text version plan.now roles.now) }
 {
     to.extend_from_slice(b"component ")?;
     push_quoted(to, plan.name.as_str().as_bytes(), true)?;
     push_told(to, version, plan.overflow)?;
     to.extend_from_slice(b"\nroles ")?;
-    push_roles(to, arrivals)?;
+    push_roles(to, roles)?;
     to.extend_from_slice(b"\n")
 }
 
@@ -314,15 +312,15 @@ pub(crate) fn push_component(
     to: &mut Vec<u8>,
     version: u32,
     plan: &Plan,
-    arrivals: &[Arrived],
+    roles: &[u8],
     calls: Calls<'_>,
     ended: bool,
 ) -> Result<(), AllocError>
-    requires { (n : ℕ) (a : Arrival) → slice_get arrivals.now n ≡ Some a → a.0 < 10 }
+    requires { (n r : ℕ) → slice_get roles.now n ≡ Some r → r < 10 }
     ensures { OnOk result (to.new.items ≡ to.old.items
-        ++ component_text version plan.now arrivals.now calls.entry ended) }
+        ++ component_with version plan.now roles.now calls.entry ended) }
 {
-    push_opening(to, version, plan, arrivals)?;
+    push_opening(to, version, plan, roles)?;
     let (_count, next) = (calls.len(), calls.next_cursor());
     push_call_lines(to, 0, calls)?;
     push_end_line(to, ended, next)

@@ -196,7 +196,7 @@ fn push_part(
         Part::Head => push_head(to, version_of(plans), world.played(), shadowed),
         Part::Opening { component } => {
             let plan = &plans[component as usize];
-            push_opening(to, version_of(plans), plan, world.arrivals(component))
+            push_opening(to, version_of(plans), plan, world.arrival_roles(component))
         }
         Part::Calls {
             component,

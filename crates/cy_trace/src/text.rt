@@ -131,7 +131,7 @@ fn push_numbered(
         to,
         version,
         plan,
-        world.arrivals(component),
+        world.arrival_roles(component),
         calls_of(world, component),
         has_ended(world, component),
     )

@@ -107,7 +107,7 @@ impl Follower {
             → AwaitsTo (route_of plan.now) roles.now arrivals tail self.old tape.now
             → (result ≡ true) × Awaits (route_of plan.now) roles.now arrivals self.new }
     {
-        for at in self.visitor.arrivals().len()..roles.len() {
+        for at in self.visitor.arrival_count()..roles.len() {
             if tail_of(&self.visitor) >= tail {
                 return tail_of(&self.visitor) == tail;
             }
@@ -242,7 +242,7 @@ impl Follower {
             → IsHere (route_of plan.now) arrivals tape.now n a)
             → (result ≡ true) × (self.new.visitor.arrivals ≡ arrivals) }
     {
-        for at in self.visitor.arrivals().len()..roles.len() {
+        for at in self.visitor.arrival_count()..roles.len() {
             if !self.hear(plan, roles[at], tape) {
                 return false;
             }

@@ -1,7 +1,7 @@
 -- What the fields show to readers.
-use Rattle.std.proofs.Common.{ℕ, ◌+◌, ◌≡◌, ◌≢◌, ◌≤◌, ◌<◌, refl, sym, ◌∙◌, ap, arith, Option, Some, None, List, [], length, slice_get, option_map, option_and_then}
+use Rattle.std.proofs.Common.{ℕ, ◌+◌, ◌≡◌, ◌≢◌, ◌≤◌, ◌<◌, refl, sym, ◌∙◌, ap, arith, Option, Some, None, List, [], length, slice_get, map, option_map, option_and_then}
 use Rattle.std.specs.Option.{option_map_or}
-use Rattle.std.proofs.lemmas.Option.{slice_get_within}
+use Rattle.std.proofs.lemmas.Option.{slice_get_within, slice_get-map, same_Some, none-some}
 use Rattle.cy_msg.specs.declared.token.Token.{Token}
 use Rattle.cy_msg.specs.Tokens.{on_channel}
 use Rattle.cy_fuse.specs.Fusion.{Arrival}
@@ -80,6 +80,14 @@ few_roles w c n a at fixed s = by (slice_get w.routes c) refl (s.consistent.deli
         go : (o : Option ℕ) → slice_get x.readers a.0 ≡ o → o ≢ None → length x.readers ≤ 4 → a.0 < 4
         go None e some most = absurd (some refl)
         go (Some r) e some most = let within = slice_get_within x.readers a.0 r e in omega (arith, within, most)
+
+-- The same of the numbers of the readers alone.
+pub few_mapped : (w : Plain) (c n r : ℕ) → slice_get (map (λ (a : Arrival). a.0) (w.arrivals c)) n ≡ Some r → IsFixed w.routes w.counts → Sound w → r < 4
+few_mapped w c n r at fixed s = by (slice_get (w.arrivals c) n) refl (sym (slice_get-map (λ (a : Arrival). a.0) (w.arrivals c) n) ∙ at)
+  where
+    by : (o : Option Arrival) → slice_get (w.arrivals c) n ≡ o → option_map (λ (a : Arrival). a.0) o ≡ Some r → r < 4
+    by None e bad = absurd (none-some r bad)
+    by (Some a) e is = let few = few_roles w c n a e fixed s in omega (arith, few, same_Some a.0 r is)
 
 -- The routine that is shown.
 pub routine_of : (w : Plain) {found : ℕ → Option Found} {sent : ℕ → ℕ} {routines : ℕ → RoutineView} (c : ℕ) (r : RoutineView) → routines c ≡ r → w.states c ≡ r.state → w.calls c ≡ (routines c).calls

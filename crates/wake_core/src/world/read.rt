@@ -4,25 +4,24 @@ ghost use Rattle.cy_comp.specs.Calls.{output};
 
 use crate::World;
 use cy_comp::{Out, Routine};
-use cy_fuse::Arrived;
 use cy_msg::{Stop, Token};
 
 impl World {
-    ghost use Rattle.std.specs.Prelude.{◌≡◌, ◌<◌, ℕ, Some, None, length, slice_get};
+    ghost use Rattle.std.specs.Prelude.{◌≡◌, ◌<◌, ℕ, Some, None, length, map, slice_get};
     ghost use Rattle.cy_msg.specs.declared.token.Token.{Token};
     ghost use Rattle.cy_fuse.specs.Fusion.{Arrival};
     ghost use Rattle.wake_core.specs.Plain.{played_count, unsent_of};
     ghost use Rattle.wake_core.specs.WorldOf.{plain_of, to_step};
     ghost use Rattle.wake_core.specs.WorldCalls.{IsRoutineOf};
 
-    /// What arrived at a component, in order: the number of the reader that each message came to,
-    /// and the message.
-    pub fn arrivals(&self, component: u32) -> &[Arrived]
+    /// The number of the reader that each message came to which arrived at a component, in order.
+    pub fn arrival_roles(&self, component: u32) -> &[u8]
         requires { component < length (plain_of self.now).routes }
-        ensures arrivals { result.now ≡ (plain_of self.now).arrivals component }
-        ensures roles { (n : ℕ) (a : Arrival) → slice_get result.now n ≡ Some a → a.0 < 4 }
+        ensures arrivals { result.now
+            ≡ map (λ (a : Arrival). a.0) ((plain_of self.now).arrivals component) }
+        ensures roles { (n r : ℕ) → slice_get result.now n ≡ Some r → r < 4 }
     {
-        self.visitors[component as usize].arrivals()
+        self.visitors[component as usize].arrival_roles()
     }
 
     /// The routine of a component that isn't still to be stepped.

@@ -97,7 +97,7 @@ fn finishes_after_two_of_five(rt: HostRuntime) -> Result<(), Fail> {
         (routine.state(), routine.cursor().next()),
         (State::Finished, 3)
     );
-    assert_eq!(rt; visitor.arrivals().len(), 5);
+    assert_eq!(rt; visitor.arrival_count(), 5);
     Ok(())
 }
 

@@ -400,7 +400,7 @@ fn takes_a_world_apart_and_puts_it_together(rt: HostRuntime) -> Result<(), Fail>
     );
     assert_eq!(rt; parts.spent.as_slice(), [true].as_slice());
     assert_eq!(rt; parts.routines.as_slice()[0].calls().len(), 2);
-    assert_eq!(rt; parts.visitors.as_slice()[0].arrivals().len(), 2);
+    assert_eq!(rt; parts.visitors.as_slice()[0].arrival_count(), 2);
     has_passed_two(&rt, &parts.together(rt.alloc())?);
     Ok(())
 }

@@ -54,7 +54,7 @@ fn scans_until_nothing_is_ready(rt: HostRuntime) -> Result<(), Fail> {
     assert_eq!(rt; world.routine(0).state(), State::DataWait);
     assert!(rt; world.spent(0));
     assert_eq!(rt; world.routine(0).calls().len(), 0);
-    assert_eq!(rt; (world.tape_list().len(), world.arrivals(0).len()), (0, 0));
+    assert_eq!(rt; (world.tape_list().len(), world.arrival_roles(0).len()), (0, 0));
     assert_eq!(rt; (world.clock(), world.closing()), (0, false));
     Ok(())
 }

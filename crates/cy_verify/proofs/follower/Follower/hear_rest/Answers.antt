@@ -7,7 +7,7 @@ wrong : {b : Bool} → b ≡ true → b ≡ false → ⊥
 wrong e n = cc
 
 pub loop-at-init : goal.loop-at-init
-loop-at-init c = record { listening = record { stays = stays_itself c.args.self.now; listens = c.requires.listened; many = ap length (sym c.arrivals-at.ensures) }; awaits = λ arrivals w here. w }
+loop-at-init c = record { listening = record { stays = stays_itself c.args.self.now; listens = c.requires.listened; many = sym c.arrival_count-at.ensures }; awaits = λ arrivals w here. w }
 
 pub hear-requires-clause-may : goal.hear-requires-clause-may
 hear-requires-clause-may c = may_further c.requires.may c.loop-at.invariant.listening.stays

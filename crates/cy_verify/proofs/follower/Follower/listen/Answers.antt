@@ -8,7 +8,7 @@ wrong : {b : Bool} → b ≡ true → b ≡ false → ⊥
 wrong e n = cc
 
 pub loop-at-init : goal.loop-at-init
-loop-at-init c = record { listening = record { stays = stays_itself c.args.self.now; listens = c.requires.listened; many = ap length (sym c.arrivals-at.ensures) }; awaits = λ arrivals w. w }
+loop-at-init c = record { listening = record { stays = stays_itself c.args.self.now; listens = c.requires.listened; many = sym c.arrival_count-at.ensures }; awaits = λ arrivals w. w }
 
 pub returns-then-tail_of-tail-clause-stays : goal.returns-then-tail_of-tail-clause-stays
 returns-then-tail_of-tail-clause-stays c = c.loop-at.invariant.listening.stays
