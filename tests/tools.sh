@@ -1268,14 +1268,16 @@ is_summed_up() {
 
 batch() {
   patience=600
-  if [ ! -x "$program" ]; then
-    skip batch "no program at $program"
-    return
-  elif ! find_snakemake; then
+  if ! find_snakemake; then
     skip batch 'no Snakemake 7'
     return
   fi
   local call=("$snakemake" -s "$top/batch/Snakefile" --profile "$top/batch/profiles/local")
+  asks_in_batches
+  if [ ! -x "$program" ]; then
+    skip 'batches of the built program' "no program at $program"
+    return
+  fi
   refuses_tables
   refuses_settings
   judges_what_is_done
@@ -1421,6 +1423,71 @@ refuses_tables() {
   fails_in_one_line 1 'judge.py: d1 is not played' python3 "$top/batch/judge.py" --table drives.csv --drive d1 --program "$program" --out none
   head -n 1 drives.csv >bad.csv
   fails_in_one_line 1 'summary.py: bad.csv: no drives' python3 "$top/batch/summary.py" bad.csv none
+}
+
+# The component outside is a copy of a built-in one, so each drive has to have the record and the trace of that. All drives name the same
+# record of answers.
+asks_in_batches() {
+  local python=python3 copy
+  begin 'the drives of a batch with a component outside have answers of their own'
+  python3 "$top/tests/tools/drives.py" 9 .
+  find_player
+  copy="sum='python3 $top/tests/tools/copy_of.py WindowComponent sum.conf'"
+  sed 's/Window/External/; s/sum.conf/own.conf/' d.dag >own.dag
+  echo 'out: "/sum" answers: "sum.rec"' >own.conf
+  sed "1s/$/,run/; 2,\$s|$|,$copy|; s/d[.]dag/own.dag/" drives.csv >own.csv
+  try 1 "${call[@]}" --config program="$player" out=good
+  try 1 "${call[@]}" --config program="$player" table=own.csv good=good verify=verify
+  says out '9 drives: 8 well, 1 failed, 0 refused, 0 not done, 0 unlike the good run, 1 without a good run'
+  says batch.out/summary.csv 'd3,0,32,0,64,96,[0-9.]+,[0-9.]+,[0-9]+,verified,,"done: played 32, shadowed 0, calls 64, written 96"'
+  says batch.out/summary.csv "d7,1,.*,external: \`cyber play\` ended with status 1: .*at 2137: .*"
+  [ ! -e sum.rec ] && [ "$(find batch.out -name sum.rec | wc -l)" -eq 8 ]
+  count $? "$name: the answers are $(find . -name sum.rec)"
+  cp batch.out/d3/out.trace .
+  ask_why_in_batch 0 lawful:
+  begin 'a component outside that fails is told in the row of its drive, and played again where its files change'
+  cp -r "$OLDPWD/." .
+  printf '%s\n' '#!/bin/sh' 'echo >>tries' 'kill -KILL $$' >killed
+  printf '%s\n' '#!/bin/sh' "exec python3 '$top/tests/tools/copy_of.py' WindowComponent sum.conf" >copied
+  chmod +x killed copied
+  { head -n 1 own.csv && sed -n "s|$copy||; s/$/sum=/; 3s/$/true/p; 4s/$/.\/killed/p; 5s/$/.\/copied/p" own.csv; } >few.csv
+  try 1 "${call[@]}" --config program="$player" table=few.csv
+  says out '3 drives: 1 well, 1 failed, 1 not done'
+  says err 'play.py: a signal ended the play of d3: external: component sum: call 1 of [0-9]+: no answer: the command was ended by signal 9'
+  says batch.out/summary.csv 'd2,1,.*,external: component sum: call 1 of 31: no answer: the command ended with status 0'
+  [ "$(wc -l <tries)" -eq 2 ]
+  count $? "$name: $(wc -l <tries) tries"
+  sed -i '/^d3/d' few.csv
+  times >first
+  echo '# changed' >>copied
+  try 1 "${call[@]}" --config program="$player" table=few.csv
+  times | comm -13 first - | cut -d ' ' -f 1 >changed
+  [ "$(cat changed)" = batch.out/d4/row.json ]
+  count $? "$name: played again: $(cat changed)"
+  refuses_commands
+}
+
+# Looks what tools/why_not.py says of drive 3.
+ask_why_in_batch() { # the status, and how the sentence begins
+  try "$1" python3 "$top/tools/why_not.py" --dag batch.out/d3/answers/answered.dag --record 3.rec --out batch.out/d3/out.rec \
+    --trace out.trace --drop /b
+  says out "$2.*"
+}
+
+# Each row: the cell of the table, and what is said.
+refuses_commands() {
+  local cell said
+  begin 'commands of components that are wrong are refused'
+  python3 "$top/tests/tools/drives.py" 1 .
+  while IFS='|' read -r cell said; do
+    sed "1s/$/,run/; 2s|$|$cell|" drives.csv >bad.csv
+    fails_in_one_line 1 "batch: bad.csv: line 2: drive d1: $said" "${call[@]}" --config program="$player" table=bad.csv
+  done <<'CELLS'
+,sum='true|run is sum='true: No closing quotation
+,sum true|run has 'sum', and not NAME='COMMAND'
+,sum=' '|run has 'sum= ', and not NAME='COMMAND'
+2,sum=true|a play that asks the components of run is serial, and threads has to be 0 or empty
+CELLS
 }
 
 # Jobs of Slurm may be forgotten, and the controller may not answer for a while.
