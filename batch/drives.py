@@ -25,7 +25,8 @@ def read_table(path):
     """The drives of a table by their names, each a dictionary of the columns that it gives; a ValueError tells of a bad one.
 
     The table has a line of heads. `drive`, `record` and `dag` have to be given; `threads` is the number of processors that the
-    scheduler file asks for, or 0 or nothing for a serial play. `run` has the commands of components of one's own, and such a play is serial.
+    scheduler file asks for, or 0 or nothing for a serial play. `run` has the commands of components of one's own; such a play is
+    serial.
     """
     found = {}
     # Spreadsheets put a mark before the first head, which utf-8-sig leaves out.
@@ -126,11 +127,15 @@ def named_in(dag):
 
 
 def files_of(drive):
-    """The files of a drive that are there: when one of them changes, or comes, the drive is played again."""
+    """The files of a drive that are there: when one of them changes, or comes, the drive is played again.
+
+    Of what `run` asks these are the files that its commands name; the answers of other components are files of the drive, too.
+    """
     (files, answers), asked = named_in(drive["dag"]), [it.partition("=") for it in commands_of(drive)]
     files = [drive[it] for it in ("record", "dag", "sched") + ("types",) * bool(asked) if drive.get(it)] + files
     files += [path for name, path in answers.items() if name not in {it[0] for it in asked}]
-    files += [word for _, _, command in asked for word in words_in(command)]
+    # Snakemake warns of names that begin with `./`.
+    files += [os.path.normpath(word) for _, _, command in asked for word in words_in(command)]
     return [it for it in dict.fromkeys(files) if os.path.isfile(it)]
 
 

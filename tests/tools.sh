@@ -685,6 +685,10 @@ writes_answers_elsewhere() {
     /fusion/closest /near
   grep -qF '"message":"{\"header\": {\"stamp\": \"1700000000100000000\"' run.json
   count $? "$name: an answer isn't decoded"
+  cp examples/tracks/tracks.rec own/fuse.rec
+  try 0 "$python" "$top/tools/external.py" --dag examples/tracks/tracks.dag "${files[@]:2}" --trace other.trace --answers own \
+    --program "$player" --run closest=./closest --run "$fuse"
+  says out 'fuse: calls 96, answers 96, as before'
   try 1 "$python" "$top/tools/external.py" --dag own/answered.dag "${files[@]:2}" --trace other.trace --answers own \
     --program "$player" --run closest=./closest
   says err 'external: component closest: its component file own/closest.conf would be written over own/closest.conf'

@@ -86,7 +86,8 @@ def record_of(it, folder):
     if not folder and not it.answers_file:
         raise ValueError(f'component {name_of(it.name)}: its component file has to name the record of its answers: answers: "FILE.rec"')
     path = Path(folder, f"{own_name(it)}.rec") if folder else Path(os.fsdecode(it.answers_file))
-    check_only_answers(path, it.out)
+    if not folder or not Path(folder, ANSWERED).exists():  # else this script wrote what is there
+        check_only_answers(path, it.out)
     return path
 
 

@@ -6,7 +6,8 @@
     stand_in.py verify ARGUMENTS..
     stand_in.py check --dag DAG
 
-`check` prints the lines of components alone. It takes the arguments that the program takes in these forms. Files that the program refuses end it with status 1 and a line.
+It takes the arguments that the program takes in these forms; `check` prints the lines of components alone. Files that the program refuses
+end it with status 1 and a line.
 """
 import os
 import sys
@@ -44,7 +45,8 @@ def check(dag):
     for it in read_components(dag):
         reads = " ".join(quoted(channel).decode() for channel in it.readers)
         inputs = f"every {it.interval} ms" if it.interval else f"reads {reads} queue {it.queue}"
-        line = f"{'timer' if it.interval else 'component'} {quoted(it.name).decode()} class {it.kind} {inputs} writes {quoted(it.out).decode()}"
+        what, name, out = "timer" if it.interval else "component", quoted(it.name).decode(), quoted(it.out).decode()
+        line = f"{what} {name} class {it.kind} {inputs} writes {out}"
         line += " overflow OLDEST" if it.overflow == b"OLDEST" and not it.interval else ""
         if it.answers_file:
             line += f" answers {quoted(it.answers_file).decode()} {len(it.answers.contents)}"
