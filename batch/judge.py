@@ -15,7 +15,7 @@ import sys
 from itertools import zip_longest
 
 sys.path.insert(0, os.path.join(os.path.dirname(os.path.abspath(__file__)), "..", "tools"))
-from drives import drive_of, judged_path, row_of, run, verify_words_of, write_whole
+from drives import as_played, drive_of, judged_path, row_of, run, verify_words_of, write_whole
 from record import each_message, opened
 
 FILE = re.compile(r"\{(record|dag|out|trace)\}")
@@ -66,10 +66,10 @@ def verify(words, drive, folder):
 
 def judge(words):
     """What comes of a drive's comparison and of the further command."""
-    drive, row = drive_of(words.table, words.drive), row_of(words.out, words.drive)
+    folder, row = os.path.join(words.out, words.drive), row_of(words.out, words.drive)
+    drive = as_played(drive_of(words.table, words.drive), folder)
     if row is None:
         raise ValueError(f"{words.drive} is not played")
-    folder = os.path.join(words.out, words.drive)
     return {
         "row": row,
         "good": words.good,

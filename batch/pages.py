@@ -14,7 +14,7 @@ import os
 import sys
 
 sys.path.insert(1, os.path.join(os.path.dirname(os.path.abspath(__file__)), "..", "tools"))
-from drives import read_table, row_of
+from drives import as_played, commands_of, read_table, row_of
 
 NUMBERS = ("played", "shadowed", "calls", "written", "seconds", "processor", "memory")
 UNJUDGED = ("", "no good run", "not done")  # what a drive's difference says where there is none
@@ -94,9 +94,10 @@ def words_of_drive(words, drive, folder):
     """The words of tools/report.py for a drive of the table."""
     good = os.path.join(words.good, words.drive) if words.good else None
     is_there = good and all(os.path.isfile(os.path.join(good, it)) for it in ("out.rec", "out.trace"))
-    given = {it: drive.get(it) or None for it in ("dag", "record", "sched", "channels", "drop", "begin", "end", "stop")}
+    played = as_played(drive, folder)
+    given = {it: played.get(it) or None for it in ("dag", "record", "sched", "channels", "drop", "begin", "end", "stop", "types")}
     files = {"out": os.path.join(folder, "out.rec"), "trace": os.path.join(folder, "out.trace")}
-    given |= {"good": good if is_there else None, "types": None, "program": words.program, "page": page_path(folder)}
+    given |= {"good": good if is_there else None, "run": commands_of(drive), "program": words.program, "page": page_path(folder)}
     return argparse.Namespace(**given, **files)
 
 

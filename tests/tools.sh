@@ -663,6 +663,35 @@ plays_tracks() {
   count $? "$name: near are $(cat near)"
   "$python" "$top/tools/messages.py" out.rec --channel /fusion/tracks >tracks
   says tracks '/fusion/tracks 1 1700000000100000000 \{"header": .*"tracks": \[\{"id": 1, "label": "walker", "distance": 21.157, .*'
+  writes_answers_elsewhere
+}
+
+# The answers may stand in another folder. Tools look at such a run by the DAG file there.
+writes_answers_elsewhere() {
+  local files=(--dag own/answered.dag --record examples/tracks/tracks.rec --out other.rec)
+  begin 'answers are written into another folder, and tools look at the run by the DAG file there'
+  cp "$OLDPWD"/{closest,out.rec,out.trace} .
+  ln -s "$top/examples" examples
+  try 0 "$python" "$top/tools/external.py" --dag examples/tracks/tracks.dag "${files[@]:2}" --trace other.trace --answers own \
+    --program "$player" --run closest=./closest --run "$fuse"
+  cmp -s out.rec other.rec && cmp -s out.trace other.trace && [ ! -e fuse.rec ] && [ ! -e closest.rec ]
+  count $? "$name: another record or trace, or answers in another place: $(ls)"
+  try 0 "$python" "$top/tools/why_not.py" "${files[@]}" --trace other.trace
+  sed '5s/@1700000000100000000$/@1700000000100000001/' other.trace >bad.trace
+  try 1 "$python" "$top/tools/why_not.py" "${files[@]}" --trace bad.trace
+  says out 'bad.trace: line 5: call 1 of "fuse" has the output @1700000000100000001, and ExternalComponent puts out @1700000000100000000\. .*'
+  try 0 "$python" "$top/tools/timeline.py" other.trace --record other.rec --dag own/answered.dag --program "$player" --decode -o run.json
+  try 0 python3 "$top/tests/tools/check_timeline.py" run.json other.trace /camera,/radar /fusion/tracks /fusion/tracks /fusion/closest \
+    /fusion/closest /near
+  grep -qF '"message":"{\"header\": {\"stamp\": \"1700000000100000000\"' run.json
+  count $? "$name: an answer isn't decoded"
+  cp examples/tracks/tracks.rec own/fuse.rec
+  try 0 "$python" "$top/tools/external.py" --dag examples/tracks/tracks.dag "${files[@]:2}" --trace other.trace --answers own \
+    --program "$player" --run closest=./closest --run "$fuse"
+  says out 'fuse: calls 96, answers 96, as before'
+  try 1 "$python" "$top/tools/external.py" --dag own/answered.dag "${files[@]:2}" --trace other.trace --answers own \
+    --program "$player" --run closest=./closest
+  says err 'external: component closest: its component file own/closest.conf would be written over own/closest.conf'
 }
 
 # What was asked before isn't asked again, and what has changed is.
@@ -692,7 +721,7 @@ keeps_answers() {
   local fuse="fuse=$python $top/tools/component.py examples/tracks/fuse.py"
   begin 'where a component fails, what the ones before it answered is kept, and nothing else is written'
   # shellcheck disable=SC2016
-  play_tracks 1 --run "$fuse" --run "closest=sh -c 'kill -KILL \$\$'"
+  play_tracks 137 --run "$fuse" --run "closest=sh -c 'kill -KILL \$\$'"
   says out 'fuse: calls 96, answers 96'
   says err 'external: component closest: call 1 of 96: no answer: the command was ended by signal 9'
   [ ! -e out.rec ] && [ ! -e out.trace ] && [ ! -e fuse.rec ] && [ ! -e closest.rec ]
@@ -1043,7 +1072,7 @@ refuses_runs() {
 }
 
 shows_batches() {
-  local tool="$top/batch/pages.py" drive
+  local tool="$top/batch/pages.py" drive copy
   begin 'the page of a batch has its rows, and a page for each drive'
   python3 "$top/tests/tools/drives.py" 200 .
   python3 "$top/tests/tools/summed_up.py" drives.csv batch.out
@@ -1070,6 +1099,19 @@ shows_batches() {
   fails_in_one_line 1 "pages.py: drives.csv: no drive d201" "$python" "$tool" --out batch.out --table drives.csv --drive d201
   fails_in_one_line 1 "pages.py: .*No such file or directory: 'none/summary.csv'" "$python" "$tool" --out none
   pages+=("batch=$PWD/batch.out/report.html")
+  begin 'the page of a drive with a component outside has its command'
+  python3 "$top/tests/tools/drives.py" 7 .
+  move_outside
+  try 0 python3 "$top/batch/play.py" --table own.csv --drive d1 --program "$player" --out batch.out
+  try 0 python3 "$top/batch/play.py" --table own.csv --drive d7 --program "$player" --out batch.out
+  for drive in d1 d7; do
+    try 0 "$python" "$tool" --out batch.out --table own.csv --drive "$drive" --program "$player"
+  done
+  try 0 python3 "$check" batch.out/d1/report.html batch.out/d1/out.trace batch.out/d1/out.rec
+  shows batch.out/d1/report.html 'A lawful run'
+  shows batch.out/d1/report.html 'class ExternalComponent reads "/a" queue 1 writes "/sum" answers "batch.out/d1/answers/sum.rec" 30'
+  shows batch.out/d1/report.html "ExternalComponentasked: $(sed "s/.*='//; s/'$//" <<<"$copy")"
+  shows batch.out/d7/report.html "$copy"
 }
 
 clicks_in_pages() {
@@ -1268,14 +1310,16 @@ is_summed_up() {
 
 batch() {
   patience=600
-  if [ ! -x "$program" ]; then
-    skip batch "no program at $program"
-    return
-  elif ! find_snakemake; then
+  if ! find_snakemake; then
     skip batch 'no Snakemake 7'
     return
   fi
   local call=("$snakemake" -s "$top/batch/Snakefile" --profile "$top/batch/profiles/local")
+  asks_in_batches
+  if [ ! -x "$program" ]; then
+    skip 'batches of the built program' "no program at $program"
+    return
+  fi
   refuses_tables
   refuses_settings
   judges_what_is_done
@@ -1421,6 +1465,76 @@ refuses_tables() {
   fails_in_one_line 1 'judge.py: d1 is not played' python3 "$top/batch/judge.py" --table drives.csv --drive d1 --program "$program" --out none
   head -n 1 drives.csv >bad.csv
   fails_in_one_line 1 'summary.py: bad.csv: no drives' python3 "$top/batch/summary.py" bad.csv none
+}
+
+# The component outside is a copy of a built-in one, so each drive has to have the record and the trace of that. All drives name the same
+# record of answers.
+asks_in_batches() {
+  local python=python3 copy
+  begin 'the drives of a batch with a component outside have answers of their own'
+  python3 "$top/tests/tools/drives.py" 9 .
+  move_outside
+  try 1 "${call[@]}" --config program="$player" out=good
+  try 1 "${call[@]}" --config program="$player" table=own.csv good=good verify=verify
+  says out '9 drives: 8 well, 1 failed, 0 refused, 0 not done, 0 unlike the good run, 1 without a good run'
+  says batch.out/summary.csv 'd3,0,32,0,64,96,[0-9.]+,[0-9.]+,[0-9]+,verified,,"done: played 32, shadowed 0, calls 64, written 96"'
+  says batch.out/summary.csv "d7,1,.*,external: \`cyber play\` ended with status 1: .*at 2137: .*"
+  [ ! -e sum.rec ] && [ "$(find batch.out -name sum.rec | wc -l)" -eq 8 ]
+  count $? "$name: the answers are $(find . -name sum.rec)"
+  cp batch.out/d3/out.trace .
+  ask_why_in_batch 0 lawful:
+  begin 'a component outside that fails is told in the row of its drive, and played again where its files change'
+  cp -r "$OLDPWD/." .
+  printf '%s\n' '#!/bin/sh' 'echo >>tries' 'kill -KILL $$' >killed
+  printf '%s\n' '#!/bin/sh' "exec python3 '$top/tests/tools/copy_of.py' WindowComponent sum.conf" >copied
+  chmod +x killed copied
+  { head -n 1 own.csv && sed -n "s|$copy||; s/$/sum=/; 3s/$/true/p; 4s/$/.\/killed/p; 5s/$/.\/copied/p" own.csv; } >few.csv
+  try 1 "${call[@]}" --config program="$player" table=few.csv
+  says out '3 drives: 1 well, 1 failed, 1 not done'
+  says err 'play.py: a signal ended the play of d3: external: component sum: call 1 of [0-9]+: no answer: the command was ended by signal 9'
+  says batch.out/summary.csv 'd2,1,.*,external: component sum: call 1 of 31: no answer: the command ended with status 0'
+  [ "$(wc -l <tries)" -eq 2 ]
+  count $? "$name: $(wc -l <tries) tries"
+  sed -i '/^d3/d' few.csv
+  times >first
+  echo '# changed' >>copied
+  try 1 "${call[@]}" --config program="$player" table=few.csv
+  times | comm -13 first - | cut -d ' ' -f 1 >changed
+  [ "$(cat changed)" = batch.out/d4/row.json ]
+  count $? "$name: played again: $(cat changed)"
+  refuses_commands
+}
+
+# Makes a table of the same drives in which a component is asked, and puts its command into `copy`.
+move_outside() {
+  find_player
+  copy="sum='python3 $top/tests/tools/copy_of.py WindowComponent sum.conf'"
+  sed 's/Window/External/; s/sum.conf/own.conf/' d.dag >own.dag
+  echo 'out: "/sum" answers: "sum.rec"' >own.conf
+  sed "1s/$/,run/; 2,\$s|$|,$copy|; s/d[.]dag/own.dag/" drives.csv >own.csv
+}
+
+# Looks what tools/why_not.py says of drive 3.
+ask_why_in_batch() { # the status, and how the sentence begins
+  try "$1" python3 "$top/tools/why_not.py" --dag batch.out/d3/answers/answered.dag --record 3.rec --out batch.out/d3/out.rec \
+    --trace out.trace --drop /b
+  says out "$2.*"
+}
+
+# Each row: the cell of the table, and what is said.
+refuses_commands() {
+  local cell said
+  begin 'commands of components that are wrong are refused'
+  python3 "$top/tests/tools/drives.py" 1 .
+  while IFS='|' read -r cell said; do
+    sed "1s/$/,run/; 2s|$|$cell|" drives.csv >bad.csv
+    fails_in_one_line 1 "batch: bad.csv: line 2: drive d1: $said" "${call[@]}" --config program="$player" table=bad.csv
+  done <<'CELLS'
+,sum='true|run is sum='true: No closing quotation
+,sum true|run has 'sum', and not NAME='COMMAND'
+,sum=' '|run has 'sum= ', and not NAME='COMMAND'
+2,sum=true|a play that asks the components of run is serial, and threads has to be 0 or empty
+CELLS
 }
 
 # Jobs of Slurm may be forgotten, and the controller may not answer for a while.

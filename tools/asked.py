@@ -13,7 +13,16 @@ from record import content_of
 
 FORMS = '{}, {"content": BASE64}, {"value": NUMBER} or {"message": OBJECT}'
 LOWEST, GREATEST = -(2**63), 2**63 - 1
+LAST_SIGNAL = 64
 WHOLE = re.compile(r"-?[0-9]{1,20}")
+
+
+class Ended(ValueError):
+    """A process that should have gone on, or ended well, with the status by which a shell tells of it: 128 and the signal that ended it."""
+
+    def __init__(self, text, status):
+        super().__init__(text)
+        self.status = 128 - status if status < 0 else status
 
 
 class Command:
@@ -48,12 +57,14 @@ class Command:
             for number in range(1, count + 1):
                 line = process.stdout.readline()
                 if not line:
-                    raise ValueError(f"call {number} of {count}: no answer: the command {ended(process.wait())}")
+                    status = process.wait()
+                    raise Ended(f"call {number} of {count}: no answer: the command {ended(status)}", killed(status))
                 yield number, line
             if process.stdout.readline():
                 raise ValueError(f"call {count} of {count}: a further line behind its answer")
-            if process.wait():
-                raise ValueError(f"call {count} of {count}: behind its answer the command {ended(process.returncode)}")
+            status = process.wait()
+            if status:
+                raise Ended(f"call {count} of {count}: behind its answer the command {ended(status)}", killed(status))
         finally:
             process.kill()
             process.wait()
@@ -63,6 +74,11 @@ class Command:
 def ended(status):
     """How a process ended."""
     return f"was ended by signal {-status}" if status < 0 else f"ended with status {status}"
+
+
+def killed(status):
+    """The status where it tells of a signal, as that of a shell whose command was ended by one also does, and else 1."""
+    return status if status < 0 or 128 < status <= 128 + LAST_SIGNAL else 1
 
 
 def whole_number(value):

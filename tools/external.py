@@ -1,11 +1,12 @@
 #!/usr/bin/env python3
 """Plays a record through a DAG file with components of your own: each is a command that is asked what its calls put out.
 
-    external.py --dag F --record F --out F --trace F --run NAME='COMMAND'.. [--types SET] [--program F]
+    external.py --dag F --record F --out F --trace F --run NAME='COMMAND'.. [--answers DIR] [--types SET] [--program F]
                 [--sched F] [--channels LIST] [--drop LIST] [--begin N] [--end N] [--stop NAME@N]
 
-NAME is an ExternalComponent, whose component file names the record of its answers, which is written. Ends with status 0 where the last
-play is verified, with 1 where something failed, and with 2 where the arguments are wrong.
+NAME is an ExternalComponent, whose component file names the record of its answers, which is written. With --answers the records are written
+into DIR instead, with a DAG file that has them. Ends with status 0 where the last play is verified, with 1 where something failed, with 2
+where the arguments are wrong, with the program's status where that fails, and with 128 + N where signal N ended the program or a command.
 """
 import argparse
 import hashlib
@@ -17,9 +18,10 @@ from array import array
 from dataclasses import dataclass, field
 from itertools import zip_longest
 from pathlib import Path
+from urllib.parse import quote
 
 from answers import Answered, answers_record, check_only_answers, read_answers
-from asked import Command, Encoder
+from asked import Command, Encoder, Ended, ended
 from calls import Play, component_named
 from dag import Component, read_entries
 from record import name_of
@@ -27,6 +29,7 @@ from strict import quoted
 from wiring import find_program
 
 KEPT = ".external"
+ANSWERED = "answered.dag"  # in the folder of --answers: the DAG file that has the answers there
 FILTER = ("sched", "channels", "drop", "begin", "end", "stop")
 
 
@@ -37,6 +40,7 @@ class Outside:
     component: Component
     command: Command
     folder: Path
+    record: Path  # where its answers are written in the end
     upstream: set = field(default_factory=set)  # the names of the components on whose outputs it depends
     marks: array = field(default_factory=lambda: array("q"))  # of each call that was asked: its tuple, hashed
     is_answered: bool = False
@@ -73,11 +77,23 @@ def check_outside(it, entry):
     """Raises a ValueError where a component can't be asked."""
     if not it.is_external:
         raise ValueError(f"component {name_of(it.name)} is a {it.kind}, and no ExternalComponent")
-    if not it.answers_file:
-        raise ValueError(f'component {name_of(it.name)}: its component file has to name the record of its answers: answers: "FILE.rec"')
     if it.name in entry:
         raise ValueError(f"component {name_of(it.name)} depends on its own output, so it can't be asked outside")
-    check_only_answers(it.answers_file, it.out)
+
+
+def record_of(it, folder):
+    """The record that gets the answers of a component: the one in this folder, or else the one that its component file names."""
+    if not folder and not it.answers_file:
+        raise ValueError(f'component {name_of(it.name)}: its component file has to name the record of its answers: answers: "FILE.rec"')
+    path = Path(folder, f"{own_name(it)}.rec") if folder else Path(os.fsdecode(it.answers_file))
+    if not folder or not Path(folder, ANSWERED).exists():  # else this script wrote what is there
+        check_only_answers(path, it.out)
+    return path
+
+
+def own_name(it):
+    """The name of a component as that of a file."""
+    return quote(it.name, safe="")
 
 
 def outsides_of(components, words, work):
@@ -88,7 +104,7 @@ def outsides_of(components, words, work):
         check_outside(component, upstream[name])
         folder = work / str(number)
         folder.mkdir()
-        found.append(Outside(component, Command(text), folder, upstream[name]))
+        found.append(Outside(component, Command(text), folder, record_of(component, words.answers), upstream[name]))
     asked = {it.component.name for it in found}
     if len(asked) < len(found):
         raise ValueError("--run names a component twice")
@@ -100,15 +116,20 @@ def outsides_of(components, words, work):
 
 
 def check_apart(outsides, components, words):
-    """Raises a ValueError where the answers of a component would be written over another file of the play."""
+    """Raises a ValueError where the answers of a component, or files that have them, would be written over another file of the play."""
     others = [words.dag, words.record, words.out, words.trace, words.sched, words.types] + [it.file for it in components]
     taken = {os.path.realpath(os.fsencode(it)): os.fsdecode(it) for it in others if it}
     for it in outsides:
-        path = os.path.realpath(it.component.answers_file)
-        if path in taken:
-            text = f"its answers {os.fsdecode(it.component.answers_file)} would be written over {taken[path]}"
-            raise ValueError(f"component {it.name}: {text}")
-        taken[path] = f"the answers of {it.name}"
+        written = {"answers": it.record}
+        if words.answers:
+            written["component file"] = it.record.with_suffix(".conf")
+        for what, path in written.items():
+            place = os.path.realpath(os.fsencode(path))
+            if place in taken:
+                raise ValueError(f"component {it.name}: its {what} {path} would be written over {taken[place]}")
+            taken[place] = f"the {what} of {it.name}"
+    if words.answers and os.path.realpath(os.fsencode(Path(words.answers, ANSWERED))) in taken:
+        raise ValueError(f"{Path(words.answers, ANSWERED)} is a file of the play, and would be written over")
 
 
 def entry_text(it, path):
@@ -123,19 +144,18 @@ def entry_text(it, path):
     return b"  %s { class_name: %s config { %s } }\n" % (kind, quoted(it.kind.encode()), config)
 
 
-def write_dag(components, outsides, path):
-    """Writes a DAG file of the same components, in which the ones that are asked have the answers that are known by now."""
-    files = {it.component.name: it for it in outsides}
+def write_dag(components, given, path):
+    """Writes a DAG file of the same components. By the name of a component, `given` has its new component file and its answers."""
     text = b""
-    for component in components:
-        outside, file = files.get(component.name), component.file
-        if outside:
+    for it in components:
+        file = it.file
+        if it.name in given:
+            conf, answers = given[it.name]
             # Of a field that is given twice the later one counts.
-            file = os.fsencode(outside.folder / "conf")
-            answers = os.fsencode(outside.answers) if outside.is_answered else b""
-            Path(os.fsdecode(file)).write_bytes(Path(os.fsdecode(component.file)).read_bytes() + b"\nanswers: %s\n" % quoted(answers))
-        text += entry_text(component, file)
-    path.write_bytes(b"module_config {\n%s}\n" % text)
+            write_whole(conf, Path(os.fsdecode(file)).read_bytes() + b"\nanswers: %s\n" % quoted(os.fsencode(answers)))
+            file = os.fsencode(conf)
+        text += entry_text(it, file)
+    write_whole(path, b"module_config {\n%s}\n" % text)
 
 
 class Tool:
@@ -149,20 +169,23 @@ class Tool:
         check_apart(self.outsides, self.components, words)
 
     def call(self, command, dag, out, trace):
-        """Calls the program, and gives the line that it prints. What it says of a fault goes to standard error as it is."""
+        """Calls the program, and gives the line that it prints. Where it fails, what it says is in the fault."""
         names = [it for it in FILTER if getattr(self.words, it) is not None and (command[0] == "play" or it != "sched")]
         files = ["--dag", dag, "--record", self.words.record, "--out", out, "--trace", trace]
         options = [word for name in names for word in (f"--{name}", getattr(self.words, name))]
-        done = subprocess.run([self.program, *command, *map(os.fspath, files + options)], stdin=subprocess.DEVNULL, stdout=subprocess.PIPE)
+        called = [self.program, *command, *map(os.fspath, files + options)]
+        done = subprocess.run(called, stdin=subprocess.DEVNULL, capture_output=True, check=False)
         if done.returncode:
-            raise ValueError(f"`cyber {command[0]}` ended with status {done.returncode}")
+            said = done.stderr.decode("utf-8", "replace").strip()
+            raise Ended(f"`cyber {command[0]}` {ended(done.returncode)}{': ' * bool(said)}{said}", done.returncode)
         return done.stdout.decode("utf-8", "replace")
 
     def play_with(self, outsides, out, trace, dag=None):
         """Plays, and gives the play with the calls of these components."""
         if dag is None:
             dag = self.work / "dag"
-            write_dag(self.components, self.outsides, dag)
+            known = {it.component.name: (it.folder / "conf", it.answers if it.is_answered else "") for it in self.outsides}
+            write_dag(self.components, known, dag)
         line = self.call(["play", "--serial"], dag, out, trace)
         named = {it.component.name for it in outsides}
         return line, Play(self.components, self.words.record, os.fspath(out), os.fspath(trace), named, self.words.types, "external")
@@ -177,7 +200,7 @@ class Tool:
                 try:
                     self.ask(it, play)
                 except ValueError as error:
-                    raise ValueError(f"component {it.name}: {error}") from None
+                    raise Ended(f"component {it.name}: {error}", getattr(error, "status", 1)) from None
 
     def ask(self, it, play):
         """Asks a component about its calls, or finds what it answered to them before."""
@@ -222,11 +245,16 @@ class Tool:
         """Asks all components, and plays and verifies with their answers."""
         self.ask_all()
         for it in self.outsides:
-            write_whole(Path(os.fsdecode(it.component.answers_file)), it.answers.read_bytes())
-        line, play = self.play_with(self.outsides, self.words.out, self.words.trace, self.words.dag)
+            write_whole(it.record, it.answers.read_bytes())
+        dag = self.words.dag
+        if self.words.answers:
+            dag = Path(self.words.answers, ANSWERED)
+            files = {it.component.name: (it.record.with_suffix(".conf"), it.record) for it in self.outsides}
+            write_dag(self.components, files, dag)
+        line, play = self.play_with(self.outsides, self.words.out, self.words.trace, dag)
         self.check(play)
         print(line, end="", flush=True)
-        print(self.call(["verify"], self.words.dag, self.words.out, self.words.trace), end="")
+        print(self.call(["verify"], dag, self.words.out, self.words.trace), end="")
 
 
 def encoding(decoder, component):
@@ -300,6 +328,7 @@ def read_words():
     reader.add_argument("--out", required=True, help="the record that is written")
     reader.add_argument("--trace", required=True, help="the trace that is written")
     reader.add_argument("--run", required=True, action="append", type=run_of, metavar="NAME=COMMAND", help="a component and its command")
+    reader.add_argument("--answers", metavar="DIR", help="the folder that gets the answers, and a DAG file that has them")
     reader.add_argument("--types", metavar="SET", help="a file with a FileDescriptorSet, for types that the record doesn't describe")
     reader.add_argument("--program", help="the program that plays, by default the one that is built here or installed")
     for name in FILTER:
@@ -317,6 +346,7 @@ def main():
     except (OSError, ValueError) as error:
         is_named = isinstance(error, OSError) and error.filename
         print(f"external: {f'{os.fsdecode(error.filename)}: {error.strerror}' if is_named else error}", file=sys.stderr)
+        return getattr(error, "status", 1)
     except KeyboardInterrupt:
         print("external: stopped; what was answered is kept", file=sys.stderr)
         return 130

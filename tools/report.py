@@ -2,7 +2,7 @@
 """Makes a page of a replay, in one HTML file that needs no network.
 
     report.py --dag F --record F --out F --trace F [--sched F] [--channels LIST] [--drop LIST] [--begin N] [--end N] [--stop NAME@N]
-              [--good DIR] [--types SET] [--program F] HTML
+              [--run NAME='COMMAND'].. [--good DIR] [--types SET] [--program F] HTML
 
 takes the files and options of `cyber verify`. The page says whether the run is lawful, as `cyber verify` answers, and shows its timeline,
 its graph, its components and its channels; with --good it shows what differs from another run, DIR/out.rec and DIR/out.trace. Ends with
@@ -25,6 +25,7 @@ def words_reader():
     reader.add_argument("--begin", metavar="N", help="as of the play: only messages from this time on")
     reader.add_argument("--end", metavar="N", help="as of the play: only messages up to this time")
     reader.add_argument("--stop", metavar="NAME@N", help="as of the play: the component that was stopped, and when")
+    reader.add_argument("--run", action="append", metavar="NAME=COMMAND", help="as of tools/external.py: a command that the page names")
     reader.add_argument("--good", metavar="DIR", help="the folder of another run, to compare with")
     reader.add_argument("--types", metavar="SET", help="a file with a FileDescriptorSet, for types that the record doesn't describe")
     reader.add_argument("--program", metavar="F", help="the program that verifies; else the one of this repository, or an installed one")

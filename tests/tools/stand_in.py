@@ -4,8 +4,10 @@
     stand_in.py play --serial ARGUMENTS..
     stand_in.py pass RECORD OUT TRACE FROM TO
     stand_in.py verify ARGUMENTS..
+    stand_in.py check --dag DAG
 
-It takes the arguments that the program takes in these forms. Files that the program refuses end it with status 1 and a line.
+It takes the arguments that the program takes in these forms; `check` prints the lines of components alone. Files that the program refuses
+end it with status 1 and a line.
 """
 import os
 import sys
@@ -14,6 +16,8 @@ import tempfile
 sys.path.insert(0, os.path.join(os.path.dirname(os.path.abspath(__file__)), ".."))
 import judge
 import replay
+from dag import read_components
+from strict import quoted
 
 
 def words_of(command, arguments):
@@ -36,11 +40,28 @@ def play(command, arguments):
     return 0
 
 
+def check(dag):
+    """Prints what `check` says of the components of a DAG file."""
+    for it in read_components(dag):
+        reads = " ".join(quoted(channel).decode() for channel in it.readers)
+        inputs = f"every {it.interval} ms" if it.interval else f"reads {reads} queue {it.queue}"
+        what, name, out = "timer" if it.interval else "component", quoted(it.name).decode(), quoted(it.out).decode()
+        line = f"{what} {name} class {it.kind} {inputs} writes {out}"
+        line += " overflow OLDEST" if it.overflow == b"OLDEST" and not it.interval else ""
+        if it.answers_file:
+            line += f" answers {quoted(it.answers_file).decode()} {len(it.answers.contents)}"
+        print(line)
+    print("ok")
+    return 0
+
+
 def main():
     command, *arguments = sys.argv[1:]
     try:
         if command in ("play", "pass"):
             return play(command, arguments)
+        if command == "check":
+            return check(arguments[-1])
         sys.argv = ["judge.py", *arguments]
         return judge.main()
     except (OSError, ValueError) as error:

@@ -4,7 +4,7 @@ from array import array
 from collections import Counter
 from dataclasses import dataclass, field
 
-from dag import read_components
+from dag import read_entries
 from record import each_message, forms_of, header_of, opened, whole_of
 from trace import Component, read_trace, unquoted
 
@@ -86,7 +86,7 @@ def parts_checked(text):
 def parts_read(path):
     """The components of a DAG file, as tools/dag.py reads it."""
     found = []
-    for it in read_components(path):
+    for it in read_entries(path):
         readers, out = [text_of(name) for name in it.readers], text_of(it.out) if it.out is not None else None
         found.append(Part(text_of(it.name), it.kind, readers, out, it.queue, it.overflow.decode(), it.interval))
     return found

@@ -124,11 +124,12 @@ def histograms_of(measures):
     yield waiting_histogram(measures)
 
 
-def component_row(component, part, measures):
-    """What the page shows of a component."""
+def component_row(component, part, measures, command):
+    """What the page shows of a component; the command is that which was asked for its answers, or None."""
     return {
         "name": component.name,
         "kind": part.kind or "unknown",
+        "command": command,
         "reads": part.readers,
         "out": part.out,
         "queue": part.queue if part.kind else None,
@@ -254,9 +255,10 @@ def view_of(replay, words, verdict, wiring, comparison):
     channel_measures = {name: measure_channel(it) for name, it in replay.channels.items()}
     timeline, data, text = timeline_of(replay, channel_measures)
     clocks = clocks_of(replay)
-    components = []
+    components, commands = [], dict(it.partition("=")[::2] for it in words.run or [])
     for it, part in replay.components:
-        components.append(component_row(it, part, measure_component(it, timeline.begins[part.name], clocks.get(part.name, ()))))
+        measures = measure_component(it, timeline.begins[part.name], clocks.get(part.name, ()))
+        components.append(component_row(it, part, measures, commands.get(it.name)))
     lanes = {item.name: place for place, (kind, item) in enumerate(timeline.lanes) if kind == "channel"}
     component_lanes = {item[0].name: place for place, (kind, item) in enumerate(timeline.lanes) if kind == "component"}
     trace, (plots, left) = replay.trace, plots_of(replay)
