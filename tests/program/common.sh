@@ -46,6 +46,12 @@ write_record() { # the messages, and the forms
   echo "PYTHONPATH='$top/tools' python3 -c 'from record import *; import sys; sys.stdout.buffer.write(record($1, $2))' >in.rec"
 }
 
+# Looks at the lines of a trace.
+traces() { # the file, and the lines
+  printf '%s\n' "$2" | cmp -s - "$1"
+  count $? "$name: $1 is $(head -c 600 "$1")"
+}
+
 # Compares what standard output got with a text of several lines.
 prints() { # the text
   [ "$status" -eq 0 ]

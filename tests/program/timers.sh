@@ -13,12 +13,6 @@ recorded() { # the messages, and the types and descriptions of channels
   (cd files && eval "$(write_record "$1" "$2")")
 }
 
-# Looks at the lines of a trace.
-traces() { # the file, and the lines
-  printf '%s\n' "$2" | cmp -s - "$1"
-  count $? "$name: $1 is $(head -c 600 "$1")"
-}
-
 TICKING='component "t"
 roles 000
 call 1/1 1 1@2000000=1
