@@ -24,7 +24,7 @@ def plain(form):
     """A form with N for each number and S for each text in quotes."""
     form = re.sub(r'"[A-Z]+"', '"S"', form)
     form = re.sub(r"\bCOMPONENTS\b", "N..", form)
-    return re.sub(r"\b(?:COMPONENT|OTHER|TIMER|COUNT|LINE|COLUMN|PLACE|VALUE|KIND)\b", "N", form)
+    return re.sub(r"\b(?:COMPONENT|OTHER|TIMER|TIME|COUNT|LINE|COLUMN|PLACE|VALUE|KIND)\b", "N", form)
 
 
 def numbers_of(text):
