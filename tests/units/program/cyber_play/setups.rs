@@ -42,6 +42,7 @@ fn kind_of(fault: &Fault) -> &'static str {
         Fault::Text(_) => "Text",
         Fault::Dag(_) => "Dag",
         Fault::Sched(_) => "Sched",
+        Fault::Answers(_) => "Answers",
         Fault::StopUnknown { .. } => "StopUnknown",
         Fault::Record(_) => "Record",
         Fault::TooMany { .. } => "TooMany",
