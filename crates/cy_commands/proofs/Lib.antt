@@ -3,6 +3,7 @@ pub mod CheckExits
 pub mod Finding
 pub mod KeptExits
 pub mod Leaving
+pub mod MakeDrafts
 pub mod MakeExits
 pub mod NamesApart
 pub mod OneDue

@@ -213,7 +213,7 @@ split_files_apart words w h = asked_fits words (Split w) h
 -- the same of the code's command
 in_form_by : (c : code.Command) → IsFit (command_asked c) → IsInForm c
 in_form_by (asked.Play w) fit = fit.0
-in_form_by (asked.Make w) fit = (fit.0, fit.1)
+in_form_by (asked.Make w) fit = record { some = fit.0; few = fit.1; short = fit.2 }
 in_form_by (asked.Verify w) fit = fit
 in_form_by c fit = tt
 

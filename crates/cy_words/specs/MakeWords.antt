@@ -1,5 +1,5 @@
 -- The words of `make`.
-use Rattle.std.specs.Prelude.{ℕ, ◌||◌, nat_lt, if◌then◌else◌, List, [], ◌∷◌, length, Option}
+use Rattle.std.specs.Prelude.{ℕ, ◌<◌, ◌≤◌, ◌||◌, nat_lt, if◌then◌else◌, List, [], ◌∷◌, length, Option}
 use Rattle.std.specs.Prelude.{Some, None, codes}
 use Rattle.std.specs.Option.{option_map}
 use Rattle.cy_words.specs.FilterWords.{◌>>=◌, spelled_number}
@@ -42,3 +42,9 @@ make_asked o = do
   count ← o (codes "count")
   prefix ← o (codes "prefix")
   made_by count prefix
+
+-- Words in form: some messages, not too many, and a prefix that is not too long.
+pub record CanBeMade (w : MakeWords) : Type 0 where
+  pub some : 0 < w.count
+  pub few : w.count ≤ most_made
+  pub short : length w.prefix ≤ longest_prefix

@@ -1,5 +1,5 @@
 -- What the program's own types stand for.
-use Rattle.std.specs.Prelude.{◌≤◌, ◌<◌, ⊤, option_map}
+use Rattle.std.specs.Prelude.{⊤, option_map}
 use Rattle.cy_request.specs.Request.{HasReader}
 use Rattle.cy_words.specs.declared.make_words.Make.{Make}
 use Rattle.cy_words.specs.declared.check_words.Check.{Check}
@@ -10,7 +10,7 @@ use Rattle.cy_words.specs.declared.words.Command as code
 use Rattle.cy_words.specs.declared.words.Command.TheVariants as asked
 use Rattle.cy_words.specs.CheckWords.{CheckWords}
 use Rattle.cy_words.specs.FilterViews.{filter_of}
-use Rattle.cy_words.specs.MakeWords.{MakeWords, most_made}
+use Rattle.cy_words.specs.MakeWords.{MakeWords, CanBeMade}
 use Rattle.cy_words.specs.PlayViews.{play_words_of}
 use Rattle.cy_words.specs.RecoverWords.{RecoverWords}
 use Rattle.cy_words.specs.SplitWords.{SplitWords}
@@ -37,8 +37,8 @@ split_words_of w = record {
   filter = filter_of w.wanted;
 }
 
--- The command that is asked for, and that a channel which it reads has a name, or that so many
--- messages are made.
+-- The command that is asked for, and that a channel which it reads has a name, or that the files of
+-- `make` can be made.
 abbrev pub command_asked : code.Command → command.Command
 command_asked (asked.Check w) = command.Check (check_words_of w)
 command_asked (asked.Info w) = command.Info (info_words_of w)
@@ -50,6 +50,6 @@ command_asked (asked.Split w) = command.Split (split_words_of w)
 
 abbrev pub IsInForm : code.Command → Type 0
 IsInForm (asked.Play w) = HasReader (play_words_of w).request.components
-IsInForm (asked.Make w) = (0 < w.count) × (w.count ≤ most_made)
+IsInForm (asked.Make w) = CanBeMade (make_words_of w)
 IsInForm (asked.Verify w) = HasReader (play_words_of w).request.components
 IsInForm c = ⊤

@@ -1,8 +1,9 @@
 -- How `make` ends.
-use Rattle.std.specs.Prelude.{ℕ, ◌≡◌, ◌++◌, List, ◌∷◌, Option, None, Result, IsErrOf, codes}
+use Rattle.std.specs.Prelude.{ℕ, ◌≡◌, ◌++◌, List, ◌∷◌, Option, Some, None, Result, IsErrOf, codes}
 use Rattle.std.specs.List.{Contains}
 use Rattle.cy_store.specs.Files.{Files}
 use Rattle.cy_store.specs.Reads.{Accepts}
+use Rattle.cy_store.specs.Store.{StoreView}
 use Rattle.cy_replay.specs.Apart.{IsOneOf, standard_output}
 use Rattle.cy_replay.specs.declared.error.Refusal.{Refusal}
 use Rattle.cy_replay.specs.declared.error.SetupError.{SetupError}
@@ -33,6 +34,10 @@ use Rattle.cy_commands.specs.Commands.PlayWork.{replayed_in}
 pub record IsMade (w : MakeWords) (x : Replay) : Type 0 where
   pub read : replayed_in (play_made w) (made_files w) ≡ Accepts (replayed x)
   pub set_up : IsSetUp (play_made w).request x
+
+-- What a store shows that has these files, and of which no call failed.
+abbrev pub told : Files → StoreView
+told files = record { files = Some files; faults = 0; misses = 0 }
 
 -- What is answered of the names of own files: a store that tells its files has no word against
 -- them, any other may say that one of them is another one's file, or standard output.

@@ -1,14 +1,17 @@
 // The command `make`.
-ghost use Rattle.std.specs.Prelude.{◌≡◌, ◌≤◌, ◌<◌, ◌++◌, ℕ, List, map, codes, IfOk, IsOkUnless};
+ghost use Rattle.std.specs.Prelude.{◌≡◌, ◌≤◌, ◌++◌, ℕ, List, map, codes, IfOk};
+ghost use Rattle.std.specs.Str.{IsUtf8};
+ghost use Rattle.cy_store.specs.Memory.{shows_of};
 ghost use Rattle.cy_make.specs.Texts.{suffix_of};
 ghost use Rattle.cy_words.specs.Command as command;
 ghost use Rattle.cy_commands.specs.Due.{IsDueFor};
 ghost use Rattle.cy_commands.specs.Line.{bytes_of_line};
 ghost use Rattle.cy_commands.specs.Lines.{store_line};
-ghost use Rattle.cy_commands.specs.private.MakeEnds.{AreOwn, IsMade, IsDueUnmade, names_of};
+ghost use Rattle.cy_commands.specs.private.MakeEnds.{AreOwn, IsMade, IsDueUnmade, names_of, told};
 ghost use Rattle.cy_commands.specs.private.MakeEnds.{IsDueUnplayed, play_named, result_suffix};
-ghost use Rattle.cy_commands.specs.Commands.MakeWork.{names_behind, play_made};
+ghost use Rattle.cy_commands.specs.Commands.MakeWork.{made_files, names_behind, play_made};
 ghost use Rattle.cy_commands.specs.PlayEnds.{HasRun};
+ghost use Rattle.cy_words.specs.MakeWords.{CanBeMade};
 ghost use Rattle.cy_words.specs.PlayViews.{play_words_of};
 ghost use Rattle.cy_words.specs.Views.{make_words_of};
 ghost use Rattle.wake_core.specs.WorldOf.{plain_of};
@@ -19,11 +22,12 @@ use crate::line::Line;
 use crate::play::{played_world, read_files, write_both};
 use crate::status::Status;
 use crate::unset::due_unset;
-use cy_make::{Config, MakeError, name_with, write_inputs};
+use cy_made::made_files_are_accepted;
+use cy_make::{Config, Drafts, MakeError, name_with, write_inputs};
 use cy_msg::Text;
 use cy_replay::{Replay, STANDARD_OUTPUT, SetupError, test_apart};
 use cy_request::Components;
-use cy_store::{MemStore, Store};
+use cy_store::Store;
 use cy_words::{Make, Play};
 use std::alloc::{AllocError, Global};
 use std::thread::Threads;
@@ -81,32 +85,55 @@ impl Names {
     }
 }
 
+// Makes the files in memory.
+fn draft(alloc: Global, make: &Make) -> Result<Drafts, AllocError>
+    requires { make.now.count ≤ 1048576 }
+    ensures { IfOk result (λ drafts. shows_of drafts
+        ≡ told (made_files (make_words_of make.now))) }
+{
+    let mut drafts = Drafts::new(alloc);
+    let written = write_inputs(alloc, &mut drafts, make.count, make.prefix);
+    drafts.have_no_faults();
+    match written {
+        Ok(()) => Ok(drafts),
+        Err(MakeError::Memory) => {
+            drop(drafts);
+            Err(AllocError)
+        }
+        // No call of drafts fails.
+        Err(MakeError::Config(_)) => unreachable!(),
+        Err(MakeError::Record) => unreachable!(),
+    }
+}
+
+// A prefix is a text.
+fn is_text(prefix: &str)
+    ensures { IsUtf8 prefix.now }
+{}
+
 // Makes the files in memory, and sets up a replay of them.
 fn set_up_made<R: Threads + Sync>(
     rt: &R,
     alloc: Global,
     make: &Make,
     play: &Play,
-) -> Result<Replay, Failure>
-    requires few { make.now.count ≤ 1048576 }
+) -> Result<Replay, AllocError>
+    requires asked { CanBeMade (make_words_of make.now) }
     requires play { play_words_of play.now ≡ play_made (make_words_of make.now) }
     ensures made { IfOk result (IsMade (make_words_of make.now)) }
-    ensures only_memory { IsOkUnless result Failure.Memory }
 {
-    let mut drafts = MemStore::new(alloc);
-    let Ok(()) = write_inputs(alloc, &mut drafts, make.count, make.prefix) else {
-        drop(drafts);
-        return Err(Failure::Memory);
-    };
+    let mut drafts = draft(alloc, make)?;
     let replay = read_files(rt, alloc, &mut drafts, play);
+    drafts.have_no_faults();
     drop(drafts);
+    is_text(make.prefix);
+    made_files_are_accepted();
     match replay {
         Ok(replay) => Ok(replay),
-        // No call of these drafts fails, and no text of theirs is refused.
-        Err(error) => {
-            drop(error);
-            Err(Failure::Memory)
-        }
+        Err(SetupError::Memory) => Err(AllocError),
+        // None of these texts is refused, and no call of drafts fails.
+        Err(SetupError::Refused(_)) => unreachable!(),
+        Err(SetupError::Store { .. }) => unreachable!(),
     }
 }
 
@@ -178,8 +205,7 @@ fn due_made<'a, S: Store, R: Threads + Sync>(
     replay: Replay,
     world: &World,
 ) -> Due<'a>
-    requires some { 0 < make.now.count }
-    requires few { make.now.count ≤ 1048576 }
+    requires asked { CanBeMade (make_words_of make.now) }
     requires play { play_words_of play.now ≡ play_made (make_words_of make.now) }
     requires made { IsMade (make_words_of make.now) replay }
     requires run { HasRun (play_words_of play.now).serial replay (plain_of world.now) }
@@ -207,8 +233,7 @@ fn make_and_play<'a, S: Store, R: Threads + Sync>(
     play: &Play,
     store: &mut S,
 ) -> Due<'a>
-    requires some { 0 < make.now.count }
-    requires few { make.now.count ≤ 1048576 }
+    requires asked { CanBeMade (make_words_of make.now) }
     requires play { play_words_of play.now ≡ play_made (make_words_of make.now) }
     ensures { IsDueFor (command.Make (make_words_of make.now)) (S.shows store.old)
         (S.shows store.new) result.status (bytes_of_line result.line) }
@@ -293,8 +318,7 @@ fn make_apart<'a, S: Store, R: Threads + Sync>(
     make: &Make<'a>,
     store: &mut S,
 ) -> Due<'a>
-    requires some { 0 < make.now.count }
-    requires few { make.now.count ≤ 1048576 }
+    requires asked { CanBeMade (make_words_of make.now) }
     ensures { IsDueFor (command.Make (make_words_of make.now)) (S.shows store.old)
         (S.shows store.new) result.status (bytes_of_line result.line) }
 {
@@ -315,8 +339,7 @@ pub fn run_make<'a, S: Store, R: Threads + Sync>(
     make: &Make<'a>,
     store: &mut S,
 ) -> Due<'a>
-    requires some { 0 < make.now.count }
-    requires few { make.now.count ≤ 1048576 }
+    requires asked { CanBeMade (make_words_of make.now) }
     ensures { IsDueFor (command.Make (make_words_of make.now)) (S.shows store.old)
         (S.shows store.new) result.status (bytes_of_line result.line) }
 {
