@@ -2,7 +2,9 @@
 ghost use Rattle.std.specs.Prelude.{◌≡◌, ◌≤◌, ◌++◌, ℕ, List, map, codes, IfOk};
 ghost use Rattle.std.specs.Str.{IsUtf8};
 ghost use Rattle.cy_store.specs.Memory.{shows_of};
+ghost use Rattle.cy_make.specs.Inputs.{IsAtFile};
 ghost use Rattle.cy_make.specs.Texts.{suffix_of};
+ghost use Rattle.cy_replay.specs.declared.error.Refusal.{Refusal};
 ghost use Rattle.cy_words.specs.Command as command;
 ghost use Rattle.cy_commands.specs.Due.{IsDueFor};
 ghost use Rattle.cy_commands.specs.Line.{bytes_of_line};
@@ -85,7 +87,30 @@ impl Names {
     }
 }
 
-// Makes the files in memory.
+// Want of memory, where no file can be in the way.
+fn memory_for_files(error: MakeError) -> AllocError
+    requires { IsAtFile error → ⊥ }
+{
+    match error {
+        MakeError::Memory => AllocError,
+        MakeError::Config(_) => unreachable!(),
+        MakeError::Record => unreachable!(),
+    }
+}
+
+// Want of memory, where no file can be refused or missed.
+fn memory_for_set_up(error: SetupError) -> AllocError
+    requires refused { (refusal : Refusal) → error ≡ SetupError.Refused refusal → ⊥ }
+    requires failed { (file : List ℕ) → error ≡ SetupError.Store file → ⊥ }
+{
+    match error {
+        SetupError::Memory => AllocError,
+        SetupError::Refused(_) => unreachable!(),
+        SetupError::Store { .. } => unreachable!(),
+    }
+}
+
+// Makes the files in memory. No call of drafts fails.
 fn draft(alloc: Global, make: &Make) -> Result<Drafts, AllocError>
     requires { make.now.count ≤ 1048576 }
     ensures { IfOk result (λ drafts. shows_of drafts
@@ -96,13 +121,10 @@ fn draft(alloc: Global, make: &Make) -> Result<Drafts, AllocError>
     drafts.have_no_faults();
     match written {
         Ok(()) => Ok(drafts),
-        Err(MakeError::Memory) => {
+        Err(error) => {
             drop(drafts);
-            Err(AllocError)
+            Err(memory_for_files(error))
         }
-        // No call of drafts fails.
-        Err(MakeError::Config(_)) => unreachable!(),
-        Err(MakeError::Record) => unreachable!(),
     }
 }
 
@@ -130,10 +152,8 @@ fn set_up_made<R: Threads + Sync>(
     made_files_are_accepted();
     match replay {
         Ok(replay) => Ok(replay),
-        Err(SetupError::Memory) => Err(AllocError),
         // None of these texts is refused, and no call of drafts fails.
-        Err(SetupError::Refused(_)) => unreachable!(),
-        Err(SetupError::Store { .. }) => unreachable!(),
+        Err(error) => Err(memory_for_set_up(error)),
     }
 }
 

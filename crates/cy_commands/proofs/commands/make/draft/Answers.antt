@@ -8,8 +8,5 @@ use Rattle.cy_commands.proofs.commands.make.draft.Goals as goal
 pub returns-in-Ok : goal.returns-in-Ok
 returns-in-Ok c = drafted (make_words_of c.args.make.now) _ _ (ap shows_of c.new-drafts.ensures) c.in-Ok.ensures.done (c.in-Ok.ensures.causes.quiet (λ e. e))
 
-pub unreachable-requires-in-Err-Config : goal.unreachable-requires-in-Err-Config
-unreachable-requires-in-Err-Config c = unfailing empty _ _ (ap shows_of c.new-drafts.ensures) c.have_no_faults.ensures (c.in-Err-Config.ensures.causes.failed tt)
-
-pub unreachable-requires-in-Err-Record : goal.unreachable-requires-in-Err-Record
-unreachable-requires-in-Err-Record c = unfailing empty _ _ (ap shows_of c.new-drafts.ensures) c.have_no_faults.ensures (c.in-Err-Record.ensures.causes.failed tt)
+pub memory_for_files-requires : goal.memory_for_files-requires
+memory_for_files-requires c = λ at. unfailing empty _ (shows_of c.write_inputs-written.new.store) (ap shows_of c.new-drafts.ensures) c.have_no_faults.ensures (c.in-Err.ensures.causes.failed at)
