@@ -5,8 +5,8 @@ ghost use Rattle.cy_msg.specs.Quoted.{quoted};
 ghost use Rattle.cy_check.specs.CheckText.{answer_count, answers_of, component_line};
 ghost use Rattle.cy_check.specs.CheckText.{component_lines, config_lines};
 ghost use Rattle.cy_check.specs.CheckText.{context_head, context_line, context_lines, name_in};
-ghost use Rattle.cy_check.specs.CheckText.{interval_text, line_by, order_text, overflow_text, spaced};
-ghost use Rattle.cy_check.specs.CheckText.{timer_line, unknown_lines};
+ghost use Rattle.cy_check.specs.CheckText.{interval_text, line_by, order_text, overflow_text};
+ghost use Rattle.cy_check.specs.CheckText.{spaced, timer_line, unknown_lines};
 ghost use Rattle.cy_dag.specs.Wiring.{queue_of_first};
 
 use cy_comp::Kind;

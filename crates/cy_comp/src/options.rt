@@ -18,7 +18,8 @@ pub struct Options {
 }
 
 impl Options {
-    /// The options of a file that has none but the type of the messages. The only error is `Memory`.
+    /// The options of a file that has none but the type of the messages. The only error is
+    /// `Memory`.
     pub fn with_type(alloc: Global, out_type: &str) -> Result<Self, NamesError>
         ensures options { IfOk result (λ options. options ≡ options_with out_type.now) }
         ensures memory { IfErr result (λ e. e ≡ NamesError.Memory) }

@@ -20,7 +20,7 @@ pub struct Plan {
     pub out: u32,
     /// What its file says beside these.
     pub options: Options,
-    /// How many milliseconds lie between the ticks on the channel that it reads; none where it reads
-    /// what others send.
+    /// How many milliseconds lie between the ticks on the channel that it reads. A component that
+    /// reads what others send has none.
     pub interval: Option<u32>,
 }

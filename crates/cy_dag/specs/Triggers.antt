@@ -33,7 +33,7 @@ writers_at configs c = option_map (λ first. TwoWriters first c) (earlier_writer
 unfoldable pub writers_refusal : List Config → Option DagError
 writers_refusal configs = first_found (writers_at configs) (length configs)
 
--- Whether ticks of a component stand on a channel, and the first of some components of which they do.
+-- Whether ticks of a component stand on a channel, and the first of some components whose ticks do.
 abbrev pub ticks_on : List ℕ → DagComponent → Bool
 ticks_on channel c = is_some c.interval && list_any (λ r. bytes_eq r.channel channel) c.readers
 

@@ -30,8 +30,8 @@ pub struct DagComponent {
     pub config_file_path: Text,
     /// What it reads, in order. A message of the first one triggers a call.
     pub readers: Items<DagReader>,
-    /// Each how many milliseconds a tick comes to the one channel that a timer component reads; none
-    /// where it is no timer component.
+    /// How many milliseconds lie between the ticks on the one channel that a timer component reads.
+    /// Any other component has none.
     pub interval: Option<u32>,
 }
 

@@ -1,9 +1,9 @@
 //! DAG files and component files: which components and timer components a run has, what they read
 //! and write, and of which class they are.
 //!
-//! `specs/Format` has the fields of a DAG file, `specs/DagFile` what it says and the first cause for
-//! which it is refused, `specs/ConfigFile` all that of a component file, but for `specs/Options`,
-//! where each optional field is a row. `specs/Classes` has the classes by their names,
+//! `specs/Format` has the fields of a DAG file, `specs/DagFile` what it says and the first cause of
+//! a refusal, `specs/ConfigFile` the same of a component file, but for `specs/Options`, where each
+//! optional field is a row. `specs/Classes` has the classes by their names,
 //! `specs/Triggers` which components write one channel or trigger one another in a circle, and
 //! `specs/Wiring` the wiring of all. `specs/FaultText` says how a refusal is told.
 #![tactic(auto)]

@@ -131,8 +131,8 @@ fn read_from<R: Files>(rt: &R, path: &str, at: u64, buf: &mut [u8]) -> io::Resul
     fill(&mut file, buf)
 }
 
-// Writes all bytes behind what a writer holds. A write that was interrupted is made again, and one of
-// no byte is an error.
+// Writes all bytes behind what a writer holds. A write that was interrupted is made again. A write
+// of no byte is an error.
 fn put_all<W: Write>(writer: &mut W, bytes: &[u8]) -> io::Result<()>
     ensures { OnOk result (Appends (W.contents writer.old) (W.contents writer.new) bytes.now) }
 {
