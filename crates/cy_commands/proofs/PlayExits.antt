@@ -61,7 +61,7 @@ leaves w x pieces world cut m =
 -- a run with the stop of the replay is one with the stop that was asked for
 played_as : (w : PlayWords) (x : Replay) (world : Plain) → IsSetUp w.request x → HasRun w.serial x world
     → IsPlayed w.serial (replayed x) x.list (stop_of w.request.stop (wired_by x.wiring) x.list.tokens) x.placement.contexts world
-played_as w x world s h = subst (λ (stop : Option Stop). IsPlayed w.serial (replayed x) x.list stop x.placement.contexts world) s.stopped record { run = h.run; lawful = h.lawful }
+played_as w x world s h = subst (λ (stop : Option Stop). IsPlayed w.serial (replayed x) x.list stop x.placement.contexts world) s.stopped record { run = h.run; lawful = h.lawful; led = h.led }
 
 pub accepted : (w : PlayWords) (reads : Files → Reads Refusal Replayed) (x : Replay) (pieces : List (List ℕ)) (world : Plain) (files : Option Files) → whole pieces ≡ run_trace (source_by x) x.list.shadowed (run_shown world) → IfSome files (λ m. reads m ≡ Accepts (replayed x)) → IsSetUp w.request x → HasRun w.serial x world
     → IsMadeOf reads (IsPlayWork w) files (work_of w x pieces world)

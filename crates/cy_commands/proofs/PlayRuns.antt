@@ -1,14 +1,15 @@
 -- A replay that was played, and what is told of it.
-use Rattle.std.proofs.Common.{ℕ, Bool, true, false, ◌≡◌, ◌≤◌, List, length, slice_get, ap, subst, sym, ◌∙◌, arith}
+use Rattle.std.proofs.Common.{ℕ, Bool, true, false, ◌≡◌, ◌≤◌, List, length, Option, slice_get, ap, refl, subst, sym, ◌∙◌, arith}
 use Rattle.cy_msg.specs.Placement.{scan_of}
 use Rattle.cy_request.specs.Request.{Request}
 use Rattle.wake_core.specs.Bounds.{PlaceLaws}
 use Rattle.wake_core.specs.LawfulRun.{LawfulRun}
-use Rattle.wake_core.specs.Plain.{Plain, opening_world}
+use Rattle.wake_core.specs.Plain.{Plain, Stop, opening_world}
 use Rattle.wake_core.specs.Planned.{planned}
 use Rattle.wake_core.specs.Rest.{run_shown}
 use Rattle.wake_core.specs.Run.{routes_of}
 use Rattle.wake_core.specs.Serial.{SerialRun}
+use Rattle.wake_core.specs.Way.{IsLed}
 use Rattle.wake_core.specs.WorldCalls.{IsTooMany}
 use Rattle.wake_core.specs.declared.entries.TheConstants.{MOST_PLANNED}
 use Rattle.wake_core.specs.declared.route.Route.{Route}
@@ -64,15 +65,19 @@ writable r x w places stand s lawful many = record {
   places = λ n place at. places x.recorded (choice_of r.filter (wired_by x.wiring)) s.listed.messages s.listed.chosen n place (ap (λ (ps : List ℕ). slice_get ps n) (sym s.listed.merged.places) ∙ at);
 }
 
+opening_same : (r s : List Route) (m n : List ℕ) (t u : Option Stop) → r ≡ s → m ≡ n → t ≡ u → opening_world r m t ≡ opening_world s n u
+opening_same r s m n t u a b c = rw (a, b, c) refl
+
 -- a lawful run from the opening world can be written, and its trace is read back
 pub has_run : (serial : Bool) (r : Request) (x : Replay) (first new : Plain) → PlacesAreThere → PlaceLaws → IsSetUp r x → first ≡ opening_world (routes_of x.wiring.plans) x.counts x.stop
-    → IsRunOf serial (routes_of x.wiring.plans) x.stop (scan_of x.placement.contexts) x.list.tokens new → LawfulRun x.list.tokens (routes_of x.wiring.plans) x.stop new → new.counts ≡ first.counts → ReadsBack x new → HasRun serial x new
-has_run serial r x first new places stand s opens run lawful stays reads =
+    → IsRunOf serial (routes_of x.wiring.plans) x.stop (scan_of x.placement.contexts) x.list.tokens new → LawfulRun x.list.tokens (routes_of x.wiring.plans) x.stop new → new.counts ≡ first.counts → IsLed first new → ReadsBack x new → HasRun serial x new
+has_run serial r x first new places stand s opens run lawful stays led reads =
     let counts : new.counts ≡ x.counts = stays ∙ ap (λ (w : Plain). w.counts) opens in
     let many : length new.counts ≡ length x.wiring.names = ap length counts ∙ s.many in
     record {
       run = run;
       lawful = lawful;
+      led = subst (λ (w : Plain). IsLed w new) (opens ∙ sym (opening_same new.routes (routes_of x.wiring.plans) new.counts x.counts new.stop x.stop lawful.wired counts lawful.given)) led;
       counts = many;
       writable = writable r x new places stand s lawful many;
       read_back = reads (planned_as x new lawful.wired counts s.limited);

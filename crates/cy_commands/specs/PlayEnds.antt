@@ -14,6 +14,7 @@ use Rattle.wake_core.specs.LawfulRun.{LawfulRun}
 use Rattle.wake_core.specs.Plain.{Plain}
 use Rattle.wake_core.specs.Rest.{run_shown}
 use Rattle.wake_core.specs.Run.{routes_of}
+use Rattle.wake_core.specs.Way.{IsLedTo}
 use Rattle.cy_replay.specs.Comes.{ComesTo}
 use Rattle.cy_recording.specs.Recording.{Source, IsWritable}
 use Rattle.cy_replay.specs.Setup.{replayed, IsAsked}
@@ -45,12 +46,13 @@ SetsUp w old new result =
 abbrev pub source_by : Replay → Source
 source_by x = source_in (replayed x) x.list
 
--- A world in which a replay was played, serially or on threads, with its stop: its tape can be
--- written, and the text of its trace is read back.
+-- A world in which a replay was played, serially or on threads, with its stop: events led to it,
+-- its tape can be written, and the text of its trace is read back.
 pub record HasRun (serial : Bool) (x : Replay) (w : Plain) : Type 0 where
   pub run : IsRunOf serial (routes_of x.wiring.plans) x.stop (scan_of x.placement.contexts)
       x.list.tokens w
   pub lawful : LawfulRun x.list.tokens (routes_of x.wiring.plans) x.stop w
+  pub led : IsLedTo w
   pub counts : length w.counts ≡ length x.wiring.names
   pub writable : IsWritable (source_by x) w.tape
   pub read_back : IsTraceText (run_trace (source_by x) x.list.shadowed (run_shown w))

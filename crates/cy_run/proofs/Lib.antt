@@ -3,3 +3,4 @@ pub mod Filled
 pub mod Played
 pub mod Mustered
 pub mod Posted
+pub mod Led

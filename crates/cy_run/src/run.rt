@@ -8,6 +8,7 @@ ghost use Rattle.wake_core.specs.Run.{routes_of};
 ghost use Rattle.wake_core.specs.Serial.{SerialRun};
 ghost use Rattle.wake_core.specs.LawfulRun.{LawfulRun};
 ghost use Rattle.wake_core.specs.Rest.{MayPlay, StaysMade, run_shown};
+ghost use Rattle.wake_core.specs.Way.{IsLed};
 ghost use Rattle.wake_core.specs.WorldOf.{plain_of};
 ghost use Rattle.cy_table.specs.Calls.{seat_of};
 ghost use Rattle.cy_run.specs.Passes.{IsFree};
@@ -32,15 +33,16 @@ use wake_core::{World, finish, laws, serial};
 const MOST_THREADS: u32 = MOST_PROCESSORS - 1;
 
 /// Plays a list in a world that was made for it and in which nothing has happened, and resumes
-/// components on this thread, in the order of the scan. It takes no memory. It is for programs that
-/// set up a world of their own.
+/// components on this thread, in the order of the scan. Each world on the way is safe. It takes no
+/// memory. It is for programs that set up a world of their own.
 pub fn run_serial(mut world: World, list: &PlayList, placement: &Placement) -> World
     requires { MayPlay (plain_of world) list.now.tokens (scan_of placement.now.contexts) }
     ensures run { SerialRun (plain_of world).routes (plain_of world).stop
         (scan_of placement.now.contexts) list.now.tokens (run_shown (plain_of result)) }
     ensures lawful { LawfulRun list.now.tokens (plain_of world).routes (plain_of world).stop
         (plain_of result) }
-    ensures stays { StaysMade (plain_of world) (plain_of result) }
+    ensures stays { StaysMade (plain_of world) (plain_of result)
+        × IsLed (plain_of world) (plain_of result) }
 {
     serial(&mut world, list, placement);
     world
@@ -49,8 +51,9 @@ pub fn run_serial(mut world: World, list: &PlayList, placement: &Placement) -> W
 /// Plays a list in a world that was made for it and in which nothing has happened, while processors
 /// run the components of their contexts. Each processor gets a thread, 63 at most, as long as the
 /// system gives one. The components of a context to which no processor came are run by the thread
-/// that calls, between the messages. The world that comes out is that of a lawful run. Its only
-/// error is `Memory`, and then the world is given up. It may wait.
+/// that calls, between the messages. The world that comes out is that of a lawful run, and each
+/// world on the way to it is safe. Its only error is `Memory`, and then the world is given up. It
+/// may wait.
 pub fn run_threads<G: Gate, R: Threads + Wait + Sync>(
     rt: &R,
     alloc: Global,
@@ -65,8 +68,11 @@ pub fn run_threads<G: Gate, R: Threads + Wait + Sync>(
     ensures lawful { IfOk result (λ w. LawfulRun list.now.tokens (routes_of wiring.now.plans)
         (plain_of world).stop (plain_of w)) }
     ensures counts { IfOk result (λ w. (plain_of w).counts ≡ (plain_of world).counts) }
+    ensures led { IfOk result (λ w. IsLed (plain_of world) (plain_of w)) }
 {
     laws::put();
+    laws::ways();
+    world.sound();
     let plans = placement.contexts.as_slice();
     let threads = processors_in(placement).min(MOST_THREADS);
     let idle = Idle::new(alloc, threads)?;

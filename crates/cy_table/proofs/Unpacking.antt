@@ -24,6 +24,7 @@ use Rattle.wake_core.specs.Fields.{read, no_routine, no_visitor, IsFixed, IsVisi
 use Rattle.wake_core.specs.WorldOf.{routes_in, counts_in, stop_in}
 use Rattle.wake_core.specs.WorldCalls.{IsRoutineOf}
 use Rattle.wake_core.specs.Laws.{IsIdle, Events, ThreadLaws, OutsideLaws, AgreesWithin, SaysNothing}
+use Rattle.wake_core.specs.Way.{Replaces}
 use Rattle.wake_core.specs.TapeLaws.{UnsentLaws}
 use Rattle.wake_core.specs.Rest.{at_rest}
 use Rattle.wake_core.specs.Parts.{routine_in, shown_by, AreFit}
@@ -288,7 +289,7 @@ module _ {made : Plain} {v : Seat} {words : List ℕ} {slots : List Part} (e : E
       ∙ ap (λ (b : Bool). record (shown_by p) { routes = e.world.routes; counts = e.world.counts; tape = e.world.tape; clock = e.world.clock; closing = e.world.closing; raised = b }) raised_same
       ∙ ap (λ (o : Option Stop). record (shown_by p) { routes = e.world.routes; counts = e.world.counts; tape = e.world.tape; clock = e.world.clock; closing = e.world.closing; raised = e.world.raised; stop = o }) stop_same
 
-  pub agrees : AgreesWithin (at_rest e.world) (shown_by p)
+  agrees : AgreesWithin (at_rest e.world) (shown_by p)
   unfolding shown_by
   agrees = record {
     same = same;
@@ -305,6 +306,9 @@ module _ {made : Plain} {v : Seat} {words : List ℕ} {slots : List Part} (e : E
     states = λ c past. read_past (λ (r : RoutineView). r.state) Ready p.routines c (omega (arith, past, taken.routines_many, ap length e.components));
     arrivals = λ c past. read_past (λ (y : VisitorView). y.arrivals) [] p.visitors c (omega (arith, past, taken.visitors_many, ap length e.components));
   }
+
+  pub replaced : Replaces e.world (shown_by p)
+  replaced = record { idle = e.idle; same = agrees; nothing = bare }
 
   sound_of : ThreadLaws → OutsideLaws → Sound (shown_by p)
   sound_of threads outside = outside.sound (at_rest e.world) (shown_by p) agrees bare

@@ -11,8 +11,9 @@ use Rattle.wake_core.specs.declared.entries.TheConstants.{MOST_PLANNED}
 use Rattle.wake_core.specs.Run.{played_of}
 use Rattle.wake_core.specs.Plain.{Plain}
 use Rattle.wake_core.specs.WorldOf.{plain_of}
-use Rattle.wake_core.specs.Rest.{IsAtRest, at_rest}
-use Rattle.wake_core.specs.Laws.{Events, AgreesWithin}
+use Rattle.wake_core.specs.Rest.{IsAtRest}
+use Rattle.wake_core.specs.Laws.{Events}
+use Rattle.wake_core.specs.Way.{Replaces}
 use Rattle.cy_table.specs.declared.part.Part.{Part}
 use Rattle.cy_table.specs.declared.part.Part.TheVariants as part
 use Rattle.cy_table.specs.declared.pass.Pass.{Pass}
@@ -41,13 +42,12 @@ pub record IsLast (t : FlagTable) (p : Pass) : Type 0 where
   pub alone : (seat_of p).split ≡ 0
   pub empty : IsEmpty (seat_of p)
 
--- Events led from a world to one that says the same of the components as this one, in which nobody
--- has or owes anything.
+-- Events led from a world to one in which nobody has or owes anything, and this one replaces its
+-- threads.
 pub record IsReached (from w : Plain) : Type 0 where
   pub world : Plain
   pub events : Events from world
-  pub idle : IsAtRest world
-  pub same : AgreesWithin (at_rest world) w
+  pub replaced : Replaces world w
 
 -- A world that a table leaves to the player: one at rest, which events reached from the world that
 -- the table was made of, with its components, counts and stop; what the player noted was so on the

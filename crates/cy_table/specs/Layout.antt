@@ -4,11 +4,7 @@ use Rattle.cy_msg.specs.declared.stop.Stop.{Stop}
 use Rattle.cy_comp.specs.declared.state.State.{State}
 use Rattle.cy_comp.specs.declared.state.State.TheVariants.{Ready, DataWait, Sleep, Finished}
 
--- The bench, at which threads come and go; the clock; whether the run is closing; and the tape's
--- door.
-abbrev pub bench : ℕ
-bench = 0
-
+-- The clock; whether the run is closing; and the tape's door.
 abbrev pub clock_word : ℕ
 clock_word = 1
 

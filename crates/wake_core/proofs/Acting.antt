@@ -10,6 +10,7 @@ use Rattle.wake_core.specs.Run.{set_at, writes_from, readers_of}
 use Rattle.wake_core.specs.Serial.{Raised}
 use Rattle.wake_core.specs.Plain.{Plain, hand, State, Ready, DataWait, Phase, Known, Checked, Stopping, Empty, Running, Sending, stops, last_of, unsent_of, played_count}
 use Rattle.wake_core.specs.Events.{Ticks, Checks, Tapes, Sends, Yields, Releases, IsNext, OwesNothing, next_call, state_after, after_check, after_tape, after_send, after_ask, after_none, after_fetch, after_yield}
+use Rattle.wake_core.specs.Laws as event
 use Rattle.wake_core.specs.Sound.{Sound}
 use Rattle.wake_core.specs.WorldCalls.{in_hand, phase_sent, MayTape, Taped, IsStepped}
 use Rattle.wake_core.specs.Rest.{IsAtRest}
@@ -318,6 +319,7 @@ module _ (c : ℕ) (w v : Plain) (h : IsInHand c Known w) (k : Checks 0 (in_hand
     where
       by : Resumes c (record w { hands = set_at 0 (hand c (if stops w.stop w.raised c then Stopping else Checked)) w.hands }) o → Resumes c w o
       by x = record {
+        events = event.more (event.check k) r.events;
         rest = x.rest;
         stays = record { routes = x.stays.routes; counts = x.stays.counts; stop = x.stays.stop; closing = x.stays.closing; raised = x.stays.raised; clock = x.stays.clock; played = x.stays.played };
         turn = elim x.turn [

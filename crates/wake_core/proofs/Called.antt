@@ -18,6 +18,8 @@ use Rattle.wake_core.specs.Planned.{planned_count, first_reader}
 use Rattle.wake_core.specs.Serial.{heard_by, is_runnable, resume, follow, send, call_at, call_on}
 use Rattle.wake_core.specs.Plain.{Plain, hand, State, Ready, DataWait, Checked, Stopping, Asked, Empty, Running, Sending, LastSending, stops, last_of, unsent_of, taped_of, made_of, found_by}
 use Rattle.wake_core.specs.Events.{Asks, Fetches, Yields, Releases, next_call, state_after, after_ask, after_fetch, after_call, is_finished}
+use Rattle.wake_core.specs.Laws as event
+use Rattle.wake_core.specs.Laws.{Events}
 use Rattle.wake_core.specs.Sound.{Sound, Consistent}
 use Rattle.wake_core.specs.Rest.{run_shown, StaysFixed}
 use Rattle.wake_core.specs.Turns.{IsInHand, Delivered, IsCalled, Keeps, Resumes, left_of}
@@ -33,12 +35,14 @@ use Rattle.wake_core.proofs.Resuming.{resume_at, resume_free, delivered_run, end
 use Rattle.wake_core.proofs.Heeding.{sleeper_holds, same_keeps, same_before}
 use Rattle.wake_core.proofs.Making.{IsMade, call_made}
 use Rattle.wake_core.proofs.Consisting.{ask_consistent}
+use Rattle.wake_core.proofs.Ways.{one, linked}
 
 -- It asked, and its fetch found a tuple.
 pub called_by : (c : ℕ) (call : Call) (w m n : Plain) → IsInHand c Checked w → Asks 0 c w m → Fetches 0 c m n → next_call m c ≡ Some call → IsCalled c call w n
 called_by c call w m n h a f some =
     let is : n ≡ after_call 0 c call (after_ask 0 c w) = f.effect ∙ ap (λ (o : Option Call). after_fetch 0 c o m) some ∙ ap (after_call 0 c call) a.effect in
     record {
+      events = event.more (event.ask a) (one (event.fetch f));
       same = is ∙ ap (λ (x : Plain). record w { cursors = x.cursors; calls = set_at c (w.calls c ++ call ∷ []) w.calls; states = set_at c DataWait w.states; hands = x.hands }) (sym is);
       in_hand = record {
         alone = λ q other. idle_by q w n
@@ -274,10 +278,11 @@ module _ (c : ℕ) (call : Call) (w m : Plain) (u : IsMade w c call) (h : IsInHa
 
   -- The croutine yields, which says what has ended, and is given back.
   called_ends : (n : Plain) → IsInHand c Running n → n.states ≡ m.states → last_of n.routes n.calls c ≡ Some outcome → record (run_shown n) { ended = ended } ≡ resume w.routes None (run_shown w) c
-      → left_of n < left_of w → StaysFixed w n → ((j : ℕ) → heard_by (w.arrivals j) ≤ heard_by (n.arrivals j)) → ((j : ℕ) → j ≢ c → Keeps j w n) → (state : State) (o v : Plain) → Yields 0 c state n o → Releases 0 c o v → Resumes c w v
-  called_ends n hand states last run less stays hears keeps state o v y r =
+      → Events w n → left_of n < left_of w → StaysFixed w n → ((j : ℕ) → heard_by (w.arrivals j) ≤ heard_by (n.arrivals j)) → ((j : ℕ) → j ≢ c → Keeps j w n) → (state : State) (o v : Plain) → Yields 0 c state n o → Releases 0 c o v → Resumes c w v
+  called_ends n hand states last run events less stays hears keeps state o v y r =
       let e = ends_same c state n o v hand.alone hand.owes y r in
       record {
+        events = linked events (event.more (event.yield_as y) (one (event.release r)));
         rest = ends_rest c state n o v hand.alone hand.owes y r;
         stays = stays_by w v
             (ap (λ (x : Plain). x.routes) e ∙ stays.routes)
@@ -317,7 +322,7 @@ module _ (c : ℕ) (call : Call) (w m : Plain) (u : IsMade w c call) (h : IsInHa
 
   -- After a call whose output is held back, or that has none.
   quiet_resumes : FetchesFind → (held_until (Some outcome) ≡ None → unsent_of m c ≡ None) → (state : State) (o v : Plain) → Yields 0 c state m o → Releases 0 c o v → Resumes c w v
-  quiet_resumes law none state o v y r = called_ends m k.in_hand refl called_last (by (held_until (Some outcome)) refl) (called_less law) called_stays (same_hears w m (ap (λ (x : Plain). x.arrivals) k.same)) called_keeps state o v y r
+  quiet_resumes law none state o v y r = called_ends m k.in_hand refl called_last (by (held_until (Some outcome)) refl) k.events (called_less law) called_stays (same_hears w m (ap (λ (x : Plain). x.arrivals) k.same)) called_keeps state o v y r
     where
       some_none : {u : ℕ} → Some u ≡ None → ⊥
       some_none e = cc
@@ -329,7 +334,7 @@ module _ (c : ℕ) (call : Call) (w m : Plain) (u : IsMade w c call) (h : IsInHa
   -- After one whose output was sent at once.
   sent_resumes : FetchesFind → (t : Token) (n : Plain) → held_until (Some outcome) ≡ None → unsent_of m c ≡ Some t → Delivered c Running t m n
       → (state : State) (o v : Plain) → Yields 0 c state n o → Releases 0 c o v → Resumes c w v
-  sent_resumes law t n sent unsent d state o v y r = called_ends n d.in_hand (ap (λ (x : Plain). x.states) d.same) (ap (λ (x : Plain). last_of x.routes x.calls c) d.same ∙ called_last) (sent_run t n sent unsent d) less (stays_by w n
+  sent_resumes law t n sent unsent d state o v y r = called_ends n d.in_hand (ap (λ (x : Plain). x.states) d.same) (ap (λ (x : Plain). last_of x.routes x.calls c) d.same ∙ called_last) (sent_run t n sent unsent d) (linked k.events d.events) less (stays_by w n
       (ap (λ (x : Plain). x.routes) d.same ∙ called_stays.routes)
       (ap (λ (x : Plain). x.counts) d.same ∙ called_stays.counts)
       (ap (λ (x : Plain). x.stop) d.same ∙ called_stays.stop)

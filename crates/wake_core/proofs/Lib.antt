@@ -20,6 +20,7 @@ pub mod Timing
 pub mod HeldSends
 pub mod Obeying
 pub mod Sounding
+pub mod Ways
 pub mod Telling
 pub mod Spreading
 pub mod Runs
@@ -73,4 +74,5 @@ pub mod Acting
 pub mod Stopped
 pub mod Parting
 pub mod Outside
+pub mod Led
 pub mod CalledWorld

@@ -1,11 +1,12 @@
 -- A croutine whose next turn would find nothing is parked at rest: that turn, in one call.
 use Rattle.std.proofs.Common.{ℕ, ◌-◌, ◌≡◌, ◌<◌, ◌||◌, ◌&&◌, Bool, true, false, not, refl, sym, ◌∙◌, ap, subst, inl, inr, length, Option, Some, None, is_some, option_map, if◌then◌else◌, option_and_then, slice_get}
 use Rattle.cy_fuse.specs.Fusion.{fused}
-use Rattle.cy_fuse.specs.Laws.{FetchesFind}
 use Rattle.cy_comp.specs.declared.call.Call.{Call}
 use Rattle.wake_core.specs.Run.{Route, set_at}
 use Rattle.wake_core.specs.Plain.{Plain, Stop, Hand, hand, stops, State, Ready, DataWait, Sleep, Finished, Known, Checked, Stopping, Asked, Empty, Done, unsent_of, found_by}
 use Rattle.wake_core.specs.Events.{Checks, Asks, Fetches, Yields, Releases, call_on, next_call, after_ask, after_fetch, after_none, after_yield, after_release, is_finished}
+use Rattle.wake_core.specs.Laws as event
+use Rattle.wake_core.specs.Laws.{Events}
 use Rattle.wake_core.specs.Sound.{Sound}
 use Rattle.wake_core.specs.Rest.{IsAtRest}
 use Rattle.wake_core.specs.Turns.{Resumes, Rests, IsUnstopped, Parks, is_ready, is_due, is_woken, finds_nothing, parked_world}
@@ -14,7 +15,7 @@ use Rattle.wake_core.proofs.Heeding.{same_then}
 use Rattle.wake_core.proofs.Playing.{idle_by, shown_stored}
 use Rattle.wake_core.proofs.Storing.{with_parts}
 use Rattle.wake_core.proofs.Taken.{taken_world, taken_by}
-use Rattle.wake_core.proofs.Sounding.{check_sound, ask_sound, fetch_sound, yield_sound, release_sound}
+use Rattle.wake_core.proofs.Ways.{one, linked}
 
 -- A test has one answer.
 pub true_false : true ≡ false → ⊥
@@ -52,9 +53,9 @@ module _ (c : ℕ) (w : Plain) (rest : IsAtRest w) (known : c < length w.routes)
   abbrev t : Plain
   t = taken_world c true w
 
-  taken_sound : Sound t
-  taken_sound = subst (λ b. Sound (taken_world c b w)) (ap (λ (x : State). w.spent c || not (is_due x w.clock)) ready ∙ or_true (w.spent c))
-      (taken_by c w rest known s (ap (λ (x : State). is_ready x || is_woken x (w.spent c) || is_due x w.clock) ready)).1
+  taken_events : Events w t
+  taken_events = subst (λ b. Events w (taken_world c b w)) (ap (λ (x : State). w.spent c || not (is_due x w.clock)) ready ∙ or_true (w.spent c))
+      (taken_by c w rest known s (ap (λ (x : State). is_ready x || is_woken x (w.spent c) || is_due x w.clock) ready)).0.takes.events
     where
       or_true : (b : Bool) → (b || true) ≡ true
       or_true true = refl
@@ -116,13 +117,9 @@ module _ (c : ℕ) (w : Plain) (rest : IsAtRest w) (known : c < length w.routes)
       ∙ set_at_again 0 (hand c Asked) None checked.hands ∙ set_at_again 0 (hand c Checked) None t.hands ∙ set_at_again 0 (hand c Known) None w.hands
       ∙ ap (λ (h : Option Hand). set_at 0 h w.hands) (sym (rest 0).hand) ∙ set_at_itself 0 w.hands)
 
-  pub parked_sound : FetchesFind → Sound (parked_world c w)
-  parked_sound law = subst Sound parked_is
-      (release_sound 0 c yielded (after_release 0 yielded) releases
-      (yield_sound 0 c DataWait missed yielded yields
-      (fetch_sound law 0 c asked missed fetches
-      (ask_sound 0 c checked asked asks
-      (check_sound 0 c t checked checks taken_sound)))))
+  pub parked_events : Events w (parked_world c w)
+  parked_events = subst (Events w) parked_is (linked taken_events (event.more (event.check checks) (event.more (event.ask asks)
+      (event.more (event.fetch fetches) (event.more (event.yield_as yields) (one (event.release releases)))))))
 
 -- One that was resumed and is READY isn't stopped, since it would have ended.
 pub resumed_unstopped : (c : ℕ) (w v : Plain) → Resumes c w v → IsUnstopped c v
@@ -153,6 +150,7 @@ resumes_parked c w m v r p = by (finds_nothing c m) refl
     by true e =
         let ready = nothing_ready (m.states c) (is_some (unsent_of m c)) (is_some (found_by m c)) e in
         let parked : Resumes c w (parked_world c m) = record {
+          events = subst (Events w) (p.parks e) (linked r.events p.events);
           rest = λ q. idle_by q m (parked_world c m) refl refl refl refl (r.rest q);
           stays = record { routes = r.stays.routes; counts = r.stays.counts; stop = r.stays.stop; closing = r.stays.closing; raised = r.stays.raised; clock = r.stays.clock; played = r.stays.played };
           turn = elim r.turn [
@@ -172,8 +170,8 @@ resumes_parked c w m v r p = by (finds_nothing c m) refl
 
 -- What it comes to, where it is parked, and where it isn't.
 module _ (c : ℕ) (w v : Plain) where
-  pub parks_it : finds_nothing c w ≡ true → v ≡ parked_world c w → Parks c w v
-  parks_it idle is = record { parks = λ e. is; stays = λ e. absurd (true_false (sym idle ∙ e)) }
+  pub parks_it : finds_nothing c w ≡ true → Events w (parked_world c w) → v ≡ parked_world c w → Parks c w v
+  parks_it idle events is = record { events = subst (Events w) (sym is) events; parks = λ e. is; stays = λ e. absurd (true_false (sym idle ∙ e)) }
 
   pub stays_so : finds_nothing c w ≡ false → v ≡ w → Parks c w v
-  stays_so busy is = record { parks = λ e. absurd (true_false (sym e ∙ busy)); stays = λ e. is }
+  stays_so busy is = record { events = subst (Events w) (sym is) event.none; parks = λ e. absurd (true_false (sym e ∙ busy)); stays = λ e. is }

@@ -15,6 +15,8 @@ use Rattle.wake_core.specs.Settle.{Settles, Runs}
 use Rattle.wake_core.specs.Serial.{Raised, raised_in, heard_by, is_roused, play, next, last_clock, Plays, SerialRun}
 use Rattle.wake_core.specs.Plain.{Plain, Stop, State, Ready, DataWait, Sleep, Finished, opening_world, stops, to_play_from, to_play, played_count, unsent_of}
 use Rattle.wake_core.specs.Events.{Ticks, IsRaised, after_stop}
+use Rattle.wake_core.specs.Laws as event
+use Rattle.wake_core.specs.Laws.{Events}
 use Rattle.wake_core.specs.Sound.{Sound}
 use Rattle.wake_core.specs.LawfulRun.{Quiet, LawfulRun}
 use Rattle.wake_core.specs.Rest.{IsAtRest, run_shown, IsOpening, IsToPlay, IsScanOf, MayPlay, StaysMade, HeedsStop, Heeds, is_loose}
@@ -24,6 +26,7 @@ use Rattle.wake_core.proofs.Listing.{take_next}
 use Rattle.wake_core.proofs.Listed.{on_played, to_play_total}
 use Rattle.wake_core.proofs.Heeding.{heeds_on, told_keeps, sleeper_holds, hears_more}
 use Rattle.wake_core.proofs.Ending.{settled_quiet}
+use Rattle.wake_core.proofs.Ways.{one as single, linked}
 
 -- What is behind the first of a list stands there so much further on.
 get_dropped : {X : Type 0} (n : ℕ) (xs : List X) (k : ℕ) → slice_get (drop n xs) k ≡ slice_get xs (n + k)
@@ -92,6 +95,7 @@ module _ (tokens : List Token) (w : Plain) (i : ℕ) (t : Token) (timed : IsTime
 -- So many were played, from a place on, ..
 pub plays_begin : (scan : List ℕ) (tokens : List Token) (n : ℕ) (w : Plain) → IsPlayedTo tokens w n → PlaysOn scan tokens n n w w
 plays_begin scan tokens n w p = record {
+  events = event.none;
   ordered = omega arith;
   none = λ e. refl;
   played = p;
@@ -111,6 +115,7 @@ plays_begin scan tokens n w p = record {
 pub plays_step : (scan : List ℕ) (tokens : List Token) (n i : ℕ) (first w m v : Plain) (t : Token) → IsTimed tokens → slice_get tokens i ≡ Some t → Sound w → PlaysOn scan tokens n i first w
     → PlaysOne t w m → IsSettled scan m v → PlaysOn scan tokens n (i + 1) first v
 plays_step scan tokens n i first w m v t timed at s h played settled = record {
+  events = linked h.events (linked played.events settled.events);
   ordered = let o = h.ordered in omega (arith, o);
   none = λ e. absurd (past h.ordered e);
   played = record {
@@ -386,6 +391,14 @@ module _ (scan : List ℕ) (tokens : List Token) (first : Plain) (may : MayPlay 
                 final_raised;
             exact = final_played;
           }
+
+          -- All of it is by events.
+          pub serial_events : Events first v
+          serial_events = linked one.events (linked (by w.stop refl) (linked two.events (event.more (event.tick tick) settled.events)))
+            where
+              by : (o : Option Stop) → w.stop ≡ o → Events w u
+              by None e = subst (Events w) (sym (none e)) event.none
+              by (Some s) e = subst (Events w) (sym (some s e)) (single (event.stop (stop_may s e)))
 
           pub serial_stays : StaysMade first v
           serial_stays = record {

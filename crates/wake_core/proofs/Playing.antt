@@ -9,6 +9,7 @@ use Rattle.wake_core.specs.Run.{Route, Run, set_at, arrive, readers_of, writes_f
 use Rattle.wake_core.specs.Serial.{play}
 use Rattle.wake_core.specs.Plain.{Plain, State, unsent_of, outs_of}
 use Rattle.wake_core.specs.Events.{OwesNothing, Ticks, Tapes, after_tape, is_finished}
+use Rattle.wake_core.specs.Laws as event
 use Rattle.wake_core.specs.Laws.{IsIdle}
 use Rattle.wake_core.specs.Rest.{IsAtRest, run_shown}
 use Rattle.wake_core.specs.Turns.{Delivers, PlaysOne, flag_after}
@@ -89,6 +90,7 @@ plays_by t w m n v rest tick tape d =
     let d' : Delivers 0 taped v = subst (λ (x : Plain). Delivers 0 x v) is d in
     let unwritten : writes_from 0 w.routes t.channel ≡ None = ap (λ (x : Plain). writes_from 0 x.routes t.channel) (sym tick.effect) ∙ tape.next.unwritten in
     record {
+      events = event.more (event.tick tick) (event.more (event.tape tape) d.events);
       rest = λ q. elim (place q 0) [
         | inl e ↦ record {
           hand = ap (λ (x : Plain). x.hands q) d'.same ∙ (rest q).hand;

@@ -10,6 +10,7 @@ use Rattle.wake_core.specs.Planned.{planned_count, first_reader, counts_from}
 use Rattle.wake_core.specs.Serial.{Raised, heard_by, resume, resume_by, send_held, go_on, send, is_runnable}
 use Rattle.wake_core.specs.Plain.{Plain, hand, State, Ready, DataWait, Sleep, Phase, Checked, Asked, Empty, Sending, Done, stops, unsent_of}
 use Rattle.wake_core.specs.Events.{Asks, Fetches, Yields, Releases, OwesNothing, next_call, after_ask, after_fetch, after_none, is_finished}
+use Rattle.wake_core.specs.Laws as event
 use Rattle.wake_core.specs.Sound.{Sound}
 use Rattle.wake_core.specs.Rest.{IsAtRest, run_shown, StaysFixed}
 use Rattle.wake_core.specs.Turns.{IsAlone, IsInHand, Delivered, IsNamed, IsStep, Keeps, Resumes, sum_below, calls_left, left_of}
@@ -20,6 +21,7 @@ use Rattle.wake_core.proofs.Playing.{run_is, idle_by}
 use Rattle.wake_core.proofs.Parking.{held_can}
 use Rattle.wake_core.proofs.Heeding.{hears_more, sleeper_holds, same_keeps, same_then, told_keeps}
 use Rattle.wake_core.proofs.Putting.{unsent_put}
+use Rattle.wake_core.proofs.Ways.{one, linked}
 
 pub resume_at : (routes : List Route) (stop : Option Raised) (r : Run) (c : ℕ) (x : Route) → slice_get routes c ≡ Some x → resume routes stop r c ≡ resume_by routes x stop c r
 resume_at routes stop r c x at = rw at refl
@@ -179,6 +181,7 @@ module _ (c : ℕ) (t : Token) (w m n v : Plain) (h : IsInHand c Checked w) (s :
   held_resumes =
       let e = ends_same c Ready m n v d.in_hand.alone d.in_hand.owes y r in
       record {
+        events = linked d.events (event.more (event.yield_as y) (one (event.release r)));
         rest = ends_rest c Ready m n v d.in_hand.alone d.in_hand.owes y r;
         stays = stays_by w v
             (ap (λ (x : Plain). x.routes) e ∙ ap (λ (x : Plain). x.routes) d.same)
@@ -222,6 +225,7 @@ module _ (c : ℕ) (w m n o v : Plain) (h : IsInHand c Checked w) (calm : stops 
 
   pub none_resumes : Resumes c w v
   none_resumes = record {
+    events = event.more (event.ask a) (event.more (event.fetch f) (event.more (event.yield_as y) (one (event.release r))));
     rest = ends_rest c DataWait n o v none_alone none_owes y r;
     stays = stays_by w v (ap (λ (x : Plain). x.routes) none_same) (ap (λ (x : Plain). x.counts) none_same) (ap (λ (x : Plain). x.stop) none_same) (ap (λ (x : Plain). x.closing) none_same) (ap (λ (x : Plain). x.raised) none_same) (ap (λ (x : Plain). x.clock) none_same)
         (ap (λ (x : Plain). played_of x.routes x.tape) none_same);

@@ -13,7 +13,6 @@ use Rattle.wake_core.specs.Sound.{IsWired, HeldIn, Consistent, Sound}
 use Rattle.wake_core.specs.LawfulRun.{Lost}
 use Rattle.wake_core.specs.Laws.{KeepsCalls, Event, acquire, spend, ready, check, stop, ask, fetch, tape, send, fill, look, clear, yield_as, release, tick, close, Events, none, more, IsIdle, with_idle}
 use Rattle.wake_core.proofs.Places.{place, set_at_there, set_at_other, set_at_itself}
-use Rattle.wake_core.proofs.Delivering.{renew_delivered}
 use Rattle.wake_core.proofs.Sounding.{acquire_sound, spend_sound, ready_sound, check_sound, stop_sound, ask_sound, fetch_sound, tape_sound, send_sound, fill_sound, look_sound, clear_sound, yield_sound, release_sound, tick_sound, close_sound}
 
 -- Before any call there is no outcome, and nothing is put out.
@@ -154,7 +153,7 @@ module _ (routes : List Route) (counts : List ℕ) (stop : Option Stop) (wired :
 pub none_lost : (w : Plain) → Sound w → (c : ℕ) → Lost w c → ⊥
 none_lost w s c l = s.wakes.none_lost c l.spent l.unfetched l.untold l.waits (λ p. (l.free p _, l.free p _, l.free p _))
 
-event_sound : FetchesFind → (w v : Plain) → Event w v → Sound w → Sound v
+pub event_sound : FetchesFind → (w v : Plain) → Event w v → Sound w → Sound v
 event_sound law w v (acquire {p} {c} e) s = acquire_sound p c w v e s
 event_sound law w v (spend {p} {c} {seen} e) s = spend_sound p c seen w v e s
 event_sound law w v (ready {p} {c} e) s = ready_sound p c w v e s
@@ -288,14 +287,3 @@ replaced_sound w v idle idle' same s =
     ∙ ap (λ (n : ℕ → List ℕ). record w { news = n; clearing = v.clearing; tokens = v.tokens }) news
     ∙ ap (λ (n : ℕ → List ℕ). record w { clearing = n; tokens = v.tokens }) clearing))
     (retoken_sound v.tokens w (λ p. inr (idle p).owes) s)
-
--- News may be fewer.
-pub fewer_news : (w v : Plain) → v ≡ record w { news = v.news } → ((p c : ℕ) → lists c (v.news p) ≡ true → lists c (w.news p) ≡ true) → Consistent w → Consistent v
-fewer_news w v same fewer s = subst Consistent (sym same) record {
-  wired = s.wired;
-  held = s.held;
-  called = s.called;
-  delivered = renew_delivered v.news w.clearing (λ p c l. inl (fewer p c l)) (λ p c l. inr l) s.delivered;
-  causal = s.causal;
-  room = s.room;
-}

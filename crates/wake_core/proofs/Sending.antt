@@ -4,6 +4,7 @@ use Rattle.cy_msg.specs.declared.token.Token.{Token}
 use Rattle.wake_core.specs.Run.{readers_of, played_of}
 use Rattle.wake_core.specs.Plain.{Plain, hand, Phase, unsent_of, outs_of}
 use Rattle.wake_core.specs.Events.{Sends, after_send}
+use Rattle.wake_core.specs.Laws as event
 use Rattle.wake_core.specs.Sound.{Consistent}
 use Rattle.wake_core.specs.Turns.{Delivers, Delivered, IsAlone, flag_after}
 use Rattle.wake_core.proofs.Places.{set_at_same, set_at_other}
@@ -16,6 +17,7 @@ delivered_by c next t w m v alone s send d =
     let d' : Delivers 0 sent v = subst (λ (x : Plain). Delivers 0 x v) send.effect d in
     let one = send_taped w c t send.unsent s.wired in
     record {
+      events = event.more (event.send send) d.events;
       same = d'.same ∙ ap (λ (x : Plain). record w { tape = w.tape ++ t ∷ []; arrivals = v.arrivals; hands = x.hands; fills = v.fills; news = v.news; clearing = v.clearing; tokens = x.tokens; spent = v.spent }) (sym d'.same);
       arrivals = delivered_arrivals 0 sent v d' t w refl refl refl;
       spent = λ k. d'.spent k ∙ ap (λ rs. flag_after rs w k) (set_at_same 0 (readers_of w.routes t.channel) w.fills);

@@ -1,4 +1,4 @@
--- What holds after a message came to all of its readers.
+-- The events by which a message comes to all of its readers, and what holds then.
 use Rattle.std.proofs.Common.{ℕ, ◌-◌, ◌≡◌, ◌≤◌, ◌<◌, ◌==◌, ◌&&◌, ◌≢◌, ◌||◌, not, Bool, true, false, refl, sym, ◌∙◌, ap, subst, inl, inr, arith, List, [], ◌∷◌, ◌++◌, append_assoc, length, drop, Some, slice_get, get_or, set, if◌then◌else◌}
 use Rattle.std.proofs.lemmas.Bool.Decides.{eqb_tells}
 use Rattle.std.proofs.lemmas.List.{append-nil, length-set}
@@ -11,6 +11,8 @@ use Rattle.wake_core.specs.Run.{Route, set_at, arrive, readers_of}
 use Rattle.wake_core.specs.Plain.{Plain, State, Ready, blank, lists_reader}
 use Rattle.wake_core.specs.Events.{is_waiting, after_fill}
 use Rattle.wake_core.specs.Fields.{read, fills_of, no_visitor, no_routine, IsVisited, IsRoomy, IsOwing}
+use Rattle.wake_core.specs.Laws as event
+use Rattle.wake_core.specs.Laws.{Events}
 use Rattle.wake_core.specs.Sound.{Sound}
 use Rattle.wake_core.specs.Turns.{Delivers, flag_after}
 use Rattle.wake_core.specs.private.Delivery.{arrived_at, arrived_at_all, MayArrive, MayArriveAtAll, cleared_by, cleared_by_all, AreReaders}
@@ -21,6 +23,7 @@ use Rattle.wake_core.proofs.Arriving.{there}
 use Rattle.wake_core.proofs.Filling.{fill_known, fill_role, fill_room, filled_visited, filled_roomy}
 use Rattle.wake_core.proofs.Sounding.{fill_sound}
 use Rattle.wake_core.proofs.Telling.{firsts, flags_after, all_told}
+use Rattle.wake_core.proofs.Ways.{linked}
 
 -- All readers that a thread still had to fill were filled.
 abbrev pub filled_all : List (ℕ × ℕ) → (p : ℕ) → Plain → Plain
@@ -30,17 +33,17 @@ filled_all rs p w = record w {
   news = set_at p (w.news p ++ firsts rs) w.news;
 }
 
-pub all_filled : (rs : List (ℕ × ℕ)) (p : ℕ) (w : Plain) → w.fills p ≡ rs → Sound w → Sound (filled_all rs p w)
-all_filled [] p w none s =
-    subst (λ (f : ℕ → List (ℕ × ℕ)). Sound record w { fills = f; news = set_at p (w.news p ++ []) w.news }) (sym (ap (λ l. set_at p l w.fills) (sym none) ∙ set_at_itself p w.fills))
-    (subst (λ (n : ℕ → List ℕ). Sound record w { news = n }) (sym (ap (λ l. set_at p l w.news) (append-nil (w.news p)) ∙ set_at_itself p w.news)) s)
-all_filled (r ∷ rest) p w first s =
-    subst (λ (n : ℕ → List ℕ). Sound record w { arrivals = arrive (r ∷ rest) (w.tokens p) w.arrivals; fills = set_at p [] w.fills; news = n })
+pub all_filled : (rs : List (ℕ × ℕ)) (p : ℕ) (w : Plain) → w.fills p ≡ rs → Events w (filled_all rs p w)
+all_filled [] p w filled =
+    subst (λ (f : ℕ → List (ℕ × ℕ)). Events w (record w { fills = f; news = set_at p (w.news p ++ []) w.news })) (sym (ap (λ l. set_at p l w.fills) (sym filled) ∙ set_at_itself p w.fills))
+    (subst (λ (n : ℕ → List ℕ). Events w (record w { news = n })) (sym (ap (λ l. set_at p l w.news) (append-nil (w.news p)) ∙ set_at_itself p w.news)) event.none)
+all_filled (r ∷ rest) p w first =
+    subst (λ (n : ℕ → List ℕ). Events w (record w { arrivals = arrive (r ∷ rest) (w.tokens p) w.arrivals; fills = set_at p [] w.fills; news = n }))
     (ap (λ l. set_at p (l ++ firsts rest) (set_at p told w.news)) (set_at_same p told w.news) ∙ set_at_again p told (told ++ firsts rest) w.news ∙ ap (λ l. set_at p l w.news) (joined (r.1 == 0)))
-    (subst (λ (f : ℕ → List (ℕ × ℕ)). Sound record w { arrivals = arrive (r ∷ rest) (w.tokens p) w.arrivals; fills = f; news = set_at p (set_at p told w.news p ++ firsts rest) (set_at p told w.news) })
+    (subst (λ (f : ℕ → List (ℕ × ℕ)). Events w (record w { arrivals = arrive (r ∷ rest) (w.tokens p) w.arrivals; fills = f; news = set_at p (set_at p told w.news p ++ firsts rest) (set_at p told w.news) }))
     (set_at_again p rest [] w.fills)
-    (all_filled rest p (after_fill p r.0 r.1 rest w) (set_at_same p rest w.fills)
-    (fill_sound p r.0 r.1 w (after_fill p r.0 r.1 rest w) record { later = rest; first = first; effect = refl } s)))
+    (event.more (event.fill {w = w} {v = after_fill p r.0 r.1 rest w} (record { later = rest; first = first; effect = refl }))
+    (all_filled rest p (after_fill p r.0 r.1 rest w) (set_at_same p rest w.fills))))
   where
     told : List ℕ
     told = if r.1 == 0 then w.news p ++ r.0 ∷ [] else w.news p
@@ -50,13 +53,13 @@ all_filled (r ∷ rest) p w first s =
     joined false = refl
 
 -- .. and all who wait were told, where nothing else was to be told.
-pub all_delivered : (rs : List (ℕ × ℕ)) (p : ℕ) (w : Plain) → w.fills p ≡ rs → w.news p ≡ [] → w.clearing p ≡ [] → Sound w
-    → Sound record w { arrivals = arrive rs (w.tokens p) w.arrivals; fills = set_at p [] w.fills; spent = flags_after rs w.states w.spent }
-all_delivered rs p w fills looked cleared s =
-    subst (λ (n : ℕ → List ℕ). Sound record w { arrivals = arrive rs (w.tokens p) w.arrivals; fills = set_at p [] w.fills; news = n; spent = flags_after rs w.states w.spent })
+pub all_delivered : (rs : List (ℕ × ℕ)) (p : ℕ) (w : Plain) → w.fills p ≡ rs → w.news p ≡ [] → w.clearing p ≡ []
+    → Events w (record w { arrivals = arrive rs (w.tokens p) w.arrivals; fills = set_at p [] w.fills; spent = flags_after rs w.states w.spent })
+all_delivered rs p w fills looked cleared =
+    subst (λ (n : ℕ → List ℕ). Events w (record w { arrivals = arrive rs (w.tokens p) w.arrivals; fills = set_at p [] w.fills; news = n; spent = flags_after rs w.states w.spent }))
     (set_at_again p (w.news p ++ firsts rs) [] w.news ∙ ap (λ l. set_at p l w.news) (sym looked) ∙ set_at_itself p w.news)
-    (all_told rs p (filled_all rs p w) (set_at_same p [] w.fills) (set_at_same p (w.news p ++ firsts rs) w.news ∙ ap (λ l. l ++ firsts rs) looked) cleared
-    (all_filled rs p w fills s))
+    (linked (all_filled rs p w fills)
+    (all_told rs p (filled_all rs p w) (set_at_same p [] w.fills) (set_at_same p (w.news p ++ firsts rs) w.news ∙ ap (λ l. l ++ firsts rs) looked) cleared))
 
 -- Visitors show what arrived, are those of the components, and have room.
 pub record Fits (routes : List Route) (counts : List ℕ) (routines : ℕ → RoutineView) (tape : ℕ) (arrivals : ℕ → List Arrival) (visitors : List VisitorView) : Type 0 where
@@ -237,6 +240,7 @@ told_flag (r ∷ rest) states spent c = elim (eqb_tells r.0 c) [
 pub delivers : {p : ℕ} {w v : Plain} {rs : List (ℕ × ℕ)} → w.fills p ≡ rs → w.news p ≡ [] → w.clearing p ≡ [] → v ≡ record w { arrivals = arrive rs (w.tokens p) w.arrivals; fills = set_at p [] w.fills; spent = flags_after rs w.states w.spent }
     → Delivers p w v
 delivers {p} {w} {v} {rs} fills looked cleared e = record {
+  events = subst (Events w) (sym e) (all_delivered rs p w fills looked cleared);
   same = e ∙ ap (λ (x : Plain). record w { arrivals = x.arrivals; fills = x.fills; news = x.news; clearing = x.clearing; spent = x.spent }) (sym e);
   arrivals = ap (λ (x : Plain). x.arrivals) e ∙ ap (λ l. arrive l (w.tokens p) w.arrivals) (sym fills);
   fills = ap (λ (x : Plain). x.fills) e;

@@ -8,6 +8,7 @@ use Rattle.wake_core.specs.Run.{Route, Run, set_at, put, played_of}
 use Rattle.wake_core.specs.Serial.{Raised, resume, send, end_of}
 use Rattle.wake_core.specs.Plain.{Plain, State, Ready, Finished, Stopping, LastSending, stops, unsent_of}
 use Rattle.wake_core.specs.Events.{Sends, Yields, Releases, is_finished, after_send, after_yield}
+use Rattle.wake_core.specs.Laws as event
 use Rattle.wake_core.specs.Sound.{Sound}
 use Rattle.wake_core.specs.Rest.{run_shown}
 use Rattle.wake_core.specs.WorldCalls.{in_hand, phase_sent, IsStepped}
@@ -22,6 +23,7 @@ use Rattle.wake_core.proofs.Parking.{held_can, roused_can}
 use Rattle.wake_core.proofs.Heeding.{sleeper_holds, same_keeps}
 use Rattle.wake_core.proofs.Resuming.{resume_at, resume_held, resume_free, delivered_run, ends_same, ends_rest, stays_by, delivered_keeps, delivered_hears, same_hears, ends_keep, tape_less}
 use Rattle.wake_core.proofs.Acting.{other_stepped}
+use Rattle.wake_core.proofs.Ways.{one, linked}
 
 -- What has ended is that component besides.
 ends_shown : (c : ℕ) (w : Plain) → run_shown (record w { states = set_at c Finished w.states }) ≡ end_of c (run_shown w)
@@ -74,6 +76,7 @@ module _ (c : ℕ) (w : Plain) (h : IsInHand c Stopping w) (s : Sound w) where
 
       pub quiet_resumes : Resumes c w v
       quiet_resumes = record {
+        events = event.more (event.yield_as quiet_yields) (one (event.release quiet_releases));
         rest = ends_rest c Finished w g.between v h.alone h.owes quiet_yields quiet_releases;
         stays = stays_by w v (ap (λ (x : Plain). x.routes) quiet_same) (ap (λ (x : Plain). x.counts) quiet_same) (ap (λ (x : Plain). x.stop) quiet_same) (ap (λ (x : Plain). x.closing) quiet_same)
             (ap (λ (x : Plain). x.raised) quiet_same) (ap (λ (x : Plain). x.clock) quiet_same) (ap (λ (x : Plain). played_of x.routes x.tape) quiet_same);
@@ -142,6 +145,7 @@ module _ (c : ℕ) (w : Plain) (h : IsInHand c Stopping w) (s : Sound w) where
 
         pub sent_resumes : Resumes c w v
         sent_resumes = record {
+          events = linked d.events (event.more (event.yield_as sent_yields) (one (event.release sent_releases)));
           rest = ends_rest c Finished m g.between v d.in_hand.alone d.in_hand.owes sent_yields sent_releases;
           stays = stays_by w v
               (ap (λ (x : Plain). x.routes) sent_same ∙ ap (λ (x : Plain). x.routes) d.same)

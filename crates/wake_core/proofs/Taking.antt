@@ -4,20 +4,24 @@ use Rattle.std.proofs.lemmas.Bool.Decides.{eqb_tells}
 use Rattle.wake_core.specs.Run.{set_at}
 use Rattle.wake_core.specs.Plain.{Plain, Hand, hand, State, Ready, DataWait, Sleep, Finished, Fresh, Woken, Known, lists}
 use Rattle.wake_core.specs.Events.{Acquires, Spends, Readies, Releases, IsDue, is_waiting, is_finished, phase_after_spend, after_ready}
+use Rattle.wake_core.specs.Laws as event
+use Rattle.wake_core.specs.Laws.{Events}
 use Rattle.wake_core.specs.Sound.{Sound}
 use Rattle.wake_core.specs.Rest.{IsAtRest}
 use Rattle.wake_core.specs.Turns.{Takes, IsParked, Passes, Finds, IsInHand, is_woken}
 use Rattle.wake_core.proofs.Places.{place, set_at_same, set_at_other, set_at_again, set_at_itself}
 use Rattle.wake_core.proofs.Listing.{lists-append, lists_snoc, either}
 use Rattle.wake_core.proofs.Playing.{idle_by}
+use Rattle.wake_core.proofs.Ways.{one, linked}
 
 takes_is : (c : ℕ) (w v : Plain) (s : State) (b : Bool) → c < length w.routes → v ≡ record w { hands = set_at 0 (hand c Known) w.hands; states = set_at c s w.states; spent = set_at c b w.spent }
-    → (w.spent c ≡ true → b ≡ true) → (s ≡ Ready → (IsDue (w.states c) w.clock → ⊥) → (w.states c ≡ Ready) ⊎ (w.spent c ≡ false)) → ((IsDue (w.states c) w.clock → ⊥) → b ≡ true) → (IsDue (w.states c) w.clock → b ≡ w.spent c) → (s ≢ Ready → (b ≡ true) × (s ≡ w.states c) × (IsDue s w.clock → ⊥)) → is_finished s ≡ is_finished (w.states c) → (is_woken (w.states c) (w.spent c) ≡ true → s ≡ Ready) → Takes c w v
-takes_is c w v s b known e spends woken fresh due parked ended wakes =
+    → (w.spent c ≡ true → b ≡ true) → (s ≡ Ready → (IsDue (w.states c) w.clock → ⊥) → (w.states c ≡ Ready) ⊎ (w.spent c ≡ false)) → ((IsDue (w.states c) w.clock → ⊥) → b ≡ true) → (IsDue (w.states c) w.clock → b ≡ w.spent c) → (s ≢ Ready → (b ≡ true) × (s ≡ w.states c) × (IsDue s w.clock → ⊥)) → is_finished s ≡ is_finished (w.states c) → (is_woken (w.states c) (w.spent c) ≡ true → s ≡ Ready) → Events w v → Takes c w v
+takes_is c w v s b known e spends woken fresh due parked ended wakes events =
     let state : v.states c ≡ s = ap (λ (x : Plain). x.states c) e ∙ set_at_same c s w.states in
     let flag : v.spent c ≡ b = ap (λ (x : Plain). x.spent c) e ∙ set_at_same c b w.spent in
     let clock : v.clock ≡ w.clock = ap (λ (x : Plain). x.clock) e in
     record {
+      events = events;
       known = known;
       same = e ∙ ap (λ (x : Plain). record w { hands = x.hands; states = x.states; spent = x.spent }) (sym e);
       hands = ap (λ (x : Plain). x.hands) e;
@@ -72,7 +76,7 @@ module _ (c : ℕ) (w m : Plain) (a : Acquires 0 c w m) where
       r.effect ∙ ap (after_ready 0 c) a.effect
       ∙ ap (λ (h : ℕ → Option Hand). record w { hands = h; states = set_at c Ready w.states }) (set_at_again 0 (hand c Fresh) (hand c Known) w.hands)
       ∙ ap (λ (b : ℕ → Bool). record w { hands = set_at 0 (hand c Known) w.hands; states = set_at c Ready w.states; spent = b }) (sym (set_at_itself c w.spent)) in (
-        takes_is c w v Ready (w.spent c) a.known e (λ was. was) (λ is late. absurd (late due)) (λ late. absurd (late due)) (λ is. refl) (λ other. absurd (other refl)) (due_goes_on (w.states c) w.clock due) (λ woke. refl),
+        takes_is c w v Ready (w.spent c) a.known e (λ was. was) (λ is late. absurd (late due)) (λ late. absurd (late due)) (λ is. refl) (λ other. absurd (other refl)) (due_goes_on (w.states c) w.clock due) (λ woke. refl) (event.more (event.acquire a) (one (event.ready r))),
         ap (λ (x : Plain). x.states c) e ∙ set_at_same c Ready w.states,
       )
 
@@ -98,7 +102,8 @@ module _ (c : ℕ) (w m : Plain) (a : Acquires 0 c w m) where
         ∙ ap (λ (h : ℕ → Option Hand). record n { hands = set_at 0 (hand c Known) h; states = set_at c Ready n.states }) spent_hands
         ∙ ap (λ (h : ℕ → Option Hand). record n { hands = h; states = set_at c Ready n.states }) (set_at_again 0 (hand c (phase_after_spend (m.states c) (m.spent c))) (hand c Known) w.hands)
         ∙ ap (λ (x : Plain). record x { hands = set_at 0 (hand c Known) w.hands; states = set_at c Ready x.states }) spent_is in (
-          takes_is c w v Ready true a.known e (λ was. refl) (λ is late. inr (clear (w.states c) (w.spent c) woke)) (λ late. refl) (λ due. absurd (not_due due)) (λ other. absurd (other refl)) (woken_goes_on (w.states c) (w.spent c) woke) (λ woke. refl),
+          takes_is c w v Ready true a.known e (λ was. refl) (λ is late. inr (clear (w.states c) (w.spent c) woke)) (λ late. refl) (λ due. absurd (not_due due)) (λ other. absurd (other refl)) (woken_goes_on (w.states c) (w.spent c) woke) (λ woke. refl)
+              (event.more (event.acquire a) (event.more (event.spend s) (one (event.ready r)))),
           ap (λ (x : Plain). x.states c) e ∙ set_at_same c Ready w.states,
         )
 
@@ -110,6 +115,7 @@ module _ (c : ℕ) (w m : Plain) (a : Acquires 0 c w m) where
         ∙ ap (λ (h : ℕ → Option Hand). record w { hands = h; spent = set_at c true w.spent }) (spent_hands ∙ ap (λ (b : Bool). set_at 0 (hand c (if b then Woken else Known)) w.hands) not)
         ∙ ap (λ (t : ℕ → State). record w { hands = set_at 0 (hand c Known) w.hands; states = t; spent = set_at c true w.spent }) (sym (set_at_itself c w.states)) in
         takes_is c w n (w.states c) true a.known e (λ was. refl) (λ is late. inl is) (λ late. refl) (λ due. absurd (not_due due)) (λ other. (refl, refl, not_due)) refl (λ woke. absurd (true_false (sym woke ∙ sym (ap (λ (x : Plain). is_woken (x.states c) (x.spent c)) a.effect) ∙ not)))
+        (event.more (event.acquire a) (one (event.spend s)))
 
 -- Whoever takes one at rest has it in hand.
 pub takes_hand : (c : ℕ) (w v : Plain) → IsAtRest w → Takes c w v → IsInHand c Known v
@@ -155,6 +161,7 @@ passes_one c w m v rest t other r =
     ∙ ap (λ (s : ℕ → State). record w { states = s; spent = m.spent }) states in
     let flag : (k : ℕ) → k ≡ c → v.spent k ≡ true = λ k same. ap (λ (x : Plain). x.spent k) e ∙ ap m.spent same ∙ is.0.spent in
     record {
+      events = linked t.events (one (event.release r));
       effect = e ∙ ap (λ (x : Plain). record w { spent = x.spent }) (sym e);
       spends = λ k was. elim (place k c) [
         | inl same ↦ flag k same
@@ -189,8 +196,12 @@ parked_on order c w v t p =
       not_due = λ due. p.not_due (subst (λ (x : State). IsDue x w.clock) state (subst (λ n. IsDue (v.states c) n) (ap (λ (x : Plain). x.clock) t.effect) due));
     }
 
+pub passes_none : (w : Plain) → Passes [] w w
+passes_none w = record { events = event.none; effect = refl; spends = λ c was. was; parked = λ c among. cc; waited = λ c among. cc; others = λ c none. refl }
+
 pub passes_more : (xs ys : List ℕ) (w m v : Plain) → Passes xs w m → Passes ys m v → Passes (xs ++ ys) w v
 passes_more xs ys w m v a b = record {
+  events = linked a.events b.events;
   effect = b.effect ∙ ap (λ (x : Plain). record x { spent = v.spent }) a.effect;
   spends = λ c was. b.spends c (a.spends c was);
   parked = λ c among. elim (either (lists c xs) (lists c ys) (sym (lists-append c xs ys) ∙ among)) [

@@ -5,6 +5,8 @@ use Rattle.wake_core.specs.Settle.{Settles, still, goes}
 use Rattle.wake_core.specs.Serial.{Raised, stop_of, is_roused, is_runnable, resume, next}
 use Rattle.wake_core.specs.Plain.{Plain, Stop, State, Ready, DataWait, Sleep, Finished, stops, unsent_of, lists}
 use Rattle.wake_core.specs.Events.{IsDue, is_finished}
+use Rattle.wake_core.specs.Laws as event
+use Rattle.wake_core.specs.Laws.{Events}
 use Rattle.wake_core.specs.Sound.{Sound}
 use Rattle.wake_core.specs.Rest.{IsAtRest, run_shown, StaysFixed, IsScanOf, HeedsStop, Heeds, is_loose}
 use Rattle.wake_core.specs.Turns.{Takes, Passes, Finds, IsNamed, IsStep, Rests, Resumes, Turns, IsSettled, sum_below, loose, loose_of, left_of, turns_left}
@@ -14,6 +16,7 @@ use Rattle.wake_core.proofs.Parking.{parked_still, find_behind, find_none, unsen
 use Rattle.wake_core.proofs.Resuming.{sum_less}
 use Rattle.wake_core.proofs.Taking.{passes_rest}
 use Rattle.wake_core.proofs.Obeying.{named_stops}
+use Rattle.wake_core.proofs.Ways.{linked}
 use Rattle.wake_core.proofs.Heeding.{heeds_on, passes_keeps, takes_keeps}
 use Rattle.std.proofs.lemmas.Bool.Decides.{eqb_tells}
 
@@ -253,6 +256,7 @@ module _ (order : List ℕ) (c : ℕ) (w m v : Plain) (rest : IsAtRest w) (f : F
 
   pub turns_by : Turns order w v
   turns_by = record {
+    events = linked (linked f.passes.events f.takes.events) r.events;
     rest = r.rest;
     stays = found_stays;
     shows = λ stop heeds. (
@@ -270,6 +274,7 @@ module _ (order : List ℕ) (c : ℕ) (w m v : Plain) (rest : IsAtRest w) (f : F
 
 -- What settles from here settles from the beginning.
 pub record SettlesOn (scan : List ℕ) (first w : Plain) : Type 0 where
+  pub events : Events first w
   pub rest : IsAtRest w
   pub stays : StaysFixed first w
   pub onward : (stop : Option Raised) → Heeds stop first
@@ -290,10 +295,11 @@ stays_on w m v a b = record {
 }
 
 pub settles_begin : (scan : List ℕ) (w : Plain) → IsAtRest w → SettlesOn scan w w
-settles_begin scan w rest = record { rest = rest; stays = stays_same w; onward = λ stop heeds. (λ e s. s, heeds) }
+settles_begin scan w rest = record { events = event.none; rest = rest; stays = stays_same w; onward = λ stop heeds. (λ e s. s, heeds) }
 
 pub settles_step : (scan : List ℕ) (first w v : Plain) → Turns scan w v → SettlesOn scan first w → SettlesOn scan first v
 settles_step scan first w v t h = record {
+  events = linked h.events t.events;
   rest = t.rest;
   stays = stays_on first w v h.stays t.stays;
   onward = λ stop heeds.
@@ -309,6 +315,7 @@ settles_step scan first w v t h = record {
 
 pub settles_end : (scan : List ℕ) (first w v : Plain) → Sound v → Passes scan w v → SettlesOn scan first w → IsSettled scan first v
 settles_end scan first w v s p h = record {
+  events = linked h.events p.events;
   rest = passes_rest scan w v h.rest p;
   stays = stays_on first w v h.stays record {
     routes = ap (λ (x : Plain). x.routes) p.effect;

@@ -18,7 +18,7 @@ use Rattle.wake_core.specs.declared.entries.TheConstants.{MOST_PLANNED}
 use Rattle.wake_core.specs.Run.{Route, routes_of, set_at, writes_from}
 use Rattle.wake_core.specs.Planned.{planned_count, first_reader, counts_from}
 use Rattle.wake_core.specs.Plain.{Plain, Stop, hand, State, Ready, Finished, Phase, Fresh, Woken}
-use Rattle.wake_core.specs.Plain.{Known, Checked, Asked, Done, opening_world, lists, lists_reader}
+use Rattle.wake_core.specs.Plain.{Known, Checked, Asked, Done, opening_world}
 use Rattle.wake_core.specs.Plain.{unsent_of}
 use Rattle.wake_core.specs.Events.{IsFree, OwesNothing, next_call, IsNext, MaySend, MayYield}
 use Rattle.wake_core.specs.Events.{after_acquire, after_spend, after_ready, after_check, after_stop}
@@ -274,14 +274,6 @@ pub record SaysNothing (from : ℕ) (w : Plain) : Type 0 where
 pub record OutsideLaws : Type 0 where
   pub sound : (w v : Plain) → AgreesWithin w v → SaysNothing (length w.routes) v → Sound w → Sound v
 
--- What is not spoken of by the parts without flags and time may change; and news may be fewer.
-pub record FewerLaws : Type 0 where
-  pub flags : (w v : Plain) → v ≡ record w { spent = v.spent; clock = v.clock; closing = v.closing }
-      → Consistent w → Consistent v
-  pub news : (w v : Plain) → v ≡ record w { news = v.news }
-      → ((p c : ℕ) → lists c (v.news p) ≡ true → lists c (w.news p) ≡ true) → Consistent w
-      → Consistent v
-
 -- There is room: an output that is to be sent, and a message that is to be played, leave room on
 -- the tape; one that is to arrive leaves room at its reader; and a call that a fetch makes leaves
 -- room among the component's calls.
@@ -290,9 +282,6 @@ pub record RoomLaws : Type 0 where
       → length w.tape < counts_from w.routes w.counts 0 (length w.counts)
   pub message : (w : Plain) (t : Token) → IsNext t w → Consistent w
       → length w.tape < counts_from w.routes w.counts 0 (length w.counts)
-  pub arrival : (w : Plain) (p v j : ℕ) (x : Route) → lists_reader v j (w.fills p) ≡ true
-      → slice_get w.routes v ≡ Some x
-      → Consistent w → length (w.arrivals v) < sum (map (planned_count w.routes w.counts) x.readers)
   pub next_arrival : (w : Plain) (p v j : ℕ) (later : List (ℕ × ℕ)) (x : Route)
       → w.fills p ≡ (v, j) ∷ later → slice_get w.routes v ≡ Some x
       → Consistent w → length (w.arrivals v) < sum (map (planned_count w.routes w.counts) x.readers)

@@ -11,6 +11,7 @@ pub mod Laws
 pub mod TapeLaws
 pub mod Bounds
 pub mod Rest
+pub mod Way
 pub mod Turns
 pub mod Fields
 pub mod WorldCalls

@@ -1,15 +1,14 @@
 -- What a run has come to, as its components and channels show it: no flags, states, phases or
 -- threads.
 use Rattle.std.specs.Prelude.{ℕ, ◌+◌, ◌==◌, if◌then◌else◌, Bool, false, List, [], ◌∷◌, ◌++◌, length}
-use Rattle.std.specs.Prelude.{map, Option, Some, None, filter, is_some, not}
+use Rattle.std.specs.Prelude.{map, Option, filter, is_some, not}
 use Rattle.cy_msg.specs.declared.token.Token.{Token}
-use Rattle.cy_msg.specs.Tokens.{on_channel}
 use Rattle.cy_fuse.specs.Fusion.{Arrival, fused}
 use Rattle.cy_fuse.specs.Fetch.{fetch}
 use Rattle.cy_comp.specs.declared.call.Call.{Call}
 use Rattle.cy_comp.specs.declared.plan.Plan.{Plan}
 use Rattle.cy_comp.specs.Wiring.{writer_from}
-use Rattle.cy_comp.specs.Calls.{cursor_after, outs}
+use Rattle.cy_comp.specs.Calls.{cursor_after}
 pub use Rattle.wake_core.specs.declared.route.Route.{Route}
 
 -- What a run needs of a component of a wiring.
@@ -91,15 +90,6 @@ finds x w c = fetch (cursor_after (w.calls c)) (tail_of x w c) x.queue x.overflo
 -- The component that writes a channel, where one does.
 abbrev pub writes_from : ℕ → List Route → ℕ → Option ℕ
 writes_from component routes channel = writer_from (λ (x : Route). x.out) component routes channel
-
--- The history of a channel: of a component's channel what its calls put out, of another what was
--- played on it.
-abbrev pub history_by : Option ℕ → ℕ → Run → List Token
-history_by None channel w = on_channel channel w.tape
-history_by (Some c) channel w = outs channel (w.calls c)
-
-abbrev pub history : List Route → Run → ℕ → List Token
-history routes w channel = history_by (writes_from 0 routes channel) channel w
 
 -- The played messages of a tape: those on channels that no component writes.
 abbrev pub played_of : List Route → List Token → List Token

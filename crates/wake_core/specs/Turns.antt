@@ -1,4 +1,4 @@
--- What the serial run does with a world, call by call. Thread 0 does all of it.
+-- What the serial run does with a world, call by call. Thread 0 does all of it, by events.
 use Rattle.std.specs.Prelude.{ℕ, zero, suc, ◌+◌, ◌-◌, ◌*◌, ◌≡◌, ◌≢◌, ◌≤◌, ◌<◌, ◌⊎◌, ◌&&◌, ◌||◌}
 use Rattle.std.specs.Prelude.{Bool, true}
 use Rattle.std.specs.Prelude.{false, not, List, [], ◌∷◌, ◌++◌, length, Option, Some, slice_get}
@@ -22,7 +22,7 @@ use Rattle.wake_core.specs.Events.{IsNext, next_call, after_send, after_yield, i
 use Rattle.wake_core.specs.Events.{is_finished}
 pub use Rattle.wake_core.specs.Events.{is_ready}
 use Rattle.wake_core.specs.WorldCalls.{in_hand, phase_sent}
-use Rattle.wake_core.specs.Laws.{IsIdle}
+use Rattle.wake_core.specs.Laws.{IsIdle, Events}
 use Rattle.wake_core.specs.Sound.{Sound}
 use Rattle.wake_core.specs.Rest.{IsAtRest, run_shown, StaysFixed, StaysMade, IsToPlay, Heeds}
 use Rattle.wake_core.specs.Rest.{is_loose}
@@ -35,6 +35,7 @@ flag_after readers w c = w.spent c && not (is_waiting (w.states c) && lists_read
 -- The thread's message arrives at each of the readers that it still has to fill; it looks at its
 -- news, and clears the flags of those that wait. It owes nothing then.
 pub record Delivers (p : ℕ) (w v : Plain) : Type 0 where
+  pub events : Events w v
   pub same : v ≡ record w {
     arrivals = v.arrivals;
     fills = v.fills;
@@ -66,6 +67,7 @@ pub record MaySendOut (t : Token) (w : Plain) : Type 0 where
 
 -- A message is played: the world is at rest again, and shows that.
 pub record PlaysOne (t : Token) (w v : Plain) : Type 0 where
+  pub events : Events w v
   pub rest : IsAtRest v
   pub run : run_shown v ≡ play w.routes t (run_shown w)
   pub routes : v.routes ≡ w.routes
@@ -93,6 +95,7 @@ pub record IsParked (c : ℕ) (w : Plain) : Type 0 where
 -- Its flag is spent then, but stays where it was due. One that has ended stays so, and no other
 -- ends.
 pub record Takes (c : ℕ) (w v : Plain) : Type 0 where
+  pub events : Events w v
   pub known : c < length w.routes
   pub same : v ≡ record w { hands = v.hands; states = v.states; spent = v.spent }
   pub hands : v.hands ≡ set_at 0 (hand c Known) w.hands
@@ -115,6 +118,7 @@ pub record IsTaken (c : ℕ) (w v : Plain) : Type 0 where
 -- Croutines are taken in turn and given back, since none is READY: each is parked. All other flags
 -- stay.
 pub record Passes (order : List ℕ) (w v : Plain) : Type 0 where
+  pub events : Events w v
   pub effect : v ≡ record w { spent = v.spent }
   pub spends : (c : ℕ) → w.spent c ≡ true → v.spent c ≡ true
   pub parked : (c : ℕ) → lists c order ≡ true → IsParked c v
@@ -134,6 +138,7 @@ pub record Finds (order : List ℕ) (c : ℕ) (w v : Plain) : Type 0 where
 
 -- An output of the croutine in hand was sent and delivered: nothing of it is unsent then.
 pub record Delivered (c : ℕ) (next : Phase) (t : Token) (w v : Plain) : Type 0 where
+  pub events : Events w v
   pub same : v ≡ record w {
     tape = w.tape ++ t ∷ [];
     arrivals = v.arrivals;
@@ -153,6 +158,7 @@ pub record Delivered (c : ℕ) (next : Phase) (t : Token) (w v : Plain) : Type 0
 
 -- The croutine in hand, which had nothing unsent, was called: it is in phase Running.
 pub record IsCalled (c : ℕ) (call : Call) (w v : Plain) : Type 0 where
+  pub events : Events w v
   pub same : v ≡ record w {
     cursors = v.cursors;
     calls = set_at c (w.calls c ++ call ∷ []) w.calls;
@@ -279,6 +285,7 @@ pub record Keeps (k : ℕ) (w v : Plain) : Type 0 where
       → is_loose (v.states k) (v.spent k) ≡ (is_loose (w.states k) (w.spent k) || more)
 
 pub record Resumes (c : ℕ) (w v : Plain) : Type 0 where
+  pub events : Events w v
   pub rest : IsAtRest v
   pub stays : StaysFixed w v
   pub turn : Steps c w v ⊎ Leaves c w v ⊎ Rests c DataWait w v
@@ -306,6 +313,7 @@ IsUnstopped c w = w.states c ≡ Ready → stops w.stop w.raised c ≡ false
 
 -- A croutine has its next turn at once where that would find nothing; else all stays.
 pub record Parks (c : ℕ) (w v : Plain) : Type 0 where
+  pub events : Events w v
   pub parks : finds_nothing c w ≡ true → v ≡ parked_world c w
   pub stays : finds_nothing c w ≡ false → v ≡ w
 
@@ -316,6 +324,7 @@ IsNextOrSame stop scan w v = (next w.routes stop scan (run_shown w) ≡ Some (ru
     ⊎ (run_shown v ≡ run_shown w)
 
 pub record Turns (scan : List ℕ) (w v : Plain) : Type 0 where
+  pub events : Events w v
   pub rest : IsAtRest v
   pub stays : StaysFixed w v
   pub shows : (stop : Option Raised) → Heeds stop w → IsNextOrSame stop scan w v × Heeds stop v
@@ -323,6 +332,7 @@ pub record Turns (scan : List ℕ) (w v : Plain) : Type 0 where
 
 -- Croutines were resumed until none was READY in a whole scan: all are parked.
 pub record IsSettled (scan : List ℕ) (w v : Plain) : Type 0 where
+  pub events : Events w v
   pub rest : IsAtRest v
   pub stays : StaysFixed w v
   pub settles : (stop : Option Raised) → Heeds stop w
@@ -358,6 +368,7 @@ pub record MayPlayOn (tokens : List Token) (n m : ℕ) (w : Plain) : Type 0 wher
 
 -- They were played, and what each started has settled.
 pub record PlaysOn (scan : List ℕ) (tokens : List Token) (n m : ℕ) (w v : Plain) : Type 0 where
+  pub events : Events w v
   pub ordered : n ≤ m
   pub none : n ≡ m → v ≡ w
   pub played : IsPlayedTo tokens v m

@@ -1,14 +1,15 @@
 //! Laws over plain worlds: what each event keeps.
 //!
-//! A function here does nothing: its contract is a law of `specs/Laws`, `specs/TapeLaws` or
-//! `specs/Bounds`, over the worlds of `specs/Plain`, the events of `specs/Events` and what
+//! A function here does nothing: its contract is a law of `specs/Laws`, `specs/Way`,
+//! `specs/TapeLaws` or `specs/Bounds`, over the worlds of `specs/Plain`, the events of `specs/Events` and what
 //! `specs/Sound` says of a world.
 ghost use Rattle.wake_core.specs.Laws.{AcquireLaws, SpendLaws, ReadyLaws, CheckLaws, StopLaws};
 ghost use Rattle.wake_core.specs.Laws.{AskLaws, FetchLaws};
 ghost use Rattle.wake_core.specs.Laws.{TapeLaws, SendLaws, FillLaws, LookLaws, ClearLaws};
 ghost use Rattle.wake_core.specs.Laws.{YieldLaws, ReleaseLaws, TickLaws, CloseLaws, RunLaws};
-ghost use Rattle.wake_core.specs.Laws.{TapedLaws, ThreadLaws, FewerLaws, RoomLaws, FoundLaws};
+ghost use Rattle.wake_core.specs.Laws.{TapedLaws, ThreadLaws, RoomLaws, FoundLaws};
 ghost use Rattle.wake_core.specs.Laws.{OutsideLaws, LimitLaws, WiringLaws};
+ghost use Rattle.wake_core.specs.Way.{WayLaws};
 ghost use Rattle.wake_core.specs.TapeLaws.{UnsentLaws, PutLaws};
 ghost use Rattle.wake_core.specs.Bounds.{PlaceLaws, BoundLaws};
 
@@ -105,6 +106,13 @@ pub fn run()
     fetches_find();
 }
 
+/// Each way keeps all of it, and each world on a way is safe.
+pub fn ways()
+    ensures { WayLaws }
+{
+    fetches_find();
+}
+
 /// Every message that arrived stands on the tape.
 pub fn taped()
     ensures { TapedLaws }
@@ -118,11 +126,6 @@ pub fn threads()
 /// What is said of numbers that are no component's tells nothing of a world.
 pub fn outside()
     ensures { OutsideLaws }
-{}
-
-/// Flags, the clock and closing are nothing to calls and deliveries, and news may be fewer.
-pub fn fewer()
-    ensures { FewerLaws }
 {}
 
 /// What is to be sent, played, filled or called leaves room for itself.

@@ -6,8 +6,9 @@
 //!
 //! `specs/Plain` has the plain world, with flags, states and threads; `specs/Events` the fifteen
 //! events between two of them; `specs/Sound` what holds of every one that events reach;
-//! `specs/LawfulRun` how a run ends. The laws of `specs/Laws`, of the events, `specs/TapeLaws`
-//! and `specs/Bounds` are the contracts of [`laws`]. `specs/Parts` says what the parts show into
+//! `specs/Way` how events lead from one to another; `specs/LawfulRun` how a run ends. The laws of
+//! `specs/Laws`, of the events, `specs/Way`, `specs/TapeLaws` and `specs/Bounds` are the contracts
+//! of [`laws`]. `specs/Parts` says what the parts show into
 //! which a world is taken apart.
 #![tactic(auto)]
 

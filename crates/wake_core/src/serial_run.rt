@@ -13,6 +13,7 @@ ghost use Rattle.wake_core.specs.Rest.{StaysFixed, Heeds, run_shown};
 ghost use Rattle.wake_core.specs.Turns.{PlaysOne, MayPut, Passes, Finds, IsInHand, MaySendOut};
 ghost use Rattle.wake_core.specs.Turns.{Delivered, SendsOut, IsCalledFrom, Resumes, Turns};
 ghost use Rattle.wake_core.specs.Turns.{IsSettled, MayPlayOn, PlaysOn, place_of};
+ghost use Rattle.wake_core.specs.Way.{IsLed};
 ghost use Rattle.wake_core.specs.WorldOf.{plain_of, to_step};
 ghost use Rattle.wake_core.specs.WorldCalls.{in_hand, phase_sent, IsStepped, MayStop};
 
@@ -25,15 +26,18 @@ use cy_msg::{ContextPlan, Placement, PlayList, Token};
 /// Plays the messages of a list, one after another, in a world that was made for it and in which
 /// nothing has happened. After each message the croutines are resumed in the order of the scan as
 /// long as one is READY; after the last one the clock is set to its greatest value. A stop is
-/// raised when as many messages as it says were played. It takes no memory.
+/// raised when as many messages as it says were played. All of it is done by events, so that each
+/// world on the way is safe. It takes no memory.
 pub fn serial(world: &mut World, list: &PlayList, placement: &Placement)
     requires { MayPlay (plain_of world.old) list.now.tokens (scan_of placement.now.contexts) }
     ensures run { SerialRun (plain_of world.old).routes (plain_of world.old).stop
         (scan_of placement.now.contexts) list.now.tokens (run_shown (plain_of world.new)) }
     ensures lawful { LawfulRun list.now.tokens (plain_of world.old).routes
         (plain_of world.old).stop (plain_of world.new) }
-    ensures stays { StaysMade (plain_of world.old) (plain_of world.new) }
+    ensures stays { StaysMade (plain_of world.old) (plain_of world.new)
+        × IsLed (plain_of world.old) (plain_of world.new) }
 {
+    fetches_find();
     outcomes_are_answers();
     let contexts = placement.contexts.as_slice();
     let tokens = list.tokens.as_slice();
@@ -46,15 +50,17 @@ pub fn serial(world: &mut World, list: &PlayList, placement: &Placement)
 }
 
 /// Resumes the croutines of a world in which all was played, in the order of the scan, as long as
-/// one is READY. It takes no memory.
+/// one is READY, by events. It takes no memory.
 pub fn finish(world: &mut World, placement: &Placement)
     requires { MayFinish (plain_of world.old) (scan_of placement.now.contexts) }
     ensures settles { (stop : Option Raised) → Heeds stop (plain_of world.old)
         → Settles (next (plain_of world.old).routes stop (scan_of placement.now.contexts))
         (run_shown (plain_of world.old)) (run_shown (plain_of world.new)) }
     ensures quiet { Quiet (plain_of world.new) }
-    ensures stays { StaysFixed (plain_of world.old) (plain_of world.new) }
+    ensures stays { StaysFixed (plain_of world.old) (plain_of world.new)
+        × IsLed (plain_of world.old) (plain_of world.new) }
 {
+    fetches_find();
     outcomes_are_answers();
     settle(world, placement.contexts.as_slice());
 }

@@ -21,6 +21,7 @@ use Rattle.wake_core.specs.Rest.{run_shown}
 use Rattle.wake_core.specs.Run.{Run, routes_of}
 use Rattle.wake_core.specs.declared.route.Route.{Route}
 use Rattle.wake_core.specs.Serial.{SerialRun}
+use Rattle.wake_core.specs.Way.{IsLedTo}
 use Rattle.cy_replay.specs.Apart.{apart_from, files_read, standard_output}
 use Rattle.cy_replay.specs.Configuration.{Configured}
 use Rattle.cy_replay.specs.declared.error.Refusal.{Refusal}
@@ -85,11 +86,13 @@ IsRunOf true routes stop scan tokens w = SerialRun routes stop scan tokens (run_
 IsRunOf false routes stop scan tokens w = ⊤
 
 -- A lawful run of the play list over the placed components, with this stop or none: the serial one,
--- where it is asked for.
+-- where it is asked for. Events led to it from the opening world, and at each world on the way no
+-- component had two holders and none was lost.
 pub record IsPlayed (serial : Bool) (read : Replayed) (list : PlayList) (stop : Option Stop)
     (contexts : List ContextPlan) (w : Plain) : Type 0 where
   pub run : IsRunOf serial (routes_of read.wired.plans) stop (scan_of contexts) list.tokens w
   pub lawful : LawfulRun list.tokens (routes_of read.wired.plans) stop w
+  pub led : IsLedTo w
 
 -- What `play` makes of what was read: the record and the trace of one lawful run, with the stop
 -- that is asked for, each of the form that is read back, written in their order, after which both

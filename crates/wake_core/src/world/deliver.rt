@@ -6,7 +6,7 @@ ghost use Rattle.wake_core.specs.private.Delivery.{cleared_by, cleared_by_all, A
 use super::tell::waits;
 use crate::World;
 use cy_comp::Routine;
-use cy_fuse::Visitor;
+use cy_fuse::{Visitor, fetches_find};
 use cy_msg::Token;
 
 impl World {
@@ -30,6 +30,7 @@ impl World {
         ensures delivers { Delivers 0 (plain_of self.old) (plain_of self.new) }
         ensures steps { to_step self.new ≡ to_step self.old }
     {
+        fetches_find();
         let readers = self.fixed.readers(token.channel);
         arrive_at_all(&mut self.visitors, readers, token);
         clear_all(&mut self.spent, self.routines.as_slice(), readers);

@@ -1,6 +1,8 @@
 use Rattle.std.proofs.Common.{rules, ◌≡◌, ◌∙◌, All, sym, subst, length}
 use Rattle.cy_run.specs.declared.crew.Worker.{Worker}
 use Rattle.cy_run.specs.Passes.{IsFree}
+use Rattle.cy_table.specs.Calls.{made_of}
+use Rattle.cy_run.proofs.Led.{was_led}
 use Rattle.cy_run.proofs.Mustered.{may_drive, is_deputy, some_split, may_finish, written}
 use Rattle.wake_core.specs.WorldOf.{plain_of}
 use Rattle.cy_msg.specs.Placement.{scan_of}
@@ -26,3 +28,7 @@ pub finish-requires : goal.finish-requires
 finish-requires g c = may_finish c.put.ensures c.args.world c.in-Ok.table c.args.wiring.now.plans c.args.list.now.tokens (scan_of c.args.placement.now.contexts) c.hire.new.player c.drive_with.new.player c.muster.new.player
     (plain_of c.in-Ok-close.world) c.requires c.in-Ok.ensures.made c.drive_with.ensures.played (c.muster.ensures.played ∙ c.dismiss.ensures.played) (c.muster.ensures.clock ∙ c.dismiss.ensures.clock)
     (c.muster.ensures.raised ∙ c.dismiss.ensures.raised) c.in-Ok-close.ensures.left
+
+pub returns-clause-led : goal.returns-clause-led
+returns-clause-led g c = was_led c.ways.ensures (plain_of c.args.world) (made_of c.in-Ok.table) (plain_of c.in-Ok-close.world) (plain_of c.finish.new.world) c.in-Ok.ensures.made c.sound.ensures.sound c.in-Ok-close.ensures.left.reached
+    c.finish.ensures.stays.1

@@ -9,5 +9,5 @@ returns g c =
     let opens = c.in_ok-world.ensures.opens in
     record {
       run = has_run w.serial w.request c.args.replay.now (plain_of c.in_ok-world.world) (plain_of c.in-Ok.world) c.played_places_are_there.ensures c.places.ensures c.requires.set_up opens (any_run w.serial c.args.replay.now (plain_of c.in-Ok.world) c.requires.threads)
-          (threads_run c.args.replay.now (plain_of c.in_ok-world.world) (plain_of c.in-Ok.world) opens c.in-Ok.ensures.lawful) c.in-Ok.ensures.counts c.trace_is_read_back.ensures;
+          (threads_run c.args.replay.now (plain_of c.in_ok-world.world) (plain_of c.in-Ok.world) opens c.in-Ok.ensures.lawful) c.in-Ok.ensures.counts c.in-Ok.ensures.led c.trace_is_read_back.ensures;
     }

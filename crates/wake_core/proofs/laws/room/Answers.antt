@@ -9,7 +9,6 @@ pub returns : goal.returns
 returns k = record {
   output = output_room;
   message = message_total;
-  arrival = arrival_room;
   next_arrival = λ w p v j later x first at s. arrival_room w p v j x (ap (lists_reader v j) first ∙ lists_reader_first v j later) at s;
   call = call_in_room k.fetches_find.ensures.find;
 }

@@ -2,9 +2,12 @@ use Rattle.std.proofs.Common.{ℕ, sym, subst, List, ◌<◌, ◌≡◌, true, l
 use Rattle.wake_core.specs.WorldOf.{plain_of}
 use Rattle.wake_core.specs.Plain.{lists}
 use Rattle.wake_core.specs.Turns.{Finds, Passes}
-use Rattle.wake_core.proofs.Taking.{passes_rest}
+use Rattle.wake_core.proofs.Taking.{passes_rest, passes_none}
 use Rattle.wake_core.proofs.Scanning.{context_known, context_finds, context_passes, none_of, item_at}
 use Rattle.wake_core.proofs.serial_run.first_of_all.Goals as goal
+
+pub loop-context-init : goal.loop-context-init
+loop-context-init c = record { rest = c.requires.rest; passes = passes_none (plain_of c.args.world.now) }
 
 pub first_ready-found-requires-clause-known : goal.first_ready-found-requires-clause-known
 first_ready-found-requires-clause-known c =

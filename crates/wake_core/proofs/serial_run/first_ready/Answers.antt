@@ -1,7 +1,10 @@
 use Rattle.wake_core.specs.WorldOf.{plain_of}
-use Rattle.wake_core.proofs.Taking.{passes_rest}
+use Rattle.wake_core.proofs.Taking.{passes_rest, passes_none}
 use Rattle.wake_core.proofs.Scanning.{order_known, order_finds, order_passes}
 use Rattle.wake_core.proofs.serial_run.first_ready.Goals as goal
+
+pub loop-component-init : goal.loop-component-init
+loop-component-init c = record { rest = c.requires.rest; passes = passes_none (plain_of c.args.world.now) }
 
 pub take-requires-clause-known : goal.take-requires-clause-known
 take-requires-clause-known c = order_known c.args.order.now c.loop-component.component-index (plain_of c.args.world.now) (plain_of c.loop-component.world) (plain_of c.loop-component.world)

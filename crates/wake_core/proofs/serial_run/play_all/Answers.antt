@@ -1,12 +1,15 @@
 use Rattle.std.proofs.Common.{ℕ, ◌≤◌, ◌<◌, sym, ◌∙◌, refl, arith, inl, inr}
 use Rattle.cy_msg.specs.Placement.{scan_of}
 use Rattle.wake_core.specs.WorldOf.{plain_of}
-use Rattle.wake_core.proofs.Played.{plays_step, next_may, list_at}
+use Rattle.wake_core.proofs.Played.{plays_begin, plays_step, next_may, list_at}
 use Rattle.wake_core.proofs.serial_run.play_all.Goals as goal
 
 -- A place before the end is within the list.
 inside : {i m n : ℕ} → i < m → m ≤ n → i < n
 inside a b = omega arith
+
+pub loop-index-init : goal.loop-index-init
+loop-index-init c = plays_begin (scan_of c.args.contexts.now) c.args.tokens.now c.args.from (plain_of c.args.world.now) c.requires.may.played
 
 pub play-requires-clause-next : goal.play-requires-clause-next
 play-requires-clause-next c =

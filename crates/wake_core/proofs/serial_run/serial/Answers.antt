@@ -10,7 +10,8 @@ use Rattle.wake_core.specs.LawfulRun.{LawfulRun}
 use Rattle.wake_core.specs.Rest.{MayPlay, run_shown}
 use Rattle.wake_core.specs.Turns.{MayPlayOn, PlaysOn, place_of}
 use Rattle.wake_core.specs.WorldOf.{plain_of}
-use Rattle.wake_core.proofs.Played.{first_may, place_within, stop_may, second_may, second_scan, last_rest, last_scan, serial_run, serial_lawful, serial_stays}
+use Rattle.wake_core.proofs.Led.{led_by}
+use Rattle.wake_core.proofs.Played.{first_may, place_within, stop_may, second_may, second_scan, last_rest, last_scan, serial_run, serial_lawful, serial_events, serial_stays}
 use Rattle.wake_core.proofs.serial_run.serial.Goals as goal
 
 -- What is said of a list and of a scan is said of their slices.
@@ -164,5 +165,7 @@ returns-clause-stays c =
     let place = place_as w items c.stop_place-place.ensures refl in
     let one : PlaysOn scan items 0 (place_of w.stop (length items)) w (plain_of c.play_all.new.world) = subst (λ n. PlaysOn scan items 0 n w (plain_of c.play_all.new.world)) place c.play_all.ensures in
     let two : PlaysOn scan items (place_of w.stop (length items)) (length items) (plain_of c.raise.new.world) (plain_of c.play_all-2.new.world) =
-    subst (λ n. PlaysOn scan items n (length items) (plain_of c.raise.new.world) (plain_of c.play_all-2.new.world)) place c.play_all-2.ensures in
-    serial_stays scan items w may timed numbered (plain_of c.play_all.new.world) one (plain_of c.raise.new.world) c.raise.ensures.none c.raise.ensures.raised (plain_of c.play_all-2.new.world) (plain_of c.end_clock.new.world) two c.end_clock.ensures (plain_of c.settle.new.world) c.settle.ensures c.settle.new.world.sound
+    subst (λ n. PlaysOn scan items n (length items) (plain_of c.raise.new.world) (plain_of c.play_all-2.new.world)) place c.play_all-2.ensures in (
+      serial_stays scan items w may timed numbered (plain_of c.play_all.new.world) one (plain_of c.raise.new.world) c.raise.ensures.none c.raise.ensures.raised (plain_of c.play_all-2.new.world) (plain_of c.end_clock.new.world) two c.end_clock.ensures (plain_of c.settle.new.world) c.settle.ensures c.settle.new.world.sound,
+      led_by c.fetches_find.ensures.find w (plain_of c.settle.new.world) (serial_events scan items w may timed numbered (plain_of c.play_all.new.world) one (plain_of c.raise.new.world) c.raise.ensures.none c.raise.ensures.raised (plain_of c.play_all-2.new.world) (plain_of c.end_clock.new.world) two c.end_clock.ensures (plain_of c.settle.new.world) c.settle.ensures c.settle.new.world.sound) c.args.world.now.sound,
+    )

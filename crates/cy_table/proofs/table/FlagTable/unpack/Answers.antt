@@ -14,7 +14,7 @@ use Rattle.cy_table.specs.declared.part.Part.{Part}
 use Rattle.cy_table.specs.declared.part.Part.TheVariants as part
 use Rattle.cy_table.specs.Seats.{TapeView}
 use Rattle.cy_table.specs.Shown.{routine_at, visitor_at, tape_at}
-use Rattle.cy_table.proofs.Unpacking.{TakenOut, AreRest, IsFrom, shuts, same_part, same_tape, taken_as, taken_more, index_of, from_more, few_played, agrees, parts_fit, played_left, clock_left, closing_left, raised_left, calls_seen}
+use Rattle.cy_table.proofs.Unpacking.{TakenOut, AreRest, IsFrom, shuts, same_part, same_tape, taken_as, taken_more, index_of, from_more, few_played, replaced, parts_fit, played_left, clock_left, closing_left, raised_left, calls_seen}
 use Rattle.cy_table.proofs.table.FlagTable.unpack.Goals as goal
 
 pub unreachable-requires : goal.unreachable-requires
@@ -165,7 +165,11 @@ returns-clause-left c =
       played = c.played_in-played.ensures ∙ ap (λ (l : List Token). length (played_of p.fixed.routes.items l)) c.as_slice.ensures.value;
     } in
     record {
-      reached = record { world = e.world; events = e.reached; idle = e.idle; same = agrees e p taken rest c.args.self.made c.args.self.counted c.args.self.given };
+      reached = record {
+        world = e.world;
+        events = e.reached;
+        replaced = replaced e p taken rest c.args.self.made c.args.self.counted c.args.self.given;
+      };
       noted = e.noted;
       routes = c.args.self.made;
       counts = c.args.self.counted;

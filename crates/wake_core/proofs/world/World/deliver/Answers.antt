@@ -8,6 +8,7 @@ use Rattle.wake_core.specs.Fields.{read, no_routine}
 use Rattle.wake_core.specs.Sound.{Sound}
 use Rattle.wake_core.specs.private.Delivery.{arrived_at_all, MayArriveAtAll, cleared_by_all, AreReaders}
 use Rattle.wake_core.proofs.Owing.{owed_each, owing_set}
+use Rattle.wake_core.proofs.Runs.{events_sound}
 use Rattle.wake_core.proofs.Spreading.{Fits, all_may, all_delivered, length_cleared_all, flags_cleared, none_owing, delivered_world, delivers}
 use Rattle.wake_core.proofs.world.World.deliver.Goals as goal
 
@@ -71,7 +72,7 @@ invariant_of-self c =
       roomy = rw visitors_are may.fits.roomy;
       owing = owing_set 0 record o { fills = 0 } thread (none_owing (owed_each 0 o thread c.index_mut.ensures.value c.args.self.now.owing)) c.args.self.now.owing;
       counted = c.args.self.now.counted;
-      sound = subst Sound (sym shows) (all_delivered rs 0 w fills c.requires.looked c.requires.cleared c.args.self.now.sound);
+      sound = subst Sound (sym shows) (events_sound c.fetches_find.ensures.find w _ (all_delivered rs 0 w fills c.requires.looked c.requires.cleared) c.args.self.now.sound);
     }
 
 pub returns-clause-delivers : goal.returns-clause-delivers

@@ -4,7 +4,8 @@ use Rattle.wake_core.specs.WorldOf.{plain_of, to_step}
 use Rattle.wake_core.specs.Plain.{DataWait}
 use Rattle.wake_core.specs.Sound.{Sound}
 use Rattle.wake_core.proofs.Storing.{waiting_stored, roomy_stored}
-use Rattle.wake_core.proofs.Parked.{parked_sound, parks_it, stays_so}
+use Rattle.wake_core.proofs.Parked.{parked_events, parks_it, stays_so}
+use Rattle.wake_core.proofs.Runs.{events_sound}
 use Rattle.wake_core.proofs.ParkedWorld.{IsToPark, tests, asked_same, parked_shown}
 use Rattle.wake_core.proofs.world.World.park.Goals as goal
 
@@ -43,7 +44,7 @@ invariant_of-self c =
       roomy = roomy_stored DataWait same s.roomy;
       owing = s.owing;
       counted = s.counted;
-      sound = subst Sound (sym (parked_shown s n r t c.ask.new.self c.ask.ensures)) (parked_sound n (plain_of s) c.requires.rest c.requires.known c.requires.unstopped s.sound nothing c.fetches_find.ensures.find);
+      sound = subst Sound (sym (parked_shown s n r t c.ask.new.self c.ask.ensures)) (events_sound c.fetches_find.ensures.find (plain_of s) _ (parked_events n (plain_of s) c.requires.rest c.requires.known c.requires.unstopped s.sound nothing) s.sound);
     }
 
 pub returns-then-idles-clause-parks : goal.returns-then-idles-clause-parks
@@ -55,7 +56,7 @@ returns-then-idles-clause-parks c =
     let nothing = sym (tests s n c.index.result.now seen c.index-2.result.now c.index-2.ensures) ∙ sym c.idles.ensures ∙ c.if-idles.true in
     let r : RoutineView = c.index_mut.result.now in
     let t : IsToPark s n r = record { rest = c.requires.rest; known = c.requires.known; routine = c.index_mut.ensures.value; law = c.fetches_find.ensures.find } in
-    parks_it n (plain_of s) _ nothing (parked_shown s n r t c.ask.new.self c.ask.ensures)
+    parks_it n (plain_of s) _ nothing (parked_events n (plain_of s) c.requires.rest c.requires.known c.requires.unstopped s.sound nothing) (parked_shown s n r t c.ask.new.self c.ask.ensures)
 
 pub returns-then-idles-clause-steps : goal.returns-then-idles-clause-steps
 unfolding to_step
