@@ -34,6 +34,7 @@ files_of_command() {
     pass) reads=(RECORD) && writes=(OUT TRACE) ;;
     info) reads=(FILE) ;;
     recover | split) reads=(IN) && writes=(OUT) ;;
+    merge) reads=(INPUTS) && writes=(OUT) ;;
   esac
 }
 
