@@ -126,11 +126,11 @@ still_once behind before later old new joined once =
     let b = bind_ok (channels_joined later.channels.list.items old.channels.list.items) (finish later.channels.list.items (met_of behind later).messages (met_of before old).messages) (met_of (before ++ behind) new) joined in
     subst (λ (l : List Known). IsOnce (names_of l)) (channels_are b.0 b.1.1) (joined_once later.channels.list.items old.channels.list.items b.0 b.1.0 once)
   where
-    channels_are : (channels : List Known) → finish later.channels.list.items (met_of behind later).messages (met_of before old).messages channels ≡ Ok (met_of (before ++ behind) new) → channels ≡ new.channels.list.items
-    channels_are channels e = ap (λ (m : Met). m.channels) (ok_met (record { channels = channels; messages = (met_of before old).messages ++ map (on_united later.channels.list.items channels) (met_of behind later).messages }) (met_of (before ++ behind) new) e)
-
     ok_met : (a b : Met) → (let r : Result Met LoadError = Ok a in r ≡ Ok b) → a ≡ b
     ok_met a b e = cc
+
+    channels_are : (channels : List Known) → finish later.channels.list.items (met_of behind later).messages (met_of before old).messages channels ≡ Ok (met_of (before ++ behind) new) → channels ≡ new.channels.list.items
+    channels_are channels e = ap (λ (m : Met). m.channels) (ok_met (record { channels = channels; messages = (met_of before old).messages ++ map (on_united later.channels.list.items channels) (met_of behind later).messages }) (met_of (before ++ behind) new) e)
 
 on_all : (k : ℕ) (bodies : List (List ℕ)) (ms : List Message) → All (λ m. m.channel < k) ms → (n : ℕ) (x : meaning.Message) → slice_get (map (message_of bodies) ms) n ≡ Some x → x.channel < k
 on_all k bodies [] all n x there = absurd (none-some x there)
