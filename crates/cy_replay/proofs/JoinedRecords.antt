@@ -25,93 +25,6 @@ use Rattle.cy_replay.specs.Merging.{joined_in, merged_from, merged_in, same_desc
 use Rattle.cy_replay.specs.Steps.{IsRecordFault}
 use Rattle.cy_replay.proofs.Coming.{Stands, told_map, then, comes_err, comes_ok, comes_memory, comes_same}
 
--- ---- what is judged of a value
-
--- a refusal, or want of memory
-pub judged_refusal : {X A : Type 0} (view : X → A) (due : Reads Refusal A) (refusal : Refusal) (e : SetupError) → (e ≡ Memory) ⊎ (e ≡ Refused refusal) → due ≡ Refuses refusal → (let r : Result X SetupError = Err e in IsJudged view due r)
-judged_refusal {X} view due refusal e (inl memory) is = subst (λ q. let r : Result X SetupError = Err q in IsJudged view due r) (sym memory) record {
-  accepted = tt;
-  refused = λ other wrong. absurd cc;
-  unread = λ file wrong. absurd cc;
-}
-judged_refusal {X} view due refusal e (inr refused) is = subst (λ q. let r : Result X SetupError = Err q in IsJudged view due r) (sym refused) record {
-  accepted = tt;
-  refused = λ other wrong. let same : refusal ≡ other = cc in is ∙ ap Refuses same;
-  unread = λ file wrong. absurd cc;
-}
-
--- ---- types and descriptions
-
-pub types_refused : {X : Type 0} (file channel : List ℕ) (g : Gathered) (later : Contents) (e : SetupError) → Some channel ≡ first_differing (λ c. c.message_type) g.met.channels later.channels
-    → (e ≡ Memory) ⊎ (e ≡ Refused record { file = file; fault = fault.TypesDiffer channel }) → (let r : Result X SetupError = Err e in IsJudged (λ (x : X). tt) (same_parts file g later) r)
-types_refused {X} file channel g later e differ answer =
-    judged_refusal (λ (x : X). tt) (same_parts file g later) (record { file = file; fault = fault.TypesDiffer channel }) e answer
-    (ap (λ (o : Option (List ℕ)). same_part file fault.TypesDiffer o >>= λ _. same_descriptions file g later) (sym differ))
-
-same_typed : (file : List ℕ) (g : Gathered) (later : Contents) → None ≡ first_differing (λ c. c.message_type) g.met.channels later.channels → same_parts file g later ≡ same_descriptions file g later
-same_typed file g later none = ap (λ (o : Option (List ℕ)). same_part file fault.TypesDiffer o >>= λ _. same_descriptions file g later) (sym none)
-
-pub descriptions_refused : {X : Type 0} (file channel : List ℕ) (g : Gathered) (later : Contents) (e : SetupError) → None ≡ first_differing (λ c. c.message_type) g.met.channels later.channels
-    → Some channel ≡ first_differing (λ c. c.proto_desc) g.met.channels later.channels
-    → (e ≡ Memory) ⊎ (e ≡ Refused record { file = file; fault = fault.DescriptionsDiffer channel }) → (let r : Result X SetupError = Err e in IsJudged (λ (x : X). tt) (same_parts file g later) r)
-descriptions_refused {X} file channel g later e none differ answer =
-    judged_refusal (λ (x : X). tt) (same_parts file g later) (record { file = file; fault = fault.DescriptionsDiffer channel }) e answer
-    (same_typed file g later none ∙ ap (same_part file fault.DescriptionsDiffer) (sym differ))
-
-pub parts_same : {X : Type 0} (file : List ℕ) (g : Gathered) (later : Contents) (x : X) → None ≡ first_differing (λ c. c.message_type) g.met.channels later.channels
-    → None ≡ first_differing (λ c. c.proto_desc) g.met.channels later.channels → IsJudged (λ (x : X). tt) (same_parts file g later) (Ok x)
-parts_same file g later x types descriptions = record {
-  accepted = same_typed file g later types ∙ ap (same_part file fault.DescriptionsDiffer) (sym descriptions);
-  refused = λ refusal wrong. absurd cc;
-  unread = λ file wrong. absurd cc;
-}
-
--- ---- a later record is joined
-
-pub join_refused : {X Y : Type 0} (view : Y → Gathered) (file : List ℕ) (g : Gathered) (later : Contents) (e : SetupError) → (let r : Result X SetupError = Err e in IsJudged (λ (x : X). tt) (same_parts file g later) r)
-    → (let r : Result Y SetupError = Err e in IsJudged view (joined_in file g later) r)
-join_refused {X} {Y} view file g later e was = record {
-  accepted = tt;
-  refused = λ refusal is. ap (λ (q : Reads Refusal ⊤). q >>= λ _. in_file file fault.Record (record_joined g later)) (was.refused refusal (ap Err (err_is is)));
-  unread = λ name is. was.unread name (ap Err (err_is is));
-}
-  where
-    err_is : {T : Type 0} {a b : SetupError} → (let r : Result T SetupError = Err a in r ≡ Err b) → a ≡ b
-    err_is e = cc
-
-same_then : {X : Type 0} (file : List ℕ) (g : Gathered) (later : Contents) (x : X) → IsJudged (λ (x : X). tt) (same_parts file g later) (Ok x) → joined_in file g later ≡ in_file file fault.Record (record_joined g later)
-same_then file g later x was = ap (λ (q : Reads Refusal ⊤). q >>= λ _. in_file file fault.Record (record_joined g later)) was.accepted
-
-pub join_done : {X : Type 0} (file : List ℕ) (g all : Gathered) (later : Contents) (x : X) → IsJudged (λ (x : X). tt) (same_parts file g later) (Ok x) → record_joined g later ≡ Ok all → IsJudged (λ (m : Gathered). m) (joined_in file g later) (Ok all)
-join_done file g all later x was is = record {
-  accepted = same_then file g later x was ∙ ap (in_file file fault.Record) is;
-  refused = λ refusal wrong. absurd cc;
-  unread = λ name wrong. absurd cc;
-}
-
-fault_judged : {Y : Type 0} (view : Y → Gathered) (file : List ℕ) (g : Gathered) (later : Contents) (e : LoadError) (answer : SetupError) → joined_in file g later ≡ in_file file fault.Record (record_joined g later)
-    → (e ≡ load_error.Memory) ⊎ (record_joined g later ≡ Err e) → (answer ≡ Memory) ⊎ (answer ≡ Refused record { file = file; fault = fault.Record e }) → (e ≡ load_error.Memory → ⊥)
-    → (let r : Result Y SetupError = Err answer in IsJudged view (joined_in file g later) r)
-fault_judged {Y} view file g later e answer then (inl memory) told own = absurd (own memory)
-fault_judged {Y} view file g later e answer then (inr is) told own = judged_refusal {X = Y} view (joined_in file g later) (record { file = file; fault = fault.Record e }) answer told (then ∙ ap (in_file file fault.Record) is)
-
-starved : {Y : Type 0} (view : Y → Gathered) (due : Reads Refusal Gathered) (answer : SetupError) → answer ≡ Memory → (let r : Result Y SetupError = Err answer in IsJudged view due r)
-starved {Y} view due answer is = subst (λ q. let r : Result Y SetupError = Err q in IsJudged view due r) (sym is) record {
-  accepted = tt;
-  refused = λ other wrong. absurd cc;
-  unread = λ file wrong. absurd cc;
-}
-
-abbrev IsOwn : LoadError → Type 0
-IsOwn load_error.Memory = ⊥
-IsOwn other = Unit {0}
-
-pub join_failed : {X Y : Type 0} (view : Y → Gathered) (file : List ℕ) (g : Gathered) (later : Contents) (x : X) (e : LoadError) (answer : SetupError) → IsJudged (λ (x : X). tt) (same_parts file g later) (Ok x)
-    → (e ≡ load_error.Memory) ⊎ (record_joined g later ≡ Err e) → (e ≡ load_error.Store → ⊥) → IsRecordFault file e answer → (let r : Result Y SetupError = Err answer in IsJudged view (joined_in file g later) r)
-join_failed {X} {Y} view file g later x load_error.Memory answer was wrong quiet is = starved {Y = Y} view (joined_in file g later) answer is
-join_failed {X} {Y} view file g later x load_error.Store answer was wrong quiet is = absurd (quiet refl)
-join_failed {X} {Y} view file g later x e answer was wrong quiet is = fault_judged {Y = Y} view file g later e answer (same_then file g later x was) wrong is (λ same. subst IsOwn same tt)
-
 -- ---- one record after another
 
 abbrev pub named : List (Bor (List ℕ)) → List (List ℕ)
@@ -132,61 +45,57 @@ none_joined names g view none = record {
   read = always view.files (λ m. ap (λ (x : Gathered). merged_from names x m) (sym none));
 }
 
-left_at : (names : List (Bor (List ℕ))) (n : ℕ) (name : Bor (List ℕ)) → n < length names → name ≡ get_or names n name → drop n (named names) ≡ name.now ∷ drop (n + 1) (named names)
-left_at names n name within is =
-    drop_more (named names) n name.now (omega (arith, within, length-map names (λ (b : Bor (List ℕ)). b.now)))
-    ∙ ap (λ (x : List ℕ). x ∷ drop (n + 1) (named names)) (get_or-map (λ (b : Bor (List ℕ)). b.now) names n name name.now within ∙ ap (λ (b : Bor (List ℕ)). b.now) (sym is))
+left_at : (names : List (Bor (List ℕ))) (n : ℕ) (d : Bor (List ℕ)) → n < length names → drop n (named names) ≡ (get_or names n d).now ∷ drop (n + 1) (named names)
+left_at names n d within =
+    drop_more (named names) n d.now (omega (arith, within, length-map names (λ (b : Bor (List ℕ)). b.now)))
+    ∙ ap (λ (x : List ℕ). x ∷ drop (n + 1) (named names)) (get_or-map (λ (b : Bor (List ℕ)). b.now) names n d d.now within)
 
 -- what follows a record
 abbrev pub rest_of : List ℕ → List (List ℕ) → Gathered → Contents → Files → Reads Refusal Gathered
 rest_of name rest g later m = joined_in name g later >>= λ all. merged_from rest all m
 
-pub record_joins : (names : List (Bor (List ℕ))) (n : ℕ) (name : Bor (List ℕ)) (g all : Gathered) (later : Contents) (P : List ℕ → Type 0) (old mid new : StoreView) → AreJoined (named names) n g old mid → n < length names → name ≡ get_or names n name
-    → ComesTo (λ x. x) (record_in name.now) P mid new (Ok later) → IsJudged (λ (m : Gathered). m) (joined_in name.now g later) (Ok all) → AreJoined (named names) (n + 1) all old new
-record_joins names n name g all later P old mid new so_far within at came joined = record {
+pub record_joins : (names : List (Bor (List ℕ))) (n : ℕ) (d : Bor (List ℕ)) (g all : Gathered) (later : Contents) (P : List ℕ → Type 0) (old mid new : StoreView) → AreJoined (named names) n g old mid → n < length names
+    → ComesTo (λ x. x) (record_in (get_or names n d).now) P mid new (Ok later) → IsJudged (λ (m : Gathered). m) (joined_in (get_or names n d).now g later) (Ok all) → AreJoined (named names) (n + 1) all old new
+record_joins names n d g all later P old mid new so_far within came joined = record {
   stands = record {
     same = came.same ∙ so_far.stands.same;
     counts = record { faults = came.accepted.0.faults ∙ so_far.stands.counts.faults; misses = came.accepted.0.misses ∙ so_far.stands.counts.misses };
   };
-  read = both old.files so_far.read (subst (λ files. IfSome files (λ m. record_in name.now m ≡ Accepts later)) so_far.stands.same came.accepted.1);
+  read = both old.files so_far.read (subst (λ files. IfSome files (λ m. record_in (get_or names n d).now m ≡ Accepts later)) so_far.stands.same came.accepted.1);
 }
   where
     rest : List (List ℕ)
     rest = drop (n + 1) (named names)
 
-    both : (files : Option Files) → IfSome files (λ m. merged_in (named names) m ≡ merged_from (drop n (named names)) g m) → IfSome files (λ m. record_in name.now m ≡ Accepts later)
+    both : (files : Option Files) → IfSome files (λ m. merged_in (named names) m ≡ merged_from (drop n (named names)) g m) → IfSome files (λ m. record_in (get_or names n d).now m ≡ Accepts later)
         → IfSome files (λ m. merged_in (named names) m ≡ merged_from rest all m)
     both None a b = tt
     both (Some m) a b =
-        a ∙ ap (λ (l : List (List ℕ)). merged_from l g m) (left_at names n name within at) ∙ ap (λ (r : Reads Refusal Contents). r >>= λ x. rest_of name.now rest g x m) b
+        a ∙ ap (λ (l : List (List ℕ)). merged_from l g m) (left_at names n d within) ∙ ap (λ (r : Reads Refusal Contents). r >>= λ x. rest_of (get_or names n d).now rest g x m) b
         ∙ ap (λ (r : Reads Refusal Gathered). r >>= λ x. merged_from rest x m) joined.accepted
 
-name_there : (names : List (Bor (List ℕ))) (n : ℕ) (name : Bor (List ℕ)) (file : List ℕ) → n < length names → name ≡ get_or names n name → file ≡ name.now → Contains (named names) file
-name_there names n name file within at is = subst (Contains (named names)) (here ∙ sym is) (Contains-get_or (named names) n name.now few)
-  where
-    few : n < length (named names)
-    few = omega (arith, within, length-map names (λ (b : Bor (List ℕ)). b.now))
-
-    here : get_or (named names) n name.now ≡ name.now
-    here = get_or-map (λ (b : Bor (List ℕ)). b.now) names n name name.now within ∙ ap (λ (b : Bor (List ℕ)). b.now) (sym at)
+name_there : (names : List (Bor (List ℕ))) (n : ℕ) (d : Bor (List ℕ)) (file : List ℕ) → n < length names → file ≡ (get_or names n d).now → Contains (named names) file
+name_there names n d file within is =
+    subst (Contains (named names)) (get_or-map (λ (b : Bor (List ℕ)). b.now) names n d d.now within ∙ sym is)
+    (Contains-get_or (named names) n d.now (omega (arith, within, length-map names (λ (b : Bor (List ℕ)). b.now))))
 
 -- a record is in the way
-pub record_stops : {X : Type 0} (view : X → Gathered) (names : List (Bor (List ℕ))) (n : ℕ) (name : Bor (List ℕ)) (g : Gathered) (e : SetupError) (old mid new : StoreView) → AreJoined (named names) n g old mid → n < length names → name ≡ get_or names n name
-    → (let r : Result Contents SetupError = Err e in ComesTo (λ x. x) (record_in name.now) (λ file. file ≡ name.now) mid new r)
+pub record_stops : {X : Type 0} (view : X → Gathered) (names : List (Bor (List ℕ))) (n : ℕ) (d : Bor (List ℕ)) (g : Gathered) (e : SetupError) (old mid new : StoreView) → AreJoined (named names) n g old mid → n < length names
+    → (let r : Result Contents SetupError = Err e in ComesTo (λ x. x) (record_in (get_or names n d).now) (λ file. file ≡ (get_or names n d).now) mid new r)
     → (let r : Result X SetupError = Err e in ComesTo view (merged_in (named names)) (Contains (named names)) old new r)
-record_stops view names n name g e old mid new so_far within at came =
-    let rest = rest_of name.now (drop (n + 1) (named names)) g in
-    let first = comes_err view (record_in name.now) rest (Contains (named names)) mid new e (λ file is. name_there names n name file within at is) came in
-    comes_same view (merged_in (named names)) (then (record_in name.now) rest) (Contains (named names)) (Contains (named names)) old mid new _ so_far.stands
-    (told_map old.files (λ m was. was ∙ ap (λ (l : List (List ℕ)). merged_from l g m) (left_at names n name within at)) so_far.read) (λ file asked. asked) first
+record_stops view names n d g e old mid new so_far within came =
+    let rest = rest_of (get_or names n d).now (drop (n + 1) (named names)) g in
+    let first = comes_err view (record_in (get_or names n d).now) rest (Contains (named names)) mid new e (λ file is. name_there names n d file within is) came in
+    comes_same view (merged_in (named names)) (then (record_in (get_or names n d).now) rest) (Contains (named names)) (Contains (named names)) old mid new _ so_far.stands
+    (told_map old.files (λ m was. was ∙ ap (λ (l : List (List ℕ)). merged_from l g m) (left_at names n d within)) so_far.read) (λ file asked. asked) first
 
 -- it was read, and can't be joined
-pub join_stops : {X : Type 0} (view : X → Gathered) (names : List (Bor (List ℕ))) (n : ℕ) (name : Bor (List ℕ)) (g : Gathered) (later : Contents) (e : SetupError) (P : List ℕ → Type 0) (old mid new : StoreView) → AreJoined (named names) n g old mid → n < length names
-    → name ≡ get_or names n name → ComesTo (λ x. x) (record_in name.now) P mid new (Ok later) → (let r : Result Gathered SetupError = Err e in IsJudged (λ (m : Gathered). m) (joined_in name.now g later) r)
+pub join_stops : {X : Type 0} (view : X → Gathered) (names : List (Bor (List ℕ))) (n : ℕ) (d : Bor (List ℕ)) (g : Gathered) (later : Contents) (e : SetupError) (P : List ℕ → Type 0) (old mid new : StoreView) → AreJoined (named names) n g old mid → n < length names
+    → ComesTo (λ x. x) (record_in (get_or names n d).now) P mid new (Ok later) → (let r : Result Gathered SetupError = Err e in IsJudged (λ (m : Gathered). m) (joined_in (get_or names n d).now g later) r)
     → (let r : Result X SetupError = Err e in ComesTo view (merged_in (named names)) (Contains (named names)) old new r)
-join_stops {X} view names n name g later e P old mid new so_far within at came wrong = record {
+join_stops {X} view names n d g later e P old mid new so_far within came wrong = record {
   accepted = tt;
-  refused = λ refusal is. (stands.counts, both refusal old.files so_far.read (subst (λ files. IfSome files (λ m. record_in name.now m ≡ Accepts later)) so_far.stands.same came.accepted.1) (wrong.refused refusal (ap Err (err_is is))));
+  refused = λ refusal is. (stands.counts, both refusal old.files so_far.read (subst (λ files. IfSome files (λ m. record_in (get_or names n d).now m ≡ Accepts later)) so_far.stands.same came.accepted.1) (wrong.refused refusal (ap Err (err_is is))));
   failed = λ file is. absurd (wrong.unread file (ap Err (err_is is)));
   same = stands.same;
   faults_stay = omega (arith, stands.counts.faults);
@@ -205,11 +114,11 @@ join_stops {X} view names n name g later e P old mid new so_far within at came w
     rest : List (List ℕ)
     rest = drop (n + 1) (named names)
 
-    both : (refusal : Refusal) (files : Option Files) → IfSome files (λ m. merged_in (named names) m ≡ merged_from (drop n (named names)) g m) → IfSome files (λ m. record_in name.now m ≡ Accepts later)
-        → joined_in name.now g later ≡ Refuses refusal → IfSome files (λ m. merged_in (named names) m ≡ Refuses refusal)
+    both : (refusal : Refusal) (files : Option Files) → IfSome files (λ m. merged_in (named names) m ≡ merged_from (drop n (named names)) g m) → IfSome files (λ m. record_in (get_or names n d).now m ≡ Accepts later)
+        → joined_in (get_or names n d).now g later ≡ Refuses refusal → IfSome files (λ m. merged_in (named names) m ≡ Refuses refusal)
     both refusal None a b c = tt
     both refusal (Some m) a b c =
-        a ∙ ap (λ (l : List (List ℕ)). merged_from l g m) (left_at names n name within at) ∙ ap (λ (r : Reads Refusal Contents). r >>= λ x. rest_of name.now rest g x m) b
+        a ∙ ap (λ (l : List (List ℕ)). merged_from l g m) (left_at names n d within) ∙ ap (λ (r : Reads Refusal Contents). r >>= λ x. rest_of (get_or names n d).now rest g x m) b
         ∙ ap (λ (r : Reads Refusal Gathered). r >>= λ x. merged_from rest x m) c
 
 -- all were read
