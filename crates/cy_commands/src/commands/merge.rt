@@ -1,5 +1,7 @@
 // The command `merge`.
-ghost use Rattle.std.specs.Prelude.{◌≡◌, length, map};
+ghost use Rattle.std.specs.Prelude.{◌≡◌, ◌≤◌, [], length, map, vec_capacity};
+ghost use Rattle.cy_reader.specs.Joined.{Gathered, IsOrdered};
+ghost use Rattle.cy_commands.specs.declared.kept.TheConstants.{LINE_ROOM};
 ghost use Rattle.cy_store.specs.Store.{StoreView};
 ghost use Rattle.cy_words.specs.Command as command;
 ghost use Rattle.cy_commands.specs.Due.{IsDueFor};
@@ -47,32 +49,24 @@ fn due_unwritten(output: &str, error: WriteError) -> Due<'_>
     }
 }
 
-// Writes what was read, in the order of time, and says what is due then. It takes room for the line
-// before.
-fn write_in_time<'a, S: Store>(
+// Writes records that are joined and in the order of time, and says what is due then.
+fn write_sorted<'a, S: Store>(
     alloc: Global,
     merge: &Merge<'a>,
-    merged: Merged,
+    sorted: &Merged,
     records: usize,
+    line: Vec<u8>,
     store: &mut S,
 ) -> Due<'a>
-    requires { records ≡ length (merge_words_of merge.now).inputs }
-    ensures { (before : StoreView) → IsUnitedIn (merge_words_of merge.now) before
-        (S.shows store.old) merged
+    requires many { records ≡ length (merge_words_of merge.now).inputs }
+    requires empty { line.items ≡ [] }
+    requires room { LINE_ROOM ≤ vec_capacity line }
+    ensures { (before : StoreView) (read : Gathered) → IsUnitedIn (merge_words_of merge.now) before
+        (S.shows store.old) read → IsOrdered read sorted.now
         → IsDueFor (command.Merge (merge_words_of merge.now)) before (S.shows store.new)
         result.status (bytes_of_line result.line) }
 {
-    let Ok(line) = Vec::with_capacity(alloc, LINE_ROOM) else {
-        drop(merged);
-        return out_of_memory();
-    };
-    let Ok(merged) = merged.in_time() else {
-        drop(line);
-        return out_of_memory();
-    };
-    let written = write_merged(alloc, store, merge.output, &merged);
-    drop(merged);
-    match written {
+    match write_merged(alloc, store, merge.output, sorted) {
         Ok(messages) => due_kept(line, messages, ", records ", records as u64),
         Err(error) => {
             drop(line);
@@ -81,7 +75,38 @@ fn write_in_time<'a, S: Store>(
     }
 }
 
-// What is due for `merge` of records, where another file is named for what is written.
+// Puts records that are joined in the order of time, and writes them.
+fn write_in_time<'a, S: Store>(
+    alloc: Global,
+    merge: &Merge<'a>,
+    merged: Merged,
+    records: usize,
+    line: Vec<u8>,
+    store: &mut S,
+) -> Due<'a>
+    requires many { records ≡ length (merge_words_of merge.now).inputs }
+    requires empty { line.items ≡ [] }
+    requires room { LINE_ROOM ≤ vec_capacity line }
+    ensures { (before : StoreView) → IsUnitedIn (merge_words_of merge.now) before
+        (S.shows store.old) merged
+        → IsDueFor (command.Merge (merge_words_of merge.now)) before (S.shows store.new)
+        result.status (bytes_of_line result.line) }
+{
+    match merged.in_time() {
+        Ok(sorted) => {
+            let due = write_sorted(alloc, merge, &sorted, records, line, store);
+            drop(sorted);
+            due
+        }
+        Err(_) => {
+            drop(line);
+            out_of_memory()
+        }
+    }
+}
+
+// What is due for `merge` of records, where another file is named for what is written. It takes room
+// for the line before it reads.
 fn merge_apart<'a, S: Store, R: Threads + Sync>(
     rt: &R,
     alloc: Global,
@@ -95,9 +120,15 @@ fn merge_apart<'a, S: Store, R: Threads + Sync>(
     ensures { IsDueFor (command.Merge (merge_words_of merge.now)) (S.shows store.old)
         (S.shows store.new) result.status (bytes_of_line result.line) }
 {
+    let Ok(line) = Vec::with_capacity(alloc, LINE_ROOM) else {
+        return out_of_memory();
+    };
     match read_merged(rt, alloc, store, inputs) {
-        Ok(merged) => write_in_time(alloc, merge, merged, inputs.len(), store),
-        Err(error) => due_unset(alloc, error),
+        Ok(merged) => write_in_time(alloc, merge, merged, inputs.len(), line, store),
+        Err(error) => {
+            drop(line);
+            due_unset(alloc, error)
+        }
     }
 }
 
