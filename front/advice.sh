@@ -69,6 +69,18 @@ role_of() { # that name
   esac
 }
 
+# Puts an input of `merge` that a line is on, and its role, into `file` and `role`.
+find_input() { # the line behind the program's name
+  local inputs name
+  IFS=, read -r -d '' -a inputs < <(printf '%s\0' "${value_of[INPUTS]-}")
+  for name in "${inputs[@]}"; do
+    if [[ ${#name} -gt ${#file} && $1 == "$name: "* ]]; then
+      file=$name
+      role=record
+    fi
+  done
+}
+
 # Puts the file that a line is on, its role and what is said of it into `file`, `role` and `fault`. The roles are those of the arguments,
 # `component file` and, for what `make` writes, `made`; a DAG file may be given as the scheduler file, too.
 find_file() { # the line behind the program's name
@@ -82,6 +94,7 @@ find_file() { # the line behind the program's name
       file=${value_of[$name]}
     fi
   done
+  find_input "$1"
   for name in "${!value_of[@]}"; do
     [[ -z $file || ${value_of[$name]} != "$file" ]] || role+=${role:+, }$(role_of "$name")
   done

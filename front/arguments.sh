@@ -29,6 +29,7 @@ known_of() { # the command
       places=(IN OUT)
       valued=(channels drop begin end)
       ;;
+    merge) places=(INPUTS OUT) ;;
   esac
 }
 
@@ -168,6 +169,8 @@ fault_of_place() { # the place, and the word
     echo "$command takes no options, and $(shown "$2") looks like one. Its arguments are ${places[*]}."
   elif [[ $2 == -* ]]; then
     fault_of_hyphen "$1" "$2"
+  elif [[ $1 == INPUTS && ,$2, == *,,* ]]; then
+    echo "INPUTS is names of records with single commas between them, and $(shown "$2") has an empty name."
   elif [[ $1 == N ]] && ! is_made "$2"; then
     echo "N has to be a whole number from 1 to 1048576, and $(shown "$2") is none."
   fi
@@ -358,6 +361,13 @@ find_equal() { # what they are, and pairs of names
   done
 }
 
+# Adds a fault where the output is also one of the inputs.
+find_merged() {
+  [[ -n ${value_of[INPUTS]+given} && -n ${value_of[OUT]+given} && ,${value_of[INPUTS]}, == *",${value_of[OUT]},"* ]] || return 0
+  [[ ${value_of[OUT]} != *,* ]] || return 0
+  add_fault "OUT is also one of INPUTS, $(shown "${value_of[OUT]}"), and has to be another file."
+}
+
 find_equal_names() {
   case $command in
     play) find_equal file 'out trace' 'out record' 'out dag' 'out sched' 'trace record' 'trace dag' 'trace sched' ;;
@@ -367,6 +377,7 @@ find_equal_names() {
       find_equal channel 'FROM TO'
       ;;
     recover | split) find_equal file 'IN OUT' ;;
+    merge) find_merged ;;
   esac
 }
 

@@ -5,7 +5,7 @@
 # Who reads this file sets `top`: the folder that has `front/` and, once it is built, the program.
 
 program=$top/crates/cyber/out/cyber
-COMMANDS=(play verify pass check info make recover split)
+COMMANDS=(play verify pass check info make recover split merge)
 # The status where no program ran, since there is none or the quick look refuses the arguments. The program ends with 0 to 6.
 NO_PROGRAM=126
 

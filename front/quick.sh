@@ -34,6 +34,7 @@ files_of_command() {
     pass) reads=(RECORD) && writes=(OUT TRACE) ;;
     info) reads=(FILE) ;;
     recover | split) reads=(IN) && writes=(OUT) ;;
+    merge) reads=(INPUTS) && writes=(OUT) ;;
   esac
 }
 
@@ -79,7 +80,7 @@ place_of() { # the number of the word, the word, and the one before it
 # Puts the arguments into `words` as `rt try` gets them, with absolute names for what is written and for what can't be copied under its own
 # name. `given` has the names as they were given, by those absolute names.
 make_words() { # the arguments
-  local key front_of word number=0 before='' name
+  local key front_of word number=0 before='' name joined
   declare -gA given=()
   words=()
   for word in "$@"; do
@@ -87,13 +88,35 @@ make_words() { # the arguments
     before=$word
     number=$((number + 1))
     if [[ -n $key && " ${reads[*]} ${writes[*]} " == *" $key "* ]]; then
-      name=$(name_for_try "$key" "${value_of[$key]}")
-      given[$name]=${value_of[$key]}
-      word=$front_of$name
+      if [ "$key" = INPUTS ]; then
+        join_inputs
+        word=$joined
+      else
+        name=$(name_for_try "$key" "${value_of[$key]}")
+        given[$name]=${value_of[$key]}
+        word=$front_of$name
+      fi
     fi
     words+=("$word")
   done
   [[ $command != make || ${value_of[PREFIX]} == /* ]] || make_absolute_prefix
+}
+
+# Puts the names of the inputs of `merge` into `inputs`.
+split_inputs() {
+  IFS=, read -r -d '' -a inputs < <(printf '%s\0' "${value_of[INPUTS]}")
+}
+
+# The inputs of `merge` get absolute names; the list of these is put into `joined`.
+join_inputs() {
+  local inputs=() name absolute
+  joined=
+  split_inputs
+  for name in "${inputs[@]}"; do
+    absolute=$(name_for_try '' "$name")
+    given[$absolute]=$name
+    joined+=${joined:+,}$absolute
+  done
 }
 
 # The files of `make` get absolute names.
@@ -135,11 +158,16 @@ print_as_given() { # the file with the text, and what stands before a name in it
 
 # Whether the arguments are within what a quick look does; ends where they aren't.
 looks_small() { # the reason why it would be needed
-  local names_read=() key odd='' bytes most=$MOST_BYTES
+  local names_read=() inputs=() key odd='' bytes most=$MOST_BYTES
   # What a play wrote is longer than what it read, and quickly verified.
   [[ $command != verify ]] || most=$((4 * MOST_BYTES))
   for key in "${reads[@]}"; do
-    [ -z "${value_of[$key]-}" ] || names_read+=("${value_of[$key]}")
+    if [ "$key" = INPUTS ]; then
+      split_inputs
+      names_read+=("${inputs[@]}")
+    elif [ -n "${value_of[$key]-}" ]; then
+      names_read+=("${value_of[$key]}")
+    fi
   done
   bytes_of "${names_read[@]}" "${files[@]}"
   [ -z "$odd" ] || refuse_quick_look "$1" "$odd"
@@ -161,6 +189,7 @@ answer_plainly() { # the arguments
   [ ${#faults[@]} -eq 0 ] || answer_at_once 2 'cyber: the words are not of a known form' "$@"
   [ ${#reads[@]} -gt 0 ] || return 0
   first=${value_of[${reads[0]}]}
+  [ "${reads[0]}" != INPUTS ] || first=${first%%,*}
   [ -e "$first" ] || answer_at_once 3 "cyber: $first: the store failed" "$@"
 }
 

@@ -3,7 +3,7 @@ _cyber() {
   local word=${COMP_WORDS[COMP_CWORD]} before=${COMP_WORDS[COMP_CWORD - 1]} options=
   COMPREPLY=()
   if [ "$COMP_CWORD" -eq 1 ]; then
-    local commands='play verify pass check info make recover split help'
+    local commands='play verify pass check info make recover split merge help'
     [[ $word != -* ]] || commands='--help --version'
     mapfile -t COMPREPLY < <(compgen -W "$commands" -- "$word")
     return
@@ -13,7 +13,7 @@ _cyber() {
     verify) options='--dag --record --out --trace --channels --drop --begin --end --stop' ;;
     check) options='--dag --sched' ;;
     help)
-      [ "$COMP_CWORD" -gt 2 ] || mapfile -t COMPREPLY < <(compgen -W 'play verify pass check info make recover split' -- "$word")
+      [ "$COMP_CWORD" -gt 2 ] || mapfile -t COMPREPLY < <(compgen -W 'play verify pass check info make recover split merge' -- "$word")
       return
       ;;
     split) [ "$COMP_CWORD" -le 3 ] || options='--channels --drop --begin --end' ;;

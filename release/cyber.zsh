@@ -10,6 +10,7 @@ commands=(
   'make:make the files of a play and play them'
   'recover:make a whole record of what stands before the first fault of a file'
   'split:write a record of some messages of another one'
+  'merge:write one record of all messages of several'
   'help:say how a command is called'
 )
 if (( CURRENT == 2 )); then
@@ -20,7 +21,7 @@ local command=$words[2]
 shift words
 (( CURRENT-- ))
 case $command in
-  help) _arguments '1:command:(play verify pass check info make recover split)' ;;
+  help) _arguments '1:command:(play verify pass check info make recover split merge)' ;;
   play)
     _arguments '--serial[on one thread]' '--dag=[the DAG file]:file:_files' '--record=[the record that is played]:file:_files' \
       '--out=[the record that is written]:file:_files' '--trace=[the trace that is written]:file:_files' \
@@ -44,4 +45,5 @@ case $command in
     _arguments '1:record:_files' '2:record that is written:_files' '--channels=[only these channels]:channels:' \
       '--drop=[none of these channels]:channels:' '--begin=[from this time on]:nanoseconds:' '--end=[up to this time]:nanoseconds:'
     ;;
+  merge) _arguments '1:records with commas between them:_sequence _files' '2:record that is written:_files' ;;
 esac

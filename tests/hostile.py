@@ -65,11 +65,12 @@ TEXTS = {
     "verify": re.compile(b"lawful: " + SUMMARY),
     "recover": re.compile(rb"done: messages (\d+), dropped \d+\n"),
     "split": re.compile(rb"done: messages (\d+) of \d+\n"),
+    "merge": re.compile(rb"done: messages (\d+), records \d+\n"),
     "info": re.compile(rb"file in\.rec bytes \d+\nversion \d+\.\d+ complete (?:yes|no) compress 0\n(?:[^\n]+\n)+"),
     "check": re.compile(rb"(?:[^\n]+\n)*ok\n"),
 }
 WRITTEN = ("out.rec", "out.trace")
-WRITES = {"play": WRITTEN, "pass": WRITTEN, "recover": WRITTEN[:1], "split": WRITTEN[:1]}
+WRITES = {"play": WRITTEN, "pass": WRITTEN, "recover": WRITTEN[:1], "split": WRITTEN[:1], "merge": WRITTEN[:1]}
 TOLD = {0: "Done", 1: "Refused", 3: "StoreFault", 5: "Limit", MEMORY: "Memory"}  # the statuses that files can bring about
 
 
@@ -191,7 +192,7 @@ def written_as_told(ran):
 
 
 def parted_as_told(ran):
-    """Looks that a reader of the tests' own finds as many messages in what was recovered or split as the line has."""
+    """Looks that a reader of the tests' own finds as many messages in what was recovered, split or merged as the line has."""
     count = int(TEXTS[ran.words[0]].fullmatch(ran.out)[1])
     try:
         messages = messages_of(read("out.rec"))
@@ -239,7 +240,7 @@ class Suite:
                 ran.seconds = min(ran.seconds, self.run(words).seconds)
         if ran.is_done and words[0] in ("play", "pass"):
             written_as_told(ran)
-        if ran.is_done and words[0] in ("recover", "split"):
+        if ran.is_done and words[0] in ("recover", "split", "merge"):
             parted_as_told(ran)
         self.takes_little(ran, before)
         self.counts[words[0], ran.status] += 1
@@ -286,7 +287,8 @@ def a_record(words, chance, _):
     leave_old_files(chance)
     passing = ["pass", "in.rec", *WRITTEN, *chance.sample(CHANNELS + ["/x"], 2)]
     parting = ["split", "in.rec", WRITTEN[0], chance.choice(["--channels", "--drop"]), ",".join(chance.sample(CHANNELS, 2))]
-    return [["info", "in.rec"], passing, ["recover", "in.rec", WRITTEN[0]], parting, *plays(words, chance)]
+    merging = ["merge", ",".join(["in.rec"] * chance.randint(1, 3)), WRITTEN[0]]
+    return [["info", "in.rec"], passing, ["recover", "in.rec", WRITTEN[0]], parting, merging, *plays(words, chance)]
 
 
 def a_text(words, chance, _):

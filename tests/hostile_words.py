@@ -140,6 +140,7 @@ def try_lists(rows, names):
         for words in option(b"--channels", value) + option(b"--drop", value):
             rows.refuses(PLAY + words)
             rows.refuses(SPLIT + words)
+        rows.refuses([b"merge", value, b"part.rec"])
 
 
 def try_places(rows, names):
@@ -154,6 +155,7 @@ def try_places(rows, names):
         rows.refuses([b"info", name])
         rows.refuses([b"recover", name, b"part.rec"])
         rows.refuses([b"split", b"in.rec", name])
+        rows.refuses([b"merge", b"in.rec", name])
     for name in (b"a\nb", b"a=b", "é".encode(), b"@", b"a,b", b'"', b"no\\", b" ", b"x" * 4000, b"x" * 100_000, b"/" * 100_000 + b"no"):
         rows.answers([b"info", name], 3, b"cyber: %s: the store failed\n" % name)
         rows.answers([b"recover", name, b"part.rec"], 3, b"cyber: %s: the store failed\n" % name)

@@ -26,6 +26,7 @@ ROWS = [
     ("info", ["info", "one.rec"], [], []),
     ("recover", ["recover", "one.rec", "out.rec"], ["out.rec"], []),
     ("split", ["split", "one.rec", "out.rec", "--channels", "/in,/none", "--drop", "/x"], ["out.rec"], []),
+    ("merge", ["merge", "one.rec,one.rec", "out.rec"], ["out.rec"], []),
 ]
 MADE = ("verify", ["verify", *DRIVE, *FILES], [], [])
 

@@ -1,8 +1,9 @@
 #!/usr/bin/env python3
-"""Writes what `recover` and `split` must make of a file, as docs/RULES.md and docs/FORMATS.md say.
+"""Writes what `recover`, `split` and `merge` must make of files, as docs/RULES.md and docs/FORMATS.md say.
 
     parted.py OUT LINE recover IN
     parted.py OUT LINE split IN [--channels LIST] [--drop LIST] [--begin N] [--end N]
+    parted.py OUT LINE merge INPUTS
 
 OUT and LINE are the files that get the record and the line. Nothing here is taken from the program; only files that it accepts can be read.
 """
@@ -64,17 +65,40 @@ def split(data, chosen):
     return record(kept, forms_of(data)), f"done: messages {len(kept)} of {len(messages)}\n"
 
 
+def merged(records):
+    """The record and the line of `merge`, for records whose types and descriptions don't differ."""
+    messages, forms = [], {}
+    for data in records:
+        messages += messages_of(data)
+        for name, form in forms_of(data).items():
+            kept = forms.get(name, (b"", b""))
+            forms[name] = tuple(first or later for first, later in zip(kept, form))
+    messages.sort(key=lambda it: it[1])
+    return record(messages, forms), f"done: messages {len(messages)}, records {len(records)}\n"
+
+
+def read(name):
+    with open(name, "rb") as file:
+        return file.read()
+
+
+def made_by(words):
+    """The record and the line of a command."""
+    if words.command == "merge":
+        return merged([read(name) for name in words.input.split(",")])
+    data = read(words.input)
+    return recovered(data) if words.command == "recover" else split(data, choice_of(words))
+
+
 def main():
     reader = argparse.ArgumentParser()
     for name in ("out", "line"):
         reader.add_argument(name)
-    reader.add_argument("command", choices=("recover", "split"))
+    reader.add_argument("command", choices=("recover", "split", "merge"))
     reader.add_argument("input")
     add_choice(reader)
     words = reader.parse_args()
-    with open(words.input, "rb") as file:
-        data = file.read()
-    made, line = recovered(data) if words.command == "recover" else split(data, choice_of(words))
+    made, line = made_by(words)
     with open(words.out, "wb") as file:
         file.write(made)
     with open(words.line, "w", encoding="utf-8") as file:

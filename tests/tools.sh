@@ -1263,7 +1263,7 @@ completes() { # the folder with the completions
   count $? "$name: bash completes other options: $(cat difference)"
   # shellcheck disable=SC2016
   bash -c '. "$1"; COMP_WORDS=(cyber ""); COMP_CWORD=1; _cyber; echo "${COMPREPLY[*]}"' - "$1/bash-completion/completions/cyber" >commands
-  says commands 'play verify pass check info make recover split help'
+  says commands 'play verify pass check info make recover split merge help'
   grep -o -- "'--[a-z]*" "$1/zsh/vendor-completions/_cyber" | tr -d "'" | sort -u | diff - <(echo "$options") >difference
   count $? "$name: zsh completes other options: $(cat difference)"
   if command -v zsh >/dev/null; then

@@ -28,13 +28,14 @@ use Rattle.cy_tools.specs.Kept.{channels_with, chunks_with, passing}
 use Rattle.cy_tools.specs.Tools.{met_in}
 use Rattle.cy_replay.specs.declared.error.Refusal.{Refusal}
 use Rattle.cy_replay.specs.Setup.{Replayed}
-use Rattle.cy_words.specs.Command.{Asks, Check, Command, Info, Make, Play, PlayFilesDiffer, Recover, Split, Verify}
+use Rattle.cy_words.specs.Command.{Asks, Check, Command, Info, Make, Merge, Play, PlayFilesDiffer, Recover, Split, Verify}
 use Rattle.cy_words.specs.MakeWords.{MakeWords}
 use Rattle.cy_words.specs.PlayWords.{PlayWords}
 use Rattle.cy_commands.specs.declared.status.Status.{Status}
 use Rattle.cy_commands.specs.declared.status.Status.TheVariants.{Done, Refused, Usage, StoreFault, SinkFault, Limit, Memory}
 use Rattle.cy_commands.specs.Commands.{IsAccepted, outcome_of}
 use Rattle.cy_commands.specs.Commands.MakeWork.{IsMakeWork, play_made}
+use Rattle.cy_commands.specs.Commands.MergeWork.{met_sorted}
 use Rattle.cy_commands.specs.Commands.PlayWork.{IsPlayWork, source_in}
 use Rattle.cy_commands.specs.Commands.RecoverWork.{WritesKept}
 use Rattle.cy_commands.specs.Commands.VerifyWork.{IsVerified, Judged, absent, bad, differs, judged, lawful, no_record, no_trace, refused, too_large, unlawful}
@@ -207,7 +208,7 @@ verified_silent w files result work (refused refusal is) e = cc
 verified_silent w files result work (absent name is) e = cc
 verified_silent w files result work (judged read list made is set out) e = judged_silent w read list files made work out e
 
--- the one file of `recover` and of `split`
+-- the one file of `recover`, of `split` and of `merge`
 kept_others : (name q : List ℕ) (met : Met) (kept : List Message) (work : Work) → WritesKept name met kept work → (name ≡ q → ⊥) → AreOfOthers q work.writes
 kept_others name q met kept work made apart =
     subst (AreOfOthers q) (sym made.writes) (of_file q name (record_puts (channels_with met kept) (chunks_with name met kept)) apart)
@@ -240,6 +241,7 @@ work_others (Play w) files work q a all = played_others w a.read work q a.made (
 work_others (Make w) files work q a all = made_others w work q a all
 work_others (Recover w) files work q a all = kept_others w.output q a.read.met a.read.met.messages work a.made.written (all 0 w.output (omega arith))
 work_others (Split w) files work q a all = kept_others w.output q (met_in a.read) (passing w.filter (met_in a.read)) work a.made.written (all 0 w.output (omega arith))
+work_others (Merge w) files work q a all = kept_others w.output q (met_sorted a.read a.made.sorted) a.made.sorted work a.made.written (all 0 w.output (omega arith))
 work_others (Verify w) files work q a all = subst (AreOfOthers q) (sym (verified_silent w files (Accepts work) work a refl)) (none_of q)
 
 no_names : (P : List ℕ → Type 0) → All P []
@@ -262,6 +264,8 @@ work_records (Make w) files work apart a = two_names (λ name. HasRecord work na
 work_records (Recover w) files work apart a = one_name (λ name. HasRecord work name (λ channels chunks. ⊤)) w.output (kept_record_of w.output a.read.met a.read.met.messages work a.made.written)
 work_records (Split w) files work apart a =
     one_name (λ name. HasRecord work name (λ channels chunks. ⊤)) w.output (kept_record_of w.output (met_in a.read) (passing w.filter (met_in a.read)) work a.made.written)
+work_records (Merge w) files work apart a =
+    one_name (λ name. HasRecord work name (λ channels chunks. ⊤)) w.output (kept_record_of w.output (met_sorted a.read a.made.sorted) a.made.sorted work a.made.written)
 work_records (Verify w) files work apart a = no_names (λ name. HasRecord work name (λ channels chunks. ⊤))
 
 -- ---- what stands of a record
@@ -376,6 +380,7 @@ differ apart words (Make w) h = tt
 differ apart words (Verify w) h = tt
 differ apart words (Recover w) h = tt
 differ apart words (Split w) h = tt
+differ apart words (Merge w) h = tt
 
 pub leaves_its_files : PlayFilesDiffer → Leavings → LeavesItsFiles
 leaves_its_files apart l words None old new due line asks d = record { misused = λ e. d.same; refused = λ e. d.same; limited = λ e. d.same; files = tt }

@@ -5,6 +5,7 @@ pub mod KeptExits
 pub mod Leaving
 pub mod MakeDrafts
 pub mod MakeExits
+pub mod MergeExits
 pub mod NamesApart
 pub mod OneDue
 pub mod OneList

@@ -3,21 +3,24 @@
 pub mod CheckWork
 pub mod InfoWork
 pub mod MakeWork
+pub mod MergeWork
 pub mod PlayWork
 pub mod RecoverWork
 pub mod SplitWork
 pub mod VerifyWork
 use Rattle.std.specs.Prelude.{ℕ, ◌≡◌, ⊤, List, Option, Some, IfSome}
+use Rattle.std.specs.List.{Contains}
 use Rattle.cy_store.specs.Files.{Files}
 use Rattle.cy_store.specs.Reads.{Reads, Accepts, Absent}
 use Rattle.cy_replay.specs.Configuration.{IsAsked}
 use Rattle.cy_replay.specs.Setup as setup
 use Rattle.cy_replay.specs.declared.error.Refusal.{Refusal}
-use Rattle.cy_words.specs.Command.{Command, Check, Info, Play, Make, Verify, Recover, Split}
+use Rattle.cy_words.specs.Command.{Command, Check, Info, Play, Make, Verify, Recover, Split, Merge}
 use Rattle.cy_commands.specs.declared.status.Status.{Status}
 use Rattle.cy_commands.specs.Commands.CheckWork.{IsCheckWork, checked_in}
 use Rattle.cy_commands.specs.Commands.InfoWork.{IsInfoWork, told_of}
 use Rattle.cy_commands.specs.Commands.MakeWork.{IsMakeWork, made_names}
+use Rattle.cy_commands.specs.Commands.MergeWork.{IsMergeWork, united_in}
 use Rattle.cy_commands.specs.Commands.PlayWork.{IsPlayWork, readied_in}
 use Rattle.cy_commands.specs.Commands.RecoverWork.{IsRecoverWork, recovered_in}
 use Rattle.cy_commands.specs.Commands.SplitWork.{IsSplitWork, parted_in}
@@ -46,6 +49,8 @@ outcome_of (Verify w) = Judging (IsReadToVerify w) (IsVerified w)
 outcome_of (Recover w) =
     Reading (λ files name. name ≡ w.input) (recovered_in w) (IsRecoverWork w)
 outcome_of (Split w) = Reading (λ files name. name ≡ w.input) (parted_in w) (IsSplitWork w)
+outcome_of (Merge w) =
+    Reading (λ files name. Contains w.inputs name) (united_in w) (IsMergeWork w)
 
 -- A file that is read has this name.
 abbrev pub IsReadBy : Outcome → Option Files → List ℕ → Type 0

@@ -11,6 +11,7 @@ use Rattle.cy_writer.specs.Unfinished.{AreOfOthers, StandsCut, StandsTorn, write
 use Rattle.cy_make.specs.Inputs.{all_configs, record_name}
 use Rattle.cy_make.specs.Texts.{suffix_of}
 use Rattle.cy_words.specs.Command.{Asks, Command, Check, Info, Play, Make, Verify, Recover, Split}
+use Rattle.cy_words.specs.Command.{Merge}
 use Rattle.cy_commands.specs.declared.status.Status.{Status}
 use Rattle.cy_commands.specs.declared.status.Status.TheVariants.{Done, Refused, Usage, StoreFault}
 use Rattle.cy_commands.specs.declared.status.Status.TheVariants.{SinkFault, Limit, Memory}
@@ -28,6 +29,7 @@ records_of (Make w) = record_name w.prefix ∷ (play_made w).output ∷ []
 records_of (Verify w) = []
 records_of (Recover w) = w.output ∷ []
 records_of (Split w) = w.output ∷ []
+records_of (Merge w) = w.output ∷ []
 
 abbrev pub texts_of : Command → List (List ℕ)
 texts_of (Check w) = []
@@ -37,6 +39,7 @@ texts_of (Make w) = map (λ c. w.prefix ++ suffix_of c) all_configs ++ (play_mad
 texts_of (Verify w) = []
 texts_of (Recover w) = []
 texts_of (Split w) = []
+texts_of (Merge w) = []
 
 -- Every name but those is as before.
 abbrev pub LeavesOthers : Command → Files → Files → Type 0

@@ -9,6 +9,7 @@ ghost use Rattle.cy_words.specs.Views.{command_asked, IsInForm};
 mod check;
 mod info;
 mod make;
+mod merge;
 mod recover;
 mod split;
 mod verify;
@@ -21,6 +22,7 @@ use cy_store::Store;
 use cy_words::{Command, Play};
 use info::run_info;
 use make::run_make;
+use merge::run_merge;
 use recover::run_recover;
 use split::run_split;
 use std::alloc::Global;
@@ -65,5 +67,6 @@ pub fn begin_command<'a, S: Store, R: Threads + Sync>(
         Command::Verify(play) => Begun::Ended(run_verify(rt, alloc, play, store)),
         Command::Recover(recover) => Begun::Ended(run_recover(rt, alloc, recover, store)),
         Command::Split(split) => Begun::Ended(run_split(rt, alloc, split, store)),
+        Command::Merge(merge) => Begun::Ended(run_merge(rt, alloc, merge, store)),
     }
 }

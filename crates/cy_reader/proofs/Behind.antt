@@ -108,12 +108,12 @@ all_found (x ∷ xs) a b (suc k) e few =
     all_found xs s.0 b k s.2 (omega arith)
 
 -- an item behind others, and those before it
-index-before : {X : Type 0} (xs : List X) (y d : X) (i : ℕ) → i < length xs → slice_index_or (xs ++ y ∷ []) i d ≡ slice_index_or xs i d
+pub index-before : {X : Type 0} (xs : List X) (y d : X) (i : ℕ) → i < length xs → slice_index_or (xs ++ y ∷ []) i d ≡ slice_index_or xs i d
 index-before [] y d i few = absurd (omega arith)
 index-before (x ∷ xs) y d zero few = refl
 index-before (x ∷ xs) y d (suc i) few = index-before xs y d i (omega arith)
 
-index-last : {X : Type 0} (xs : List X) (y d : X) → slice_index_or (xs ++ y ∷ []) (length xs) d ≡ y
+pub index-last : {X : Type 0} (xs : List X) (y d : X) → slice_index_or (xs ++ y ∷ []) (length xs) d ≡ y
 index-last [] y d = refl
 index-last (x ∷ xs) y d = index-last xs y d
 

@@ -23,3 +23,6 @@ pub mod CutTo
 pub mod FrontRead
 pub mod Salvaging
 pub mod Told
+pub mod JoinedChannels
+pub mod Shifted
+pub mod InTime

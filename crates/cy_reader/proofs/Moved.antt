@@ -26,7 +26,7 @@ only_body : (body : List ℕ) (i : ℕ) → i < 1 → slice_index_or (body ∷ [
 only_body body zero few = refl
 only_body body (suc i) few = absurd (omega arith)
 
-map-joined : {A B : Type 0} (f : A → B) (xs ys : List A) → map f (xs ++ ys) ≡ map f xs ++ map f ys
+pub map-joined : {A B : Type 0} (f : A → B) (xs ys : List A) → map f (xs ++ ys) ≡ map f xs ++ map f ys
 map-joined f [] ys = refl
 map-joined f (x ∷ xs) ys = ap (λ l. f x ∷ l) (map-joined f xs ys)
 

@@ -41,7 +41,7 @@ ok_is x y h = cc
 not_ok : {A : Type 0} (e : LoadError) (y : A) → (let r : Result A LoadError = Err e in r ≡ Ok y) → ⊥
 not_ok e y h = cc
 
-bind_ok : {A B : Type 0} (r : Result A LoadError) (f : A → Result B LoadError) (y : B) → r >>= f ≡ Ok y → (x : A) × ((r ≡ Ok x) × (f x ≡ Ok y))
+pub bind_ok : {A B : Type 0} (r : Result A LoadError) (f : A → Result B LoadError) (y : B) → r >>= f ≡ Ok y → (x : A) × ((r ≡ Ok x) × (f x ≡ Ok y))
 bind_ok (Ok x) f y h = (x, (refl, h))
 bind_ok (Err e) f y h = absurd (not_ok e y h)
 
@@ -59,7 +59,7 @@ content_fits_ok {A = A} content r y = by (nat_lt longest_content (length content
     by true e h = absurd (not_ok (ContentTooLarge (length content)) y (rw e at h))
     by false e h = rw e at h
 
-within_ok : (cs ds : List Known) → within_limits cs ≡ Ok ds → cs ≡ ds
+pub within_ok : (cs ds : List Known) → within_limits cs ≡ Ok ds → cs ≡ ds
 within_ok cs ds = by (nat_lt most_channels (length cs)) refl (nat_lt largest_channels (sum_by size_of cs)) refl
   where
     by : (b : Bool) → nat_lt most_channels (length cs) ≡ b → (d : Bool) → nat_lt largest_channels (sum_by size_of cs) ≡ d → within_limits cs ≡ Ok ds → cs ≡ ds
@@ -123,10 +123,10 @@ number_there name cs n is =
 -- ---- channels
 
 -- channels behind others: their names are those of the others and more, each once
-record Grown (cs ds : List Known) : Type 0 where
-  more : List (List ℕ)
-  names : names_of ds ≡ names_of cs ++ more
-  once : IsOnce (names_of ds)
+pub record Grown (cs ds : List Known) : Type 0 where
+  pub more : List (List ℕ)
+  pub names : names_of ds ≡ names_of cs ++ more
+  pub once : IsOnce (names_of ds)
 
 same_channels : (cs ds : List Known) → cs ≡ ds → IsOnce (names_of cs) → Grown cs ds
 same_channels cs ds is once = record {
@@ -135,7 +135,7 @@ same_channels cs ds is once = record {
   once = subst (λ (l : List Known). IsOnce (names_of l)) is once;
 }
 
-one_more : (cs ds : List Known) (k : Known) → cs ++ k ∷ [] ≡ ds → IsOnce (names_of cs) → number_of k.channel.name cs ≡ None → Grown cs ds
+pub one_more : (cs ds : List Known) (k : Known) → cs ++ k ∷ [] ≡ ds → IsOnce (names_of cs) → number_of k.channel.name cs ≡ None → Grown cs ds
 one_more cs ds k is once none =
     let names : names_of (cs ++ k ∷ []) ≡ names_of cs ++ k.channel.name ∷ [] = map-append (λ (k : Known). k.channel.name) cs (k ∷ []) in
     record {
@@ -150,7 +150,7 @@ names_replaced (x ∷ cs) zero k old there same =
     ap (λ (name : List ℕ). name ∷ names_of cs) (sym same ∙ ap (λ (y : Known). y.channel.name) (sym (same_Some x old there)))
 names_replaced (x ∷ cs) (suc n) k old there same = ap (λ (l : List (List ℕ)). x.channel.name ∷ l) (names_replaced cs n k old there same)
 
-replaced : (cs ds : List Known) (n : ℕ) (k old : Known) → set cs n k ≡ ds → slice_get cs n ≡ Some old → number_of k.channel.name cs ≡ Some n → IsOnce (names_of cs) → Grown cs ds
+pub replaced : (cs ds : List Known) (n : ℕ) (k old : Known) → set cs n k ≡ ds → slice_get cs n ≡ Some old → number_of k.channel.name cs ≡ Some n → IsOnce (names_of cs) → Grown cs ds
 replaced cs ds n k old is there number once =
     let at = number_there k.channel.name cs n number in
     let same : old.channel.name ≡ k.channel.name = ap (λ (y : Known). y.channel.name) (sym (get_or_from_slice_get cs n old (named_only []) there)) ∙ at.same in

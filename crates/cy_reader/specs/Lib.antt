@@ -2,6 +2,7 @@ pub mod private
 pub mod FaultText
 pub mod Heads
 pub mod Info
+pub mod Joined
 pub mod Load
 pub mod Named
 pub mod Play

@@ -5,6 +5,7 @@ pub mod Cutting
 pub mod Found
 pub mod Front
 pub mod Loading
+pub mod Uniting
 pub mod Uses
 pub mod Window
 pub mod Salvaging

@@ -69,7 +69,7 @@ fn size_of(known: &Known) -> u64
 }
 
 // The number of a channel's name, by a look at each channel.
-fn place_of(channels: &[Known], name: &str) -> Option<usize>
+pub(crate) fn place_of(channels: &[Known], name: &str) -> Option<usize>
     ensures { result ≡ number_of name.now channels.now }
 {
     channels
@@ -80,7 +80,7 @@ fn place_of(channels: &[Known], name: &str) -> Option<usize>
 // The number of a channel's name. Where there are few, a look at each takes less time than the hash
 // of the name.
 #[inline(always)]
-fn number_of(channels: &Channels, name: &str) -> Option<u32>
+pub(crate) fn number_of(channels: &Channels, name: &str) -> Option<u32>
     requires { IsTied channels.now }
     ensures { result ≡ number_of name.now channels.now.list.items }
 {
@@ -147,7 +147,7 @@ fn make_room(alloc: Global, channels: &mut Channels, known: &Known) -> Result<()
 }
 
 // Adds a channel of a new name, within the limits.
-fn add(alloc: Global, channels: &mut Channels, known: Known) -> Result<(), LoadError>
+pub(crate) fn add(alloc: Global, channels: &mut Channels, known: Known) -> Result<(), LoadError>
     requires small { AreSmall channels.old.list.items }
     requires tied { IsTied channels.old }
     requires size { size_of known < 2 ^ 62 }
@@ -171,7 +171,7 @@ fn add(alloc: Global, channels: &mut Channels, known: Known) -> Result<(), LoadE
 
 // Puts a channel in the place of one of its name that only messages named.
 #[tactic(auto, using(crate::proofs::Sums::sums, crate::proofs::Sums::places))]
-fn replace(channels: &mut Channels, number: u32, known: Known) -> Result<(), LoadError>
+pub(crate) fn replace(channels: &mut Channels, number: u32, known: Known) -> Result<(), LoadError>
     requires small { AreSmall channels.old.list.items }
     requires tied { IsTied channels.old }
     requires size { size_of known < 2 ^ 62 }

@@ -3,9 +3,9 @@
 //!
 //! `specs/Tiling` says into which sections a file falls, `specs/Sections` computes them, and
 //! `specs/Record` says what they hold together, `specs/Salvage` what is salvaged of those before a
-//! fault. `specs/Play` says which messages are played, and in
-//! which order, and `specs/Info` has the text that tells what a record is, `specs/FaultText` the
-//! one that tells why a file is none.
+//! fault. `specs/Joined` says what several records come to that are joined to one. `specs/Play`
+//! says which messages are played, and in which order, and `specs/Info` has the text that tells what
+//! a record is, `specs/FaultText` the one that tells why a file is none.
 #![tactic(auto)]
 
 mod channel_set;
@@ -24,11 +24,13 @@ mod known;
 mod laws;
 mod loaded;
 mod loading;
+mod merged;
 mod named;
 mod play;
 mod record;
 mod salvage;
 mod sections;
+mod uniting;
 mod window;
 
 pub use channel_set::ChannelSet;
@@ -38,5 +40,6 @@ pub use heads::PlacedHead;
 pub use known::Known;
 pub use laws::{channels_have_own_names, sections_are_met_as_said, sections_tile};
 pub use loaded::Loaded;
+pub use merged::Merged;
 pub use record::{Record, load, load_whole};
 pub use salvage::{Salvaged, salvage_record};

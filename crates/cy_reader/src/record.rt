@@ -1,13 +1,14 @@
 // A record that was read.
-ghost use Rattle.std.specs.Prelude.{◌≡◌, ◌<◌, ◌+◌, ◌++◌, length, slice_get};
+ghost use Rattle.std.specs.Prelude.{◌≡◌, ◌≤◌, ◌<◌, ◌+◌, ◌++◌, length, slice_get};
 ghost use Rattle.std.specs.Prelude.{IfSome, Some, OnOk};
 ghost use Rattle.std.specs.Prelude.{◌≢◌, IfOk, IfErr, IsOkUnless};
 ghost use Rattle.cy_msg.specs.Answer.{AnswersOr};
-ghost use Rattle.cy_reader.specs.Record.{record_of};
+ghost use Rattle.cy_reader.specs.Record.{longest_file, record_of};
 ghost use Rattle.cy_reader.specs.Info.{info_text};
 ghost use Rattle.cy_reader.specs.private.Cutting.{AreWithin};
 ghost use Rattle.cy_reader.specs.private.Facts.{AreFacts};
 ghost use Rattle.cy_reader.specs.private.Front.{cut_record};
+ghost use Rattle.cy_reader.specs.private.Uniting.{IsKeptOf};
 ghost use Rattle.cy_reader.specs.Load.{FileAnswer, LoadAnswer};
 ghost use Rattle.cy_reader.specs.Play.{message_at, time_at};
 
@@ -18,7 +19,7 @@ use crate::gathering::parts_met;
 use crate::header::LONGEST_FILE;
 use crate::heads::{Heads, KeptIndex, PlacedHead, heads_of, push_index};
 use crate::loading::{Loading, parts_of};
-use crate::{LoadError, Loaded, info};
+use crate::{Known, LoadError, Loaded, info};
 use cy_msg::{Bytes, Text};
 use cy_section::{Channel, Header};
 use cy_store::{ReadFile, Store, read_file};
@@ -52,7 +53,7 @@ impl Model for Record {
     ghost view = { λ r. shown (kept_source r.name r.size r.header r.heads.items r.index)
         (met_of r.bodies.items r.loading) };
 
-    ghost invariant = { λ r. IsKept r.bodies.items r.index r.loading };
+    ghost invariant = { λ r. IsKept r.size r.bodies.items r.index r.loading };
 }
 
 // The bytes of a file, which are not more than are read.
@@ -104,7 +105,8 @@ fn record_of_cut<R: Threads + Sync>(
     front: Front,
     cut: CutFile,
 ) -> Result<Record, LoadError>
-    requires { AreWithin cut }
+    requires within { AreWithin cut }
+    requires short { front.size ≤ longest_file }
     ensures record { AnswersOr LoadError.Memory (λ r. r) result (cut_record name.now front cut) }
     ensures not_store { IfErr result (λ e. e ≢ LoadError.Store) }
 {
@@ -148,7 +150,45 @@ pub fn load<S: Store, R: Threads + Sync>(
     record_of_cut(rt, alloc, name, front, cut)
 }
 
+// What is kept of a record: the length of its file, the bodies, and what stands in them.
+#[derive(Drop)]
+pub(crate) struct Kept {
+    pub size: u64,
+    pub bodies: Vec<Bytes>,
+    pub loading: Loading,
+}
+
 impl Record {
+    // What is kept of it, without what is told of its file.
+    pub(crate) fn into_kept(self) -> Kept
+        ensures { IsKeptOf self result }
+    {
+        let Record {
+            name,
+            size,
+            header: _,
+            heads,
+            index,
+            bodies,
+            loading,
+        } = self;
+        drop(index);
+        drop(heads);
+        drop(name);
+        Kept {
+            size,
+            bodies,
+            loading,
+        }
+    }
+
+    // Its channels.
+    pub(crate) fn known(&self) -> &[Known]
+        ensures { result.now ≡ self.now.channels }
+    {
+        self.loading.channels.list.as_slice()
+    }
+
     /// Its channels and messages.
     pub fn loaded(&self) -> Loaded<'_>
         ensures { result ≡ record { channels = self.now.channels; messages = self.now.messages } }

@@ -5,6 +5,7 @@ pub mod Counting
 pub mod FirstFound
 pub mod Fitting
 pub mod Joined
+pub mod JoinedRecords
 pub mod Judged
 pub mod Judging
 pub mod Limits

@@ -24,6 +24,9 @@ fault_text (fault.TraceTooLarge count) = limit_text (codes "TraceTooLarge") coun
 fault_text (fault.BadLine line) = codes "line " ++ decimal line ++ codes ": Bad"
 fault_text fault.Unlawful = codes "not a lawful run"
 fault_text (fault.Also name) = codes "is also " ++ name
+fault_text (fault.TypesDiffer name) = named_text (codes "TypesDiffer") [] name
+fault_text (fault.DescriptionsDiffer name) =
+    named_text (codes "DescriptionsDiffer") [] name
 fault_text (fault.Differs place) = codes "differs at " ++ decimal place
 
 abbrev pub is_limit : Fault → Bool
@@ -39,6 +42,8 @@ is_limit (fault.TraceTooLarge count) = true
 is_limit (fault.BadLine line) = false
 is_limit fault.Unlawful = false
 is_limit (fault.Also name) = false
+is_limit (fault.TypesDiffer name) = false
+is_limit (fault.DescriptionsDiffer name) = false
 is_limit (fault.Differs place) = false
 
 -- The line that tells it of its file.

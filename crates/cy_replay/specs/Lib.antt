@@ -6,6 +6,7 @@ pub mod Configuration
 pub mod FaultText
 pub mod Faults
 pub mod Listing
+pub mod Merging
 pub mod Passing
 pub mod RecordFile
 pub mod Setup

@@ -60,6 +60,16 @@ pub enum Fault {
         /// This name.
         name: Text,
     },
+    /// The type of a channel is another one in a record that is joined to others.
+    TypesDiffer {
+        /// The name of the channel.
+        name: Text,
+    },
+    /// And so is its description.
+    DescriptionsDiffer {
+        /// The name of the channel.
+        name: Text,
+    },
     /// A record is another than that of a run.
     Differs {
         /// The first place, from 0, at which it differs.
@@ -102,6 +112,10 @@ impl Fault {
             Fault::BadLine { line } => push_bad_line(to, *line),
             Fault::Unlawful => to.extend_from_slice(b"not a lawful run"),
             Fault::Also { name } => push_also(to, name.as_str()),
+            Fault::TypesDiffer { name } => push_named(to, "TypesDiffer", &[], name),
+            Fault::DescriptionsDiffer { name } => {
+                push_named(to, "DescriptionsDiffer", &[], name)
+            }
             Fault::Differs { place } => push_number(to, "differs at ", *place),
         }
     }
@@ -123,6 +137,8 @@ impl Fault {
             Fault::BadLine { .. } => false,
             Fault::Unlawful => false,
             Fault::Also { .. } => false,
+            Fault::TypesDiffer { .. } => false,
+            Fault::DescriptionsDiffer { .. } => false,
             Fault::Differs { .. } => false,
         }
     }

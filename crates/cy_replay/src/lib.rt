@@ -6,7 +6,8 @@
 //! one component passes messages on, `specs/Wiring` what wiring components does,
 //! `specs/Stops` what stop it has, `specs/Comes` what a call answers that reads files,
 //! `specs/FaultText` how a file that is refused is told. `specs/Apart` says that a file which is
-//! written is none of those that are read, `specs/TraceFile` which texts of traces are read.
+//! written is none of those that are read, `specs/TraceFile` which texts of traces are read,
+//! `specs/Merging` what several records come to that are joined to one.
 #![tactic(auto)]
 
 mod answers;
@@ -15,6 +16,7 @@ mod configuration;
 mod counts;
 mod error;
 mod listing;
+mod merging;
 mod passing;
 mod read;
 mod setup;
@@ -27,6 +29,7 @@ pub use apart::{STANDARD_OUTPUT, files_read, test_apart};
 pub use configuration::Configuration;
 pub use error::{Fault, Refusal, SetupError, failed, refused};
 pub use listing::read_record;
+pub use merging::read_merged;
 pub use passing::pass_is_wired;
 pub use read::read_configuration;
 pub use setup::{Replay, set_up};

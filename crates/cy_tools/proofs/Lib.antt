@@ -1,4 +1,5 @@
 pub mod Answering
+pub mod Merges
 pub mod Records
 pub mod Searching
 pub mod Texts

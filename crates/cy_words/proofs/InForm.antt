@@ -1,5 +1,5 @@
 -- A command that is asked for is in form.
-use Rattle.std.proofs.Common.{◌≡◌, ◌<◌, ◌≤◌, ◌||◌, ℕ, List, [], ◌∷◌, ◌++◌, Bool, true, false, Option, Some, None, is_some, if◌then◌else◌, cond, refl, sym, ap, ◌∙◌, subst, true≢false, arith}
+use Rattle.std.proofs.Common.{◌≡◌, ◌<◌, ◌≤◌, ◌||◌, ◌==◌, All, zero, suc, ℕ, List, [], ◌∷◌, ◌++◌, Bool, true, false, Option, Some, None, is_some, if◌then◌else◌, cond, refl, sym, ap, ◌∙◌, subst, true≢false, arith}
 use Rattle.std.proofs.Common.{codes, flat_map, not, option_map, option_to_list, bytes_eq, length}
 use Rattle.std.specs.Bool.{⊤}
 use Rattle.std.specs.List.{find, list_all}
@@ -11,9 +11,10 @@ use Rattle.cy_request.specs.Request.{HasReader, OfPass}
 use Rattle.cy_words.specs.declared.words.Command as code
 use Rattle.cy_words.specs.declared.words.Command.TheVariants as asked
 use Rattle.cy_words.specs.CheckWords.{check_asked}
-use Rattle.cy_words.specs.Command.{Asks, Check, Command, Form, Info, Make, Play, Recover, Split, Verify, form_of, forms, info_asked}
-use Rattle.cy_words.specs.FilterWords.{◌>>=◌, filter_asked, spelled_number}
+use Rattle.cy_words.specs.Command.{Asks, Check, Command, Form, Info, Make, Merge, Play, Recover, Split, Verify, form_of, forms, info_asked}
+use Rattle.cy_words.specs.FilterWords.{◌>>=◌, filter_asked, names_in, spelled_number}
 use Rattle.cy_words.specs.MakeWords.{MakeWords, count_of, longest_prefix, made_by, make_asked, most_made, where_made}
+use Rattle.cy_words.specs.MergeWords.{MergeWords, are_inputs, is_input, merge_asked, merged_by}
 use Rattle.cy_words.specs.Options.{Alone, Apart, AreOptions, Filled, Given, Joined, Known, Options, Place, is_known, is_place, kind_of, name_in, value_in, values_under}
 use Rattle.cy_words.specs.PassWords.{pass_asked, pass_known, passed_by}
 use Rattle.cy_words.specs.PlayWords.{PlayWords, is_play, play_asked, play_given, play_of_all, where_play}
@@ -58,6 +59,7 @@ IsFit (Play w) = HasReader w.request.components × (w.output ≡ w.trace → ⊥
 IsFit (Verify w) = HasReader w.request.components
 IsFit (Recover w) = w.input ≡ w.output → ⊥
 IsFit (Split w) = w.input ≡ w.output → ⊥
+IsFit (Merge w) = All (λ (input : Text). input ≡ w.output → ⊥) w.inputs
 IsFit (Make w) = (0 < w.count) × (w.count ≤ most_made) × (length w.prefix ≤ longest_prefix)
 IsFit c = ⊤
 
@@ -160,6 +162,20 @@ split_fit o w e =
     let filter = bound (filter_asked o) _ w files.2 in
     subst (λ (x : SplitWords). IsFit (Split x)) (some_same _ w filter.2) (recover_fit o files.0 files.1)
 
+inputs_apart : (output : Text) (names : List Text) → list_all (is_input output) names ≡ true → All (λ (input : Text). input ≡ output → ⊥) names
+inputs_apart output [] e k d h = absurd (omega (arith, h))
+inputs_apart output (name ∷ names) e zero d h = λ same. true≢false (sym (both _ _ (both _ _ e).0).1 ∙ ap not ((bytes_eq-Decides name output).1 same))
+inputs_apart output (name ∷ names) e (suc k) d h = inputs_apart output names (both _ _ e).1 k d (omega (arith, h))
+
+merge_fit : (o : Options) (w : MergeWords) → merge_asked o ≡ Some w → IsFit (Merge w)
+unfolding merge_asked are_inputs
+merge_fit o w e =
+    let list = bound (o (codes "list")) _ w e in
+    let output = bound (o (codes "out")) (merged_by list.0) w list.2 in
+    let made : MergeWords = record { inputs = names_in list.0; output = output.0 } in
+    let is = guarded (are_inputs output.0 list.0) (Some made) w output.2 in
+    subst (λ (x : MergeWords). IsFit (Merge x)) (some_same made w is.1) (inputs_apart output.0 (names_in list.0) is.0)
+
 abbrev EachFits : List Form → Type 0
 EachFits [] = ⊤
 EachFits (f ∷ fs) = Fits f × EachFits fs
@@ -179,7 +195,10 @@ each_fits = (
             λ words o c p. fit_by (verify_asked o) Verify c (verify_fit o),
             (
               λ words o c p. fit_by (recover_asked o) Recover c (recover_fit o),
-              (λ words o c p. fit_by (split_asked o) Split c (split_fit o), tt),
+              (
+                λ words o c p. fit_by (split_asked o) Split c (split_fit o),
+                (λ words o c p. fit_by (merge_asked o) Merge c (merge_fit o), tt),
+              ),
             ),
           ),
         ),
@@ -209,6 +228,9 @@ recover_files_apart words w h = asked_fits words (Recover w) h
 
 pub split_files_apart : (words : List Text) (w : SplitWords) → Asks words (Split w) → w.input ≡ w.output → ⊥
 split_files_apart words w h = asked_fits words (Split w) h
+
+pub merge_files_apart : (words : List Text) (w : MergeWords) → Asks words (Merge w) → All (λ (input : Text). input ≡ w.output → ⊥) w.inputs
+merge_files_apart words w h = asked_fits words (Merge w) h
 
 -- the same of the code's command
 in_form_by : (c : code.Command) → IsFit (command_asked c) → IsInForm c

@@ -1,9 +1,11 @@
 -- The commands, and the words that ask for them.
-use Rattle.std.specs.Prelude.{ℕ, ◌≡◌, ◌≢◌, ⊤, true, List, [], ◌∷◌, find, Option, Some, None, codes}
+use Rattle.std.specs.Prelude.{ℕ, ◌≡◌, ◌≢◌, ⊤, true, All, List, [], ◌∷◌, find, Option, Some, None}
+use Rattle.std.specs.Prelude.{codes}
 use Rattle.std.specs.Option.{option_map}
 use Rattle.std.specs.Str.{bytes_eq}
 use Rattle.cy_words.specs.CheckWords.{CheckWords, check_asked, check_known}
 use Rattle.cy_words.specs.MakeWords.{MakeWords, make_asked, make_known}
+use Rattle.cy_words.specs.MergeWords.{MergeWords, merge_asked, merge_known}
 use Rattle.cy_words.specs.Options.{AreOptions, Known, Options, placed}
 use Rattle.cy_words.specs.PassWords.{pass_asked, pass_known}
 use Rattle.cy_words.specs.PlayWords.{PlayWords, play_asked, play_known}
@@ -21,8 +23,8 @@ info_known = placed (codes "file") ∷ []
 abbrev pub info_asked : Options → Option InfoWords
 info_asked o = option_map (λ file. record { file = file }) (o (codes "file"))
 
--- `check`, `info`, `play`, `make`, `verify`, `recover` and `split`, each with its words; `pass` is
--- a play, and the words of `verify` are those of the play that is judged.
+-- `check`, `info`, `play`, `make`, `verify`, `recover`, `split` and `merge`, each with its words;
+-- `pass` is a play, and the words of `verify` are those of the play that is judged.
 pub data Command : Type 0 where
   Check : (words : CheckWords) → Command
   Info : (words : InfoWords) → Command
@@ -31,6 +33,7 @@ pub data Command : Type 0 where
   Verify : (words : PlayWords) → Command
   Recover : (words : RecoverWords) → Command
   Split : (words : SplitWords) → Command
+  Merge : (words : MergeWords) → Command
 
 -- A form of words that ask for a command: the name that stands first, what is known of the words
 -- behind it, and what their values ask for.
@@ -52,6 +55,7 @@ forms = form (codes "play") play_known (λ o. option_map Play (play_asked o))
     ∷ form (codes "verify") verify_known (λ o. option_map Verify (verify_asked o))
     ∷ form (codes "recover") recover_known (λ o. option_map Recover (recover_asked o))
     ∷ form (codes "split") split_known (λ o. option_map Split (split_asked o))
+    ∷ form (codes "merge") merge_known (λ o. option_map Merge (merge_asked o))
     ∷ []
 
 unfoldable pub form_of : List ℕ → Option Form
@@ -106,3 +110,8 @@ RecoverFilesDiffer = (words : List (List ℕ)) (w : RecoverWords) → Asks words
 abbrev pub SplitFilesDiffer : Type 0
 SplitFilesDiffer = (words : List (List ℕ)) (w : SplitWords) → Asks words (Split w)
     → w.input ≢ w.output
+
+-- And whatever words ask for `merge`, it has another name than each that is read.
+abbrev pub MergeFilesDiffer : Type 0
+MergeFilesDiffer = (words : List (List ℕ)) (w : MergeWords) → Asks words (Merge w)
+    → All (λ input. input ≢ w.output) w.inputs

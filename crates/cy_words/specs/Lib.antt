@@ -5,6 +5,7 @@ pub mod Command
 pub mod FilterViews
 pub mod FilterWords
 pub mod MakeWords
+pub mod MergeWords
 pub mod Options
 pub mod PassWords
 pub mod PlayViews

@@ -3,6 +3,7 @@ use Rattle.std.specs.Prelude.{⊤, option_map}
 use Rattle.cy_request.specs.Request.{HasReader}
 use Rattle.cy_words.specs.declared.make_words.Make.{Make}
 use Rattle.cy_words.specs.declared.check_words.Check.{Check}
+use Rattle.cy_words.specs.declared.merge_words.Merge.{Merge}
 use Rattle.cy_words.specs.declared.recover_words.Recover.{Recover}
 use Rattle.cy_words.specs.declared.split_words.Split.{Split}
 use Rattle.cy_words.specs.declared.words.Info.{Info}
@@ -10,7 +11,9 @@ use Rattle.cy_words.specs.declared.words.Command as code
 use Rattle.cy_words.specs.declared.words.Command.TheVariants as asked
 use Rattle.cy_words.specs.CheckWords.{CheckWords}
 use Rattle.cy_words.specs.FilterViews.{filter_of}
+use Rattle.cy_words.specs.FilterWords.{names_in}
 use Rattle.cy_words.specs.MakeWords.{MakeWords, CanBeMade}
+use Rattle.cy_words.specs.MergeWords.{MergeWords}
 use Rattle.cy_words.specs.PlayViews.{play_words_of}
 use Rattle.cy_words.specs.RecoverWords.{RecoverWords}
 use Rattle.cy_words.specs.SplitWords.{SplitWords}
@@ -37,6 +40,9 @@ split_words_of w = record {
   filter = filter_of w.wanted;
 }
 
+abbrev pub merge_words_of : Merge → MergeWords
+merge_words_of w = record { inputs = names_in w.list.now; output = w.output.now }
+
 -- The command that is asked for, and that a channel which it reads has a name, or that the files of
 -- `make` can be made.
 abbrev pub command_asked : code.Command → command.Command
@@ -47,6 +53,7 @@ command_asked (asked.Make w) = command.Make (make_words_of w)
 command_asked (asked.Verify w) = command.Verify (play_words_of w)
 command_asked (asked.Recover w) = command.Recover (recover_words_of w)
 command_asked (asked.Split w) = command.Split (split_words_of w)
+command_asked (asked.Merge w) = command.Merge (merge_words_of w)
 
 abbrev pub IsInForm : code.Command → Type 0
 IsInForm (asked.Play w) = HasReader (play_words_of w).request.components

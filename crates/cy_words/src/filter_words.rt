@@ -139,7 +139,7 @@ pub(crate) fn filter_asked<'a>(known: &[Known], values: Values<'_, 'a>) -> Optio
 }
 
 // The parts of a list.
-fn parts_of<'a>(alloc: Global, list: &'a str) -> Result<Vec<&'a str>, AllocError>
+pub(crate) fn parts_of<'a>(alloc: Global, list: &'a str) -> Result<Vec<&'a str>, AllocError>
     ensures { IfOk result (λ parts. map (λ part. part.now) parts.items ≡ names_in list.now) }
 {
     let bytes = list.as_bytes();

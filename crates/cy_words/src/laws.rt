@@ -1,6 +1,6 @@
 // What holds of all words: proved here, and nothing to run.
 ghost use Rattle.cy_words.specs.Command.{AskForOne, PlayFilesDiffer, RecoverFilesDiffer};
-ghost use Rattle.cy_words.specs.Command.{SplitFilesDiffer};
+ghost use Rattle.cy_words.specs.Command.{MergeFilesDiffer, SplitFilesDiffer};
 
 /// All words ask for just one thing: for one command, or for none.
 pub fn words_ask_for_one()
@@ -20,4 +20,9 @@ pub fn recover_files_differ()
 /// And so does a split.
 pub fn split_files_differ()
     ensures { SplitFilesDiffer }
+{}
+
+/// A merge writes another file than each of those that it reads.
+pub fn merge_files_differ()
+    ensures { MergeFilesDiffer }
 {}

@@ -2,8 +2,8 @@
 //!
 //! `specs/Command` says what is asked for: by `specs/Options`, `specs/Words` and the words of each
 //! command, `specs/PlayWords`, `specs/PassWords`, `specs/CheckWords`, `specs/MakeWords`,
-//! `specs/VerifyWords`, `specs/RecoverWords` and `specs/SplitWords`; `specs/FilterWords` says what
-//! the options of a filter are.
+//! `specs/VerifyWords`, `specs/RecoverWords`, `specs/SplitWords` and `specs/MergeWords`;
+//! `specs/FilterWords` says what the options of a filter are.
 #![tactic(auto)]
 
 mod check_words;
@@ -14,6 +14,7 @@ mod laws;
 mod machine;
 mod make_words;
 mod matches;
+mod merge_words;
 mod options;
 mod pass_words;
 mod play_words;
@@ -27,9 +28,13 @@ pub use check_words::Check;
 pub use command_words::CommandWords;
 pub use error::WordsError;
 pub use filter_words::FilterWords;
-pub use laws::{play_files_differ, recover_files_differ, split_files_differ, words_ask_for_one};
+pub use laws::{
+    merge_files_differ, play_files_differ, recover_files_differ, split_files_differ,
+    words_ask_for_one,
+};
 pub use machine::machine_words;
 pub use make_words::Make;
+pub use merge_words::Merge;
 pub use play_words::Play;
 pub use recover_words::Recover;
 pub use split_words::Split;

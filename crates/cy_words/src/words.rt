@@ -9,6 +9,7 @@ ghost use Rattle.cy_words.specs.Words.{is_word};
 
 use crate::check_words::{CHECK, Check, check_asked};
 use crate::make_words::{MAKE, Make, make_asked};
+use crate::merge_words::{MERGE, Merge, merge_asked};
 use crate::options::{Kind, Known, Values, options_met};
 use crate::pass_words::{PASS, pass_asked};
 use crate::play_words::{PLAY, Play, play_asked};
@@ -55,13 +56,15 @@ pub enum Command<'a> {
     Recover(Recover<'a>),
     /// To write a record of some messages of another one.
     Split(Split<'a>),
+    /// To write one record of all messages of several.
+    Merge(Merge<'a>),
 }
 
 /// A form of words: the name that stands first, and what is known of the words behind it.
 pub(crate) type Form = (&'static str, &'static [Known]);
 
 /// The forms that there are.
-pub(crate) const FORMS: [Form; 8] = [
+pub(crate) const FORMS: [Form; 9] = [
     ("play", &PLAY),
     ("pass", &PASS),
     ("check", &CHECK),
@@ -70,6 +73,7 @@ pub(crate) const FORMS: [Form; 8] = [
     ("verify", &VERIFY),
     ("recover", &RECOVER),
     ("split", &SPLIT),
+    ("merge", &MERGE),
 ];
 
 /// What values ask for behind the name of a form.
@@ -87,6 +91,7 @@ pub(crate) fn asked_of<'a>(name: &str, values: Values<'_, 'a>) -> Option<Command
         "verify" => Some(Command::Verify(verify_asked(values)?)),
         "recover" => Some(Command::Recover(recover_asked(values)?)),
         "split" => Some(Command::Split(split_asked(values)?)),
+        "merge" => Some(Command::Merge(merge_asked(values)?)),
         _ => None,
     }
 }

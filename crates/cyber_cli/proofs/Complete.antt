@@ -9,7 +9,7 @@ use Rattle.cy_commands.specs.declared.status.Status.TheVariants.{Done, Refused, 
 use Rattle.cy_store.specs.Reads.{Reads, Accepts, Refuses, Absent}
 use Rattle.cy_replay.specs.declared.error.Refusal.{Refusal}
 use Rattle.cy_commands.specs.Status.{status_of}
-use Rattle.cy_words.specs.Command.{Check, Command, Info, Make, Play, Recover, Split, Verify}
+use Rattle.cy_words.specs.Command.{Check, Command, Info, Make, Merge, Play, Recover, Split, Verify}
 use Rattle.cy_words.specs.PlayWords.{PlayWords}
 use Rattle.cy_commands.specs.Work.{Work}
 use Rattle.cy_commands.specs.Commands.{IsAbsent, IsAccepted, IsRefused, IsTaken, Judging, Making, Outcome, Reading, outcome_of}
@@ -127,6 +127,7 @@ one_call one (Make w) m a b x y = by_reading (outcome_of (Make w)) m a b tt x y
 one_call one (Verify w) m a b x y = by_judging one w m a b x y
 one_call one (Recover w) m a b x y = by_reading (outcome_of (Recover w)) m a b tt x y
 one_call one (Split w) m a b x y = by_reading (outcome_of (Split w)) m a b tt x y
+one_call one (Merge w) m a b x y = by_reading (outcome_of (Merge w)) m a b tt x y
 
 pub complete : VerdictsAreOne → (asked : Option Command) (old_store new_store : StoreView) (old new : Sinks) (answer : Status) → Answers asked old_store new_store old new answer
     → IsComplete asked old_store new_store old new answer

@@ -63,7 +63,8 @@ fn due_with_threads<'s, S: Store, G: Gate, R: Threads + Wait + Sync>(
 /// that of its tape. It makes no file.
 ///
 /// `recover IN OUT` makes a record of what stands in a file before its first fault, and `split IN
-/// OUT` one of those messages of a record that the options of `play` choose.
+/// OUT` one of those messages of a record that the options of `play` choose. `merge INPUTS OUT`
+/// makes one of all messages of several records, in the order of time.
 ///
 /// The text or the line that tells what was done goes to `out`, and one that tells of a refusal or
 /// a fault goes to `err`. The answer is one of the seven statuses; its contract says which is due,

@@ -42,7 +42,9 @@ pub record IsLoaded (file : List ℕ) (l : Loading) : Type 0 where
   pub sound : IsSound 1 l
   pub sized : HasLength file
 
--- What is kept is sound, and the index has a place.
-pub record IsKept (bodies : List (List ℕ)) (index : Option KeptIndex) (l : Loading) : Type 0 where
+-- What is kept is sound, the index has a place, and the file isn't too long.
+pub record IsKept (size : ℕ) (bodies : List (List ℕ)) (index : Option KeptIndex) (l : Loading) :
+    Type 0 where
   pub sound : IsSound (length bodies) l
   pub placed : IfSome index IsPlaced
+  pub short : size ≤ longest_file
