@@ -25,8 +25,8 @@ use std::alloc::Global;
 use wake_core::laws;
 
 /// Whether a trace is that of a lawful run of a play list over the components of a wiring, with a
-/// stop or none: then also the tape of the run, and how many calls it has. `counts` has the number of messages that are
-/// played on each channel. The only error is want of memory.
+/// stop or none: then also the tape of the run, and how many calls it has. `counts` has the number
+/// of messages that are played on each channel. The only error is want of memory.
 pub fn verify(
     alloc: Global,
     wiring: &Wiring,

@@ -3,7 +3,7 @@ ghost use Rattle.std.specs.Prelude.{◌≡◌, IfOk, IfErr, IsOkUnless, length};
 ghost use Rattle.cy_msg.specs.declared.play_list.PlayList.{PlayList};
 ghost use Rattle.cy_request.specs.Request.{HasReader};
 ghost use Rattle.cy_replay.specs.Setup.{IsSetUp, Replayed, replayed};
-ghost use Rattle.cy_trace.specs.Summary.{lawful_line};
+ghost use Rattle.cy_trace.specs.Summary.{lawful_line as line_by};
 ghost use Rattle.cy_verify.specs.Verdict.{IsOfRun};
 ghost use Rattle.cy_words.specs.Command as command;
 ghost use Rattle.cy_words.specs.PlayViews.{play_words_of};
@@ -139,7 +139,7 @@ fn compare<S: Store>(
 
 // The line that tells of the run.
 fn tell(alloc: Global, list: &PlayList, told: &Told) -> Result<Bytes, SetupError>
-    ensures line { IfOk result (λ line. line ≡ lawful_line (length list.now.tokens)
+    ensures line { IfOk result (λ line. line ≡ line_by (length list.now.tokens)
         list.now.shadowed told.now.calls (length told.now.tape)) }
     ensures only_memory { IsOkUnless result SetupError.Memory }
 {
