@@ -142,10 +142,10 @@ module _ (routes : List Route) (counts : List ℕ) (stop : Option Stop) (parts :
       }
 
 -- So it is the opening of a walk.
-pub opens : (t : Task) (parts : Parts) (fs : Vec Follower Global) → shown_by parts ≡ opening_world (routes_of t.plans) t.counts t.stop → AreFit parts → map (λ (f : Follower). f.visitor) fs.items ≡ parts.visitors → map (λ (f : Follower). f.routine) fs.items ≡ map (λ (p : Plan). new_routine p.kind MOST_PLANNED) t.plans
+pub opens : (t : Task) (parts : Parts) (fs : Vec Follower Global) (tape : Vec Token Global) → tape.items ≡ [] → vec_capacity parts.tape ≤ vec_capacity tape → shown_by parts ≡ opening_world (routes_of t.plans) t.counts t.stop → AreFit parts → map (λ (f : Follower). f.visitor) fs.items ≡ parts.visitors → map (λ (f : Follower). f.routine) fs.items ≡ map (λ (p : Plan). new_routine p.kind MOST_PLANNED) t.plans
     → ((n : ℕ) (f : Follower) → slice_get fs.items n ≡ Some f → IsNew f) → IsFixed (routes_in parts.fixed) (counts_in parts.fixed)
-    → IsOpening t record { followers = fs; tape = parts.tape; played = 0; spent = parts.spent; fixed = parts.fixed }
-opens t parts fs shown fit visitors routines new fixed =
+    → IsOpening t record { followers = fs; tape = tape; played = 0; spent = parts.spent; fixed = parts.fixed }
+opens t parts fs tape empty room shown fit visitors routines new fixed =
     let routes : List Route = routes_of t.plans in
     let callers = callers_are t.plans fs.items routines in
     let r = routes_are routes t.counts t.stop parts shown fit fs.items visitors callers in
@@ -160,10 +160,10 @@ opens t parts fs shown fit visitors routines new fixed =
         roomy = each_roomy routes t.counts t.stop parts shown fit fs.items visitors callers;
       };
       fresh = λ c f e. each_fresh routes t.counts t.stop parts shown fit fs.items visitors callers c f (new c f e) e;
-      tape = tape_is routes t.counts t.stop parts shown fit fs.items visitors callers;
+      tape = empty;
       played = refl;
       spent = spent_are routes t.counts t.stop parts shown fit fs.items visitors callers;
-      roomy = (its_roomy routes t.counts t.stop parts shown fit fs.items visitors callers).messages;
+      roomy = let kept_room = (its_roomy routes t.counts t.stop parts shown fit fs.items visitors callers).messages in omega (arith, kept_room, room);
     }
 
 none_last : (x : Route) → is_last (last_outcome x.kind []) ≡ false

@@ -89,8 +89,12 @@ impl Walk {
             closing: _,
             raised: _,
         } = world.apart();
-        // Calls are counted and not kept, so the room for them is given back.
+        // Calls are counted and not kept, so the room for them is given back. The tape gets the room
+        // of the text that was read before, where it has enough.
+        let most = tape.capacity();
+        drop(tape);
         drop(routines);
+        let tape = Vec::with_capacity(alloc, most)?;
         let callers = callers_of(alloc, wiring.plans.as_slice())?;
         let followers = followers_of(alloc, visitors.into_vec(), callers)?;
         Ok(Walk {

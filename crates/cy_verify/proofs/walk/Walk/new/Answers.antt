@@ -21,6 +21,6 @@ followers_of-requires c =
 
 pub returns : goal.returns
 returns c = record {
-  opens = λ tokens shadowed. opens _ c.apart-routines.result c.in_ok-followers.followers (c.apart-routines.ensures.shown ∙ ap at_rest c.in-Ok.ensures.opening.opens) c.apart-routines.ensures.fit
+  opens = λ tokens shadowed. opens _ c.apart-routines.result c.in_ok-followers.followers c.in_ok-tape.tape c.in_ok-tape.ensures.items (omega (arith, c.in_ok-tape.ensures.exact, c.capacity-most.ensures)) (c.apart-routines.ensures.shown ∙ ap at_rest c.in-Ok.ensures.opening.opens) c.apart-routines.ensures.fit
       (c.in_ok-followers.ensures.followers.0 ∙ c.into_vec.ensures) (c.in_ok-followers.ensures.followers.1 ∙ c.in_ok-callers.ensures ∙ ap (map (λ (p : Plan). new_routine p.kind MOST_PLANNED)) c.as_slice.ensures) c.in_ok-followers.ensures.fresh c.apart-routines.result.fixed.lawful;
 }
