@@ -1,11 +1,12 @@
 -- How `verify` ends, at each place where it may.
-use Rattle.std.proofs.Common.{ℕ, ◌+◌, ◌≡◌, ◌≤◌, ◌==◌, Bool, true, false, if◌then◌else◌, List, [], ◌∷◌, length, Option, Some, None, Result, Ok, Err, refl, sym, ap, subst, ◌∙◌, inl, inr, Vec, Global}
+use Rattle.std.proofs.Common.{ℕ, ◌+◌, ◌≡◌, ◌≤◌, ◌==◌, Bool, true, false, if◌then◌else◌, List, [], ◌∷◌, length, Option, Some, None, Result, Ok, Err, refl, sym, ap, ap₂, subst, ◌∙◌, inl, inr, Vec, Global}
 use Rattle.std.specs.Prelude.{◌⊎◌, option_map, IfOk, IfErr, IsOkUnless}
 use Rattle.std.proofs.lemmas.Map.Views.{exact_unsigned_eq}
 use Rattle.cy_store.specs.Files.{Files}
 use Rattle.cy_store.specs.Reads.{Reads, Accepts, Refuses}
 use Rattle.cy_store.specs.Store.{StoreView, SameCounts}
 use Rattle.cy_msg.specs.declared.play_list.PlayList.{PlayList}
+use Rattle.cy_msg.specs.declared.token.Token.{Token}
 use Rattle.wake_core.specs.Bounds.{PlaceLaws}
 use Rattle.wake_core.specs.LawfulRun.{LawfulRun}
 use Rattle.wake_core.specs.Plain.{Plain, Stop}
@@ -19,6 +20,7 @@ use Rattle.cy_recording.specs.Recording.{IsWritable}
 use Rattle.cy_recording.specs.RecordLaws.{PlacesAreThere}
 use Rattle.cy_request.specs.Request.{Request}
 use Rattle.cy_trace.specs.Laws.{RunsAreTraces, TextsTellTraces}
+use Rattle.cy_trace.specs.Summary.{lawful_line}
 use Rattle.cy_trace.specs.TraceForm.{IsTrace, ReadsTrace, text_of_trace}
 use Rattle.cy_trace.specs.TraceOfRun.{trace_of_run}
 use Rattle.cy_trace.specs.declared.error.TraceError.{TraceError}
@@ -28,6 +30,7 @@ use Rattle.cy_compare.specs.Compare.{SameAnswer, first_difference}
 use Rattle.cy_compare.specs.declared.error.SameError.{SameError}
 use Rattle.cy_compare.specs.declared.error.SameError.TheVariants as same_error
 use Rattle.cy_verify.specs.Verdict as verdict
+use Rattle.cy_verify.specs.declared.verdict.Told.{Told}
 use Rattle.cy_replay.specs.declared.error.Fault.TheVariants as fault
 use Rattle.cy_replay.specs.declared.error.Refusal.{Refusal}
 use Rattle.cy_replay.specs.declared.error.SetupError.{SetupError}
@@ -41,13 +44,13 @@ use Rattle.cy_words.specs.Command.{Verify}
 use Rattle.cy_words.specs.PlayWords.{PlayWords}
 use Rattle.cy_commands.specs.declared.status.Status.{Status}
 use Rattle.cy_commands.specs.declared.status.Status.TheVariants.{Done}
-use Rattle.cy_commands.specs.Commands.PlayWork.{replayed_in}
+use Rattle.cy_commands.specs.Commands.PlayWork.{replayed_in, tape_record}
 use Rattle.cy_commands.specs.Commands.VerifyWork.{IsLawful, IsOfNone, IsRead, IsReadToVerify, IsSetOut, IsTold, IsVerified, Judged, absent, bad, differs, judged, lawful, line_of, no_record, no_trace, record_of, refused, too_large, unlawful}
 use Rattle.cy_commands.specs.Due.{IsDueFor}
 use Rattle.cy_commands.specs.PlayEnds.{source_by}
 use Rattle.cy_commands.specs.Work.{Work}
 use Rattle.cy_commands.specs.private.Unset.{IsDueUnset}
-use Rattle.cy_commands.specs.private.VerifyEnds.{ComesBeside, Finds, IsJudgedFile, IsLineBeside, IsRecordIn, IsToldIn, IsTraceIn, IsUnlawful, IsVerifiedLine, task_of}
+use Rattle.cy_commands.specs.private.VerifyEnds.{ComesBeside, Finds, IsJudgedFile, IsLineBeside, IsRecordIn, IsRunIn, IsToldIn, IsTraceIn, IsUnlawful, IsVerifiedLine, task_of}
 use Rattle.cy_commands.proofs.Finding.{Stands, finds_err, finds_failure, finds_fault, finds_memory, finds_ok, finds_read, finds_then, held_map}
 use Rattle.cy_commands.proofs.PlayRuns.{writable}
 use Rattle.cy_commands.proofs.Refusing.{no_writes, refuses, starved, view_same}
@@ -126,7 +129,7 @@ pub trace_starved : (w : PlayWords) (read : Replayed) (list : PlayList) (text : 
     → (let r : Result Trace SetupError = Err setup.Memory in Finds (IsTraceIn w old) (Judged w read list old.files) (λ file. file ≡ w.trace) old new r)
 trace_starved w read list text old new came = finds_memory (IsTraceIn w old) (Judged w read list old.files) (λ file. file ≡ w.trace) old new came.0.same
 
--- ---- the world of which it tells
+-- ---- the run of which it tells
 
 -- none, and its file is refused, if there is memory
 pub none_told : (w : PlayWords) (x : Replay) (trace : Trace) (answer : SetupError) → ((v : Plain) → verdict.IsTold (task_of x) trace v → ⊥)
@@ -142,9 +145,6 @@ judges_not w x trace = record { refused = λ refusal e. absurd cc; none = λ ref
 
 abbrev TraceFound : PlayWords → Replay → StoreView → StoreView → Trace → Type 0
 TraceFound w x old new trace = Finds (IsTraceIn w old) (Judged w (replayed x) x.list old.files) (λ file. file ≡ w.trace) old new (Ok trace)
-
-abbrev WorldFound : PlayWords → Replay → StoreView → StoreView → Result Plain SetupError → Type 0
-WorldFound w x old new result = Finds (IsToldIn w x old) (ComesBeside w x old) (λ file. file ≡ w.trace) old new result
 
 stood : (w : PlayWords) (x : Replay) (old new : StoreView) (trace : Trace) → TraceFound w x old new trace → Stands old new
 stood w x old new trace came = record { same = came.same; counts = came.found.0 }
@@ -164,32 +164,32 @@ of_none runs tell w x trace s out is none v run same =
     (tell trace (trace_of_run x.wiring.names x.wiring.plans x.list.shadowed (run_shown v)) is (out.told v run)
     (same ∙ runs x.wiring.names x.wiring.plans x.list.shadowed (run_shown v))))
 
-module _ {X : Type 0} (view : X → Plain) where
-  abbrev Found : PlayWords → Replay → StoreView → StoreView → Result X SetupError → Type 0
-  Found w x old new result = Finds (λ v. IsToldIn w x old (view v)) (ComesBeside w x old) (λ file. file ≡ w.trace) old new result
+abbrev RunFound : PlayWords → Replay → StoreView → StoreView → Result Told SetupError → Type 0
+RunFound w x old new result = Finds (IsRunIn w x old) (ComesBeside w x old) (λ file. file ≡ w.trace) old new result
 
-  pub world_found : RunsAreTraces → (w : PlayWords) (x : Replay) (old new : StoreView) (trace : Trace) (v : X) → IsSetUp w.request x → TraceFound w x old new trace → verdict.IsTold (task_of x) trace (view v) → Found w x old new (Ok v)
-  world_found runs w x old new trace v s came is =
-      finds_ok (λ v. IsToldIn w x old (view v)) (ComesBeside w x old) (λ file. file ≡ w.trace) old new v (stood w x old new trace came) (world_told runs w x old new trace (view v) s came is)
+pub run_found : RunsAreTraces → (w : PlayWords) (x : Replay) (old new : StoreView) (trace : Trace) (run : Told) → IsSetUp w.request x → TraceFound w x old new trace → verdict.IsOfRun (task_of x) trace run → RunFound w x old new (Ok run)
+run_found runs w x old new trace run s came is =
+    finds_ok (IsRunIn w x old) (ComesBeside w x old) (λ file. file ≡ w.trace) old new run (stood w x old new trace came)
+    record { world = is.world; is_told = world_told runs w x old new trace is.world s came is.is_told; tape = is.tape; calls = is.calls }
 
-  pub trace_lost : (w : PlayWords) (x : Replay) (old new : StoreView) (e : SetupError)
-      → (let r : Result Trace SetupError = Err e in Finds (IsTraceIn w old) (Judged w (replayed x) x.list old.files) (λ file. file ≡ w.trace) old new r)
-      → (let r : Result X SetupError = Err e in Found w x old new r)
-  trace_lost w x old new e came = finds_err (λ v. IsToldIn w x old (view v)) (ComesBeside w x old) (λ file. file ≡ w.trace) old new e (λ r h. h) (λ file asked. asked) came
+pub trace_lost : (w : PlayWords) (x : Replay) (old new : StoreView) (e : SetupError)
+    → (let r : Result Trace SetupError = Err e in Finds (IsTraceIn w old) (Judged w (replayed x) x.list old.files) (λ file. file ≡ w.trace) old new r)
+    → (let r : Result Told SetupError = Err e in RunFound w x old new r)
+trace_lost w x old new e came = finds_err (IsRunIn w x old) (ComesBeside w x old) (λ file. file ≡ w.trace) old new e (λ r h. h) (λ file asked. asked) came
 
-  pub world_lost : RunsAreTraces → TextsTellTraces → (w : PlayWords) (x : Replay) (old new : StoreView) (trace : Trace) (e : SetupError) → IsSetUp w.request x → IsSetOut w (replayed x) x.list → TraceFound w x old new trace → IsUnlawful w x trace e
-      → (let r : Result X SetupError = Err e in Found w x old new r)
-  world_lost runs tell w x old new trace (setup.Refused refusal) s out came is =
-      finds_fault (λ v. IsToldIn w x old (view v)) (ComesBeside w x old) (λ file. file ≡ w.trace) old new (setup.Refused refusal) refusal (stood w x old new trace came) (inr refl)
-      (subst (λ (r : Refusal). ComesBeside w x old (Refuses r)) (sym (is.refused refusal refl))
-      (unlawful (text_of_trace trace) came.found.1.0 (trace, came.found.1.1, refl) (of_none runs tell w x trace s out came.found.1.1 (is.none refusal refl))))
-  world_lost runs tell w x old new trace (setup.Store file) s out came is = absurd (is.unread file refl)
-  world_lost runs tell w x old new trace setup.Memory s out came is = finds_memory (λ v. IsToldIn w x old (view v)) (ComesBeside w x old) (λ file. file ≡ w.trace) old new came.same
+pub run_lost : RunsAreTraces → TextsTellTraces → (w : PlayWords) (x : Replay) (old new : StoreView) (trace : Trace) (e : SetupError) → IsSetUp w.request x → IsSetOut w (replayed x) x.list → TraceFound w x old new trace → IsUnlawful w x trace e
+    → (let r : Result Told SetupError = Err e in RunFound w x old new r)
+run_lost runs tell w x old new trace (setup.Refused refusal) s out came is =
+    finds_fault (IsRunIn w x old) (ComesBeside w x old) (λ file. file ≡ w.trace) old new (setup.Refused refusal) refusal (stood w x old new trace came) (inr refl)
+    (subst (λ (r : Refusal). ComesBeside w x old (Refuses r)) (sym (is.refused refusal refl))
+    (unlawful (text_of_trace trace) came.found.1.0 (trace, came.found.1.1, refl) (of_none runs tell w x trace s out came.found.1.1 (is.none refusal refl))))
+run_lost runs tell w x old new trace (setup.Store file) s out came is = absurd (is.unread file refl)
+run_lost runs tell w x old new trace setup.Memory s out came is = finds_memory (IsRunIn w x old) (ComesBeside w x old) (λ file. file ≡ w.trace) old new came.same
 
-  pub world_judged : RunsAreTraces → TextsTellTraces → (w : PlayWords) (x : Replay) (old new : StoreView) (trace : Trace) (result : Result X SetupError) → IsSetUp w.request x → IsSetOut w (replayed x) x.list → TraceFound w x old new trace
-      → IfOk result (λ v. verdict.IsTold (task_of x) trace (view v)) → IfErr result (IsUnlawful w x trace) → Found w x old new result
-  world_judged runs tell w x old new trace (Ok v) s out came told none = world_found runs w x old new trace v s came told
-  world_judged runs tell w x old new trace (Err e) s out came told none = world_lost runs tell w x old new trace e s out came none
+pub run_judged : RunsAreTraces → TextsTellTraces → (w : PlayWords) (x : Replay) (old new : StoreView) (trace : Trace) (result : Result Told SetupError) → IsSetUp w.request x → IsSetOut w (replayed x) x.list → TraceFound w x old new trace
+    → IfOk result (verdict.IsOfRun (task_of x) trace) → IfErr result (IsUnlawful w x trace) → RunFound w x old new result
+run_judged runs tell w x old new trace (Ok run) s out came told none = run_found runs w x old new trace run s came told
+run_judged runs tell w x old new trace (Err e) s out came told none = run_lost runs tell w x old new trace e s out came none
 
 -- ---- the record
 
@@ -217,38 +217,44 @@ same_texts (x ∷ a) (y ∷ b) e = by (x == y) refl (same_texts a b) e
         cc
     by false is rest e = absurd cc
 
-module _ (w : PlayWords) (x : Replay) (v : Plain) (old new : StoreView) (told : IsToldIn w x old v) where
+module _ (w : PlayWords) (x : Replay) (run : Told) (old new : StoreView) (told : IsRunIn w x old run) where
   abbrev IsHere : List ℕ → Type 0
   IsHere file = file ≡ w.output
 
   abbrev pub RecordFound : Result (Unit {0}) SetupError → Type 0
-  RecordFound result = Finds (λ (u : Unit {0}). IsRecordIn w x old v) (ComesBeside w x old) IsHere old new result
+  RecordFound result = Finds (λ (u : Unit {0}). IsRecordIn w x old run.tape) (ComesBeside w x old) IsHere old new result
 
-  abbrev pub Same : List ℕ → Result (Option ℕ) SameError → Type 0
-  Same text result = (text ≡ record_of w (replayed x) x.list v) × SameAnswer w.output text old new result
+  abbrev text : List ℕ
+  text = tape_record w (source_by x) run.tape
 
-  compares : (text : List ℕ) (place : Option ℕ) → Same text (Ok place) → Stands old new
-  compares text place h = record { same = h.1.same; counts = h.1.causes.quiet (λ e. absurd cc) }
+  abbrev pub Same : Result (Option ℕ) SameError → Type 0
+  Same result = SameAnswer w.output text old new result
 
-  pub record_same : (text : List ℕ) (u : Unit {0}) → Same text (Ok None) → RecordFound (Ok u)
-  record_same text u h =
-      finds_ok (λ (u : Unit {0}). IsRecordIn w x old v) (ComesBeside w x old) IsHere old new u (compares text None h)
-      (held_map old.files w.output (λ bytes e. same_texts bytes text e ∙ h.0) h.1.compared)
+  its_text : text ≡ record_of w (replayed x) x.list told.world
+  its_text = ap (λ (tape : List Token). tape_record w (source_by x) tape) told.tape
 
-  pub record_differs : (text : List ℕ) (place : ℕ) (answer : SetupError) → Same text (Ok (Some place)) → (answer ≡ setup.Memory) ⊎ (answer ≡ setup.Refused record { file = w.output; fault = fault.Differs place })
+  compares : (place : Option ℕ) → Same (Ok place) → Stands old new
+  compares place h = record { same = h.same; counts = h.causes.quiet (λ e. absurd cc) }
+
+  pub record_same : (u : Unit {0}) → Same (Ok None) → RecordFound (Ok u)
+  record_same u h =
+      finds_ok (λ (u : Unit {0}). IsRecordIn w x old run.tape) (ComesBeside w x old) IsHere old new u (compares None h)
+      (held_map old.files w.output (λ bytes e. same_texts bytes text e) h.compared)
+
+  pub record_differs : (place : ℕ) (answer : SetupError) → Same (Ok (Some place)) → (answer ≡ setup.Memory) ⊎ (answer ≡ setup.Refused record { file = w.output; fault = fault.Differs place })
       → (let r : Result (Unit {0}) SetupError = Err answer in RecordFound r)
-  record_differs text place answer h is =
-      finds_fault (λ (u : Unit {0}). IsRecordIn w x old v) (ComesBeside w x old) IsHere old new answer record { file = w.output; fault = fault.Differs place } (compares text (Some place) h) is
-      (differs v place told (held_map old.files w.output (λ bytes e. e ∙ ap (first_difference bytes) h.0) h.1.compared))
+  record_differs place answer h is =
+      finds_fault (λ (u : Unit {0}). IsRecordIn w x old run.tape) (ComesBeside w x old) IsHere old new answer record { file = w.output; fault = fault.Differs place } (compares (Some place) h) is
+      (differs told.world place told.is_told (held_map old.files w.output (λ bytes e. e ∙ ap (first_difference bytes) its_text) h.compared))
 
-  pub record_unread : (text : List ℕ) (answer : SetupError) → (let r : Result (Option ℕ) SameError = Err same_error.Store in Same text r) → (answer ≡ setup.Memory) ⊎ (answer ≡ setup.Store w.output)
+  pub record_unread : (answer : SetupError) → (let r : Result (Option ℕ) SameError = Err same_error.Store in Same r) → (answer ≡ setup.Memory) ⊎ (answer ≡ setup.Store w.output)
       → (let r : Result (Unit {0}) SetupError = Err answer in RecordFound r)
-  record_unread text answer h is =
-      finds_failure (λ (u : Unit {0}). IsRecordIn w x old v) (ComesBeside w x old) IsHere old new answer w.output h.1.same is refl
-      (elim (h.1.causes.failed refl) [ inl rose ↦ inl rose | inr missed ↦ inr (missed.0, no_record v told missed.1) ])
+  record_unread answer h is =
+      finds_failure (λ (u : Unit {0}). IsRecordIn w x old run.tape) (ComesBeside w x old) IsHere old new answer w.output h.same is refl
+      (elim (h.causes.failed refl) [ inl rose ↦ inl rose | inr missed ↦ inr (missed.0, no_record told.world told.is_told missed.1) ])
 
-  pub record_starved : (text : List ℕ) → (let r : Result (Option ℕ) SameError = Err same_error.Memory in Same text r) → (let r : Result (Unit {0}) SetupError = Err setup.Memory in RecordFound r)
-  record_starved text h = finds_memory (λ (u : Unit {0}). IsRecordIn w x old v) (ComesBeside w x old) IsHere old new h.1.same
+  pub record_starved : (let r : Result (Option ℕ) SameError = Err same_error.Memory in Same r) → (let r : Result (Unit {0}) SetupError = Err setup.Memory in RecordFound r)
+  record_starved h = finds_memory (λ (u : Unit {0}). IsRecordIn w x old run.tape) (ComesBeside w x old) IsHere old new h.same
 
   abbrev pub LineFound : Result (List ℕ) SetupError → Type 0
   LineFound result = Finds (IsLineBeside w x old) (ComesBeside w x old) IsHere old new result
@@ -257,15 +263,21 @@ module _ (w : PlayWords) (x : Replay) (v : Plain) (old new : StoreView) (told : 
   pub record_lost : (e : SetupError) → (let r : Result (Unit {0}) SetupError = Err e in RecordFound r) → (let r : Result (List ℕ) SetupError = Err e in LineFound r)
   record_lost e came = finds_err (IsLineBeside w x old) (ComesBeside w x old) IsHere old new e (λ r h. h) (λ file asked. asked) came
 
-  pub line_told : (u : Unit {0}) (line : List ℕ) → RecordFound (Ok u) → line ≡ line_of (replayed x) x.list v → LineFound (Ok line)
+  abbrev IsLine : List ℕ → Type 0
+  IsLine line = line ≡ lawful_line (length x.list.tokens) x.list.shadowed run.calls (length run.tape)
+
+  its_line : (line : List ℕ) → IsLine line → line ≡ line_of (replayed x) x.list told.world
+  its_line line is = is ∙ ap₂ (λ (calls written : ℕ). lawful_line (length x.list.tokens) x.list.shadowed calls written) told.calls (ap length told.tape)
+
+  pub line_told : (u : Unit {0}) (line : List ℕ) → RecordFound (Ok u) → IsLine line → LineFound (Ok line)
   line_told u line came is =
       finds_ok (IsLineBeside w x old) (ComesBeside w x old) IsHere old new line record { same = came.same; counts = came.found.0 }
-      (subst (IsLineBeside w x old) (sym is) (lawful v told came.found.1))
+      (subst (IsLineBeside w x old) (sym (its_line line is)) (lawful told.world told.is_told (held_map old.files w.output (λ bytes e. e ∙ its_text) came.found.1)))
 
   pub line_starved : (u : Unit {0}) → RecordFound (Ok u) → (let r : Result (List ℕ) SetupError = Err setup.Memory in LineFound r)
   line_starved u came = finds_memory (IsLineBeside w x old) (ComesBeside w x old) IsHere old new came.same
 
-  pub line_by : (u : Unit {0}) (result : Result (List ℕ) SetupError) → RecordFound (Ok u) → IfOk result (λ line. line ≡ line_of (replayed x) x.list v) → IsOkUnless result setup.Memory → LineFound result
+  pub line_by : (u : Unit {0}) (result : Result (List ℕ) SetupError) → RecordFound (Ok u) → IfOk result IsLine → IsOkUnless result setup.Memory → LineFound result
   line_by u (Ok line) came is only = line_told u line came is
   line_by u (Err e) came is only = subst (λ a. let r : Result (List ℕ) SetupError = Err a in LineFound r) (sym only) (line_starved u came)
 
@@ -275,20 +287,18 @@ abbrev pub BothFound : PlayWords → Replay → StoreView → StoreView → Resu
 BothFound w x old new result = Finds (IsLineBeside w x old) (ComesBeside w x old) (IsJudgedFile w) old new result
 
 -- what was told before stays told
-pub still_told : (w : PlayWords) (x : Replay) (old new : StoreView) (v : Plain) → new.files ≡ old.files → IsToldIn w x old v → IsToldIn w x new v
-still_told w x old new v same told = subst (λ (f : Option Files). IsTold w (replayed x) x.list f v) (sym same) told
+pub still_told : (w : PlayWords) (x : Replay) (old new : StoreView) (run : Told) → new.files ≡ old.files → IsRunIn w x old run → IsRunIn w x new run
+still_told w x old new run same is =
+    record { world = is.world; is_told = subst (λ (f : Option Files). IsTold w (replayed x) x.list f is.world) (sym same) is.is_told; tape = is.tape; calls = is.calls }
 
-pub both_found : (w : PlayWords) (x : Replay) (v : Plain) (old mid new : StoreView) (result : Result (List ℕ) SetupError) → mid.files ≡ old.files → SameCounts old mid
+pub both_found : (w : PlayWords) (x : Replay) (old mid new : StoreView) (result : Result (List ℕ) SetupError) → mid.files ≡ old.files → SameCounts old mid
     → Finds (IsLineBeside w x mid) (ComesBeside w x mid) (λ file. file ≡ w.output) mid new result → BothFound w x old new result
-both_found w x v old mid new result same counts came =
+both_found w x old mid new result same counts came =
     let back : (r : Reads Refusal Work) → ComesBeside w x mid r → ComesBeside w x old r = λ r h. subst (λ (f : Option Files). Judged w (replayed x) x.list f r) same h in
     finds_then (IsLineBeside w x old) (ComesBeside w x old) (IsJudgedFile w) old mid new result record { same = same; counts = counts } (λ line. back (Accepts record { writes = []; text = line })) back (λ file is. inr is) came
 
-module _ {X : Type 0} (view : X → Plain) where
-  pub both_lost : (w : PlayWords) (x : Replay) (old new : StoreView) (e : SetupError)
-      → (let r : Result X SetupError = Err e in Finds (λ v. IsToldIn w x old (view v)) (ComesBeside w x old) (λ file. file ≡ w.trace) old new r)
-      → (let r : Result (List ℕ) SetupError = Err e in BothFound w x old new r)
-  both_lost w x old new e came = finds_err (IsLineBeside w x old) (ComesBeside w x old) (IsJudgedFile w) old new e (λ r h. h) (λ file is. inl is) came
+pub both_lost : (w : PlayWords) (x : Replay) (old new : StoreView) (e : SetupError) → (let r : Result Told SetupError = Err e in RunFound w x old new r) → (let r : Result (List ℕ) SetupError = Err e in BothFound w x old new r)
+both_lost w x old new e came = finds_err (IsLineBeside w x old) (ComesBeside w x old) (IsJudgedFile w) old new e (λ r h. h) (λ file is. inl is) came
 
 -- ---- all
 

@@ -43,7 +43,7 @@ fn push_count(to: &mut Vec<u8>, what: &str, count: u128) -> io::Result<()>
 fn push_counts(
     to: &mut Vec<u8>,
     front: &str,
-    played: u32,
+    played: u64,
     shadowed: u32,
     calls: u128,
     written: u64,
@@ -59,25 +59,20 @@ fn push_counts(
     Ok(())
 }
 
-// The line with these words in front.
+// The line of these numbers, with these words in front.
 fn line_behind(
     alloc: Global,
     front: &str,
-    world: &World,
-    wiring: &Wiring,
+    played: u64,
     shadowed: u32,
+    calls: u128,
+    written: u64,
 ) -> Result<Bytes, TraceError>
-    requires quiet { Quiet (plain_of world.now) }
-    requires routes { (plain_of world.now).routes ≡ routes_of wiring.now.plans }
-    ensures line { IfOk result (λ b. b ≡ counts_line front.now (played_count (plain_of world.now))
-        shadowed (calls_from (run_shown (plain_of world.now)) 0 wiring.now.plans)
-        (length (plain_of world.now).tape)) }
+    ensures line { IfOk result (λ b. b ≡ counts_line front.now played shadowed calls written) }
     ensures memory { IfErr result (λ e. e ≡ TraceError.Memory) }
 {
-    let calls = calls_in(world, wiring.plans.as_slice());
-    let written = world.tape_list().len() as u64;
     let mut line = Vec::new(alloc);
-    match push_counts(&mut line, front, world.played(), shadowed, calls, written) {
+    match push_counts(&mut line, front, played, shadowed, calls, written) {
         Ok(()) => Ok(Bytes::from_vec(line)),
         // A write to a `Vec` fails for want of memory alone.
         Err(_) => Err(TraceError::Memory),
@@ -100,22 +95,22 @@ pub fn summary_line(
         (length (plain_of world.now).tape)) }
     ensures memory { IfErr result (λ e. e ≡ TraceError.Memory) }
 {
-    line_behind(alloc, "done: played ", world, wiring, shadowed)
+    let played = u64::from(world.played());
+    let calls = calls_in(world, wiring.plans.as_slice());
+    let written = world.tape_list().len() as u64;
+    line_behind(alloc, "done: played ", played, shadowed, calls, written)
 }
 
-/// The same of a run of which a trace was found to tell.
+/// The same of a run of which a trace was found to tell: the numbers are its own.
 pub fn lawful_line(
     alloc: Global,
-    world: &World,
-    wiring: &Wiring,
+    played: u64,
     shadowed: u32,
+    calls: u128,
+    written: u64,
 ) -> Result<Bytes, TraceError>
-    requires quiet { Quiet (plain_of world.now) }
-    requires routes { (plain_of world.now).routes ≡ routes_of wiring.now.plans }
-    ensures line { IfOk result (λ b. b ≡ line_of_lawful (played_count (plain_of world.now)) shadowed
-        (calls_from (run_shown (plain_of world.now)) 0 wiring.now.plans)
-        (length (plain_of world.now).tape)) }
+    ensures line { IfOk result (λ b. b ≡ line_of_lawful played shadowed calls written) }
     ensures memory { IfErr result (λ e. e ≡ TraceError.Memory) }
 {
-    line_behind(alloc, "lawful: played ", world, wiring, shadowed)
+    line_behind(alloc, "lawful: played ", played, shadowed, calls, written)
 }

@@ -1,5 +1,6 @@
 -- What a trace is that was judged.
-use Rattle.std.proofs.Common.{ℕ, ◌≡◌, ◌≤◌, true, false, sym, ap, ap₂, subst, List, length, map, Option, Some, slice_get, Ok, Result}
+use Rattle.std.proofs.lemmas.List.{length-map}
+use Rattle.std.proofs.Common.{ℕ, ◌≡◌, ◌≤◌, true, false, sym, ◌∙◌, ap, ap₂, subst, List, length, map, Option, Some, slice_get, Ok, Result}
 use Rattle.cy_msg.specs.declared.play_list.PlayList.{PlayList}
 use Rattle.cy_msg.specs.declared.stop.Stop.{Stop}
 use Rattle.cy_msg.specs.declared.token.Token.{Token}
@@ -9,25 +10,26 @@ use Rattle.cy_comp.specs.Laws.{OutcomesAreAnswers}
 use Rattle.cy_comp.specs.declared.call.Call.{Call}
 use Rattle.cy_comp.specs.declared.wiring.Wiring.{Wiring}
 use Rattle.wake_core.specs.declared.route.Route.{Route}
-use Rattle.wake_core.specs.declared.world.World.{World}
 use Rattle.wake_core.specs.Plain.{Plain}
 use Rattle.wake_core.specs.Rest.{run_shown}
-use Rattle.wake_core.specs.Run.{routes_of, played_of}
+use Rattle.wake_core.specs.Run.{route_of, routes_of, played_of}
 use Rattle.wake_core.specs.Serial.{last_clock}
-use Rattle.wake_core.specs.WorldOf.{plain_of, IsMade}
+use Rattle.wake_core.specs.WorldOf.{IsMade}
 use Rattle.wake_core.proofs.Arriving.{there}
 use Rattle.cy_trace.specs.TraceOfRun.{tape_entry}
 use Rattle.cy_trace.specs.declared.trace.Trace.{Trace}
-use Rattle.cy_verify.specs.Verdict.{Task, MayJudge, IsTold, Judges}
+use Rattle.cy_verify.specs.Verdict.{Task, MayJudge, IsTold, IsOfRun, Judges}
 use Rattle.cy_verify.specs.declared.error.VerifyError.{VerifyError}
+use Rattle.cy_verify.specs.declared.verdict.Told.{Told}
 use Rattle.cy_verify.specs.declared.verdict.Verdict.{Verdict}
 use Rattle.cy_verify.specs.declared.verdict.Verdict.TheVariants.{Lawful, Unlawful}
 use Rattle.cy_verify.specs.declared.walk.Walk.{Walk}
 use Rattle.cy_verify.specs.private.Ending as ending
-use Rattle.cy_verify.specs.private.Ending.{IsWhole, calls_in, world_in}
+use Rattle.cy_verify.specs.private.Ending.{IsWhole, call_total, calls_in, world_in}
 use Rattle.cy_verify.specs.private.Judging.{IsFollowed}
 use Rattle.cy_verify.specs.private.Passes.{IsHeaded, HasOneLate}
 use Rattle.cy_verify.specs.private.Walking.{task_in}
+use Rattle.cy_verify.proofs.CallTotal.{total_shown}
 use Rattle.cy_verify.proofs.Headed.{trace_headed}
 use Rattle.cy_verify.proofs.TimesApart.{later_of_apart}
 use Rattle.cy_verify.proofs.WorldEnded.{calls_are}
@@ -78,21 +80,21 @@ followed_headed t trace w head h = record {
   taped = h.told;
 }
 
--- So the trace tells of the world that the walk comes to.
-pub judges_world : FetchesFind → OutcomesAreAnswers → (t : Task) (trace : Trace) (w : Walk) (world : World) → MayJudge t → IsHeaded t.plans (length t.tokens) t.shadowed trace → IsFollowed t trace w → IsTimed t.tokens
-    → ((n : ℕ) (m : Token) → slice_get t.tokens n ≡ Some m → m.time ≤ last_clock) → plain_of world ≡ world_in t w → Judges t trace (Ok (Lawful world))
-judges_world law answers t trace w world may head h timed long is = record {
-  lawful = λ v e. subst (λ (u : World). IsTold t trace (plain_of u)) (one e) (subst (IsTold t trace) (sym is)
-      (whole_is_told law answers t trace w (followed_whole t trace w may head h timed long) (followed_headed t trace w head h)));
+-- So the trace is that of a run with its tape and as many calls.
+pub judges_told : FetchesFind → OutcomesAreAnswers → (t : Task) (trace : Trace) (w : Walk) (told : Told) → MayJudge t → IsHeaded t.plans (length t.tokens) t.shadowed trace → IsFollowed t trace w → IsTimed t.tokens
+    → ((n : ℕ) (m : Token) → slice_get t.tokens n ≡ Some m → m.time ≤ last_clock) → told.tape ≡ w.tape.items → told.calls ≡ call_total w.followers.items → Judges t trace (Ok (Lawful told))
+judges_told law answers t trace w told may head h timed long tape calls = record {
+  lawful = λ other e. subst (IsOfRun t trace) (one e) record {
+    world = world_in t w;
+    is_told = whole_is_told law answers t trace w (followed_whole t trace w may head h timed long) (followed_headed t trace w head h);
+    tape = tape;
+    calls = calls ∙ total_shown t w (h.walked.are_of.many ∙ length-map t.plans route_of);
+  };
   unlawful = λ v e. cc;
 }
   where
-    one : {a b : World} → ◌≡◌ {A = Result Verdict VerifyError} (Ok (Lawful a)) (Ok (Lawful b)) → a ≡ b
+    one : {a b : Told} → ◌≡◌ {A = Result Verdict VerifyError} (Ok (Lawful a)) (Ok (Lawful b)) → a ≡ b
     one e = cc
-
--- What a walk is made for stays.
-pub made_on : {routes : List Route} {counts : List ℕ} {stop : Option Stop} (w v : Walk) → v.fixed ≡ w.fixed → IsMade routes counts stop w.fixed → IsMade routes counts stop v.fixed
-made_on {routes} {counts} {stop} w v same made = subst (IsMade routes counts stop) (sym same) made
 
 pub refuted : false ≡ true → ⊥
 refuted e = cc

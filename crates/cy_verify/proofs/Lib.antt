@@ -1,3 +1,5 @@
+mod Fieldless
+pub mod CallerKept
 pub mod Searched
 pub mod Heard
 pub mod CallMade
@@ -30,8 +32,7 @@ pub mod MayAsked
 pub mod WorldEnded
 pub mod WalkLawful
 pub mod WalkTold
-pub mod PartsFit
-pub mod PartsMade
+pub mod CallTotal
 pub mod Judged
 pub mod WalkLed
 pub mod TimesFit

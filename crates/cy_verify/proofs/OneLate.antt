@@ -1,5 +1,5 @@
 -- Which calls have a late message.
-use Rattle.std.proofs.Common.{ℕ, zero, suc, ◌+◌, ◌-◌, ◌≡◌, ◌⊎◌, ◌≤◌, ◌<◌, ◌==◌, inl, inr, Bool, true, false, ◌||◌, cond, refl, sym, ◌∙◌, ap, subst, arith, List, [], ◌∷◌, ◌++◌, length, length-append, take, filter, Some, slice_get, slice_index, nat_lt}
+use Rattle.std.proofs.Common.{ℕ, zero, suc, ◌+◌, ◌-◌, ◌≡◌, ◌⊎◌, ◌≤◌, ◌<◌, ◌==◌, inl, inr, Bool, true, false, ◌||◌, cond, refl, sym, ◌∙◌, ap, subst, arith, List, [], ◌∷◌, ◌++◌, length, length-append, take, drop, filter, map, if◌then◌else◌, is_some, Some, slice_get, slice_index, nat_lt}
 use Rattle.std.proofs.lemmas.Bool.Decides.{nat_tests}
 use Rattle.std.proofs.lemmas.Option.{slice_get_within}
 use Rattle.std.specs.Bool.{Decides}
@@ -11,7 +11,9 @@ use Rattle.wake_core.specs.declared.route.Route.{Route}
 use Rattle.wake_core.specs.Sound.{StandsOn, IsLate, HasLate}
 use Rattle.wake_core.proofs.Listing.{take_next, either}
 use Rattle.wake_core.proofs.Arrived.{on_channel-own}
-use Rattle.cy_verify.specs.private.Passes.{IsEarly, late_from, TakesFrom, HasOneLate}
+use Rattle.cy_trace.specs.TraceOfRun.{trace_call, trace_calls}
+use Rattle.cy_trace.specs.declared.trace.TraceCall.{TraceCall}
+use Rattle.cy_verify.specs.private.Passes.{IsEarly, late_from, late_seqs, TakesFrom, HasOneLate}
 use Rattle.cy_verify.proofs.EarlyTape.{rises}
 
 some_is : {X : Type 0} {a b : X} → Some a ≡ Some b → a ≡ b
@@ -142,6 +144,87 @@ one_few p (z ∷ xs) one = go (one_few p xs (λ m n x y a b pa pb. less m n (one
     go rest false e = rest
     go rest true e = let none = none_passes p xs (λ n x at is. zero_not n (one 0 (suc n) z x refl at e is)) in omega (arith, none)
 
+-- What is told of a call says whether a message of it is late.
+late_alike : (r : ℕ) (ms : List Token) (before : List ℕ) → late_seqs r (map (λ (m : Token). m.seq) ms) before ≡ late_from r ms before
+late_alike r [] before = refl
+late_alike r (m ∷ ms) before = ap (λ (b : Bool). nat_lt (slice_index before r) m.seq || b) (late_alike (r + 1) ms before)
+
+counted_alike : {X Y : Type 0} (a b : Bool) (x : X) (xs : List X) (y : Y) (ys : List Y) → a ≡ b → length xs ≡ length ys → length (cond a (x ∷ xs) xs) ≡ length (cond b (y ∷ ys) ys)
+counted_alike true true x xs y ys e l = omega (arith, l)
+counted_alike true false x xs y ys e l = cc
+counted_alike false true x xs y ys e l = cc
+counted_alike false false x xs y ys e l = l
+
+late_told : (outputs : ℕ) (calls : List Call) (before : List ℕ)
+    → length (filter (λ (x : TraceCall). late_seqs 0 x.seqs before) (trace_calls outputs calls)) ≡ length (filter (λ (x : Call). late_from 0 (messages_of x.tuple) before) calls)
+late_told outputs [] before = refl
+late_told outputs (x ∷ calls) before =
+    let next : ℕ = outputs + (if is_some x.out then 1 else 0) in
+    counted_alike (late_seqs 0 (map (λ (m : Token). m.seq) (messages_of x.tuple)) before) (late_from 0 (messages_of x.tuple) before)
+    (trace_call outputs x) (filter (λ (y : TraceCall). late_seqs 0 y.seqs before) (trace_calls next calls)) x (filter (λ (y : Call). late_from 0 (messages_of y.tuple) before) calls)
+    (late_alike 0 (messages_of x.tuple) before) (late_told next calls before)
+
+-- The numbers of a call, one after another.
+pub late_here : (seqs before : List ℕ) (r n : ℕ) → slice_get seqs r ≡ Some n → (k : ℕ) → late_seqs k (drop r seqs) before ≡ nat_lt (slice_index before k) n || late_seqs (k + 1) (drop (suc r) seqs) before
+late_here [] before r n at k = cc
+late_here (m ∷ seqs) before zero n at k = ap (λ (j : ℕ). nat_lt (slice_index before k) j || late_seqs (k + 1) seqs before) (some_is at)
+late_here (m ∷ seqs) before (suc r) n at k = late_here seqs before r n at k
+
+pub late_found : (seqs before : List ℕ) (r n : ℕ) → slice_get seqs r ≡ Some n → slice_index before r < n → late_seqs r (drop r seqs) before ≡ late_seqs 0 seqs before → true ≡ late_seqs 0 seqs before
+late_found seqs before r n at l so = ap (λ (b : Bool). b || late_seqs (r + 1) (drop (suc r) seqs) before) (sym (tested (slice_index before r) n l)) ∙ sym (late_here seqs before r n at r) ∙ so
+  where
+    tested : (a b : ℕ) → a < b → nat_lt a b ≡ true
+    tested a b l = grind (arith, nat_tests, l)
+
+pub late_next : (seqs before : List ℕ) (r n : ℕ) → slice_get seqs r ≡ Some n → n ≤ slice_index before r → late_seqs r (drop r seqs) before ≡ late_seqs 0 seqs before → late_seqs (r + 1) (drop (r + 1) seqs) before ≡ late_seqs 0 seqs before
+late_next seqs before r n at l so =
+    let next : r + 1 ≡ suc r = omega arith in
+    ap (λ (k : ℕ). late_seqs (r + 1) (drop k seqs) before) next
+    ∙ ap (λ (b : Bool). b || late_seqs (r + 1) (drop (suc r) seqs) before) (sym (tested (slice_index before r) n l)) ∙ sym (late_here seqs before r n at r) ∙ so
+  where
+    tested : (a b : ℕ) → b ≤ a → nat_lt a b ≡ false
+    tested a b l = grind (arith, nat_tests, l)
+
+dropped_all : {X : Type 0} (xs : List X) (n : ℕ) → length xs ≤ n → drop n xs ≡ []
+dropped_all [] zero l = refl
+dropped_all [] (suc n) l = refl
+dropped_all (x ∷ xs) zero l = absurd (omega (arith, l))
+dropped_all (x ∷ xs) (suc n) l = dropped_all xs n (omega (arith, l))
+
+pub late_none : (seqs before : List ℕ) (r : ℕ) → length seqs ≤ r → late_seqs r (drop r seqs) before ≡ late_seqs 0 seqs before → false ≡ late_seqs 0 seqs before
+late_none seqs before r all so = ap (λ (xs : List ℕ). late_seqs r xs before) (sym (dropped_all seqs r all)) ∙ so
+
+-- What passes is counted, one after another: so many so far, and those that follow.
+pub record PassedSoFar {X : Type 0} (p : X → Bool) (xs : List X) (n count : ℕ) : Type 0 where
+  pub few : count ≤ n
+  pub so_far : count + length (filter p (drop n xs)) ≡ length (filter p xs)
+
+passed_step : {X : Type 0} (p : X → Bool) (xs : List X) (n : ℕ) (x : X) → slice_get xs n ≡ Some x → filter p (drop n xs) ≡ cond (p x) (x ∷ filter p (drop (suc n) xs)) (filter p (drop (suc n) xs))
+passed_step p [] n x at = cc
+passed_step p (y ∷ xs) zero x at = ap (λ z. cond (p z) (z ∷ filter p xs) (filter p xs)) (some_is at)
+passed_step p (y ∷ xs) (suc n) x at = passed_step p xs n x at
+
+pub passed_more : {X : Type 0} (p : X → Bool) (xs : List X) (n count : ℕ) (x : X) → PassedSoFar p xs n count → slice_get xs n ≡ Some x → p x ≡ true → PassedSoFar p xs (n + 1) (count + 1)
+passed_more p xs n count x h at is =
+    let few = h.few in
+    let so_far = h.so_far in
+    let next : n + 1 ≡ suc n = omega arith in
+    let step = ap length (passed_step p xs n x at ∙ ap (λ (b : Bool). cond b (x ∷ filter p (drop (suc n) xs)) (filter p (drop (suc n) xs))) is) in
+    let same = ap (λ (k : ℕ). length (filter p (drop k xs))) next in
+    record { few = omega (arith, few); so_far = omega (arith, so_far, step, same) }
+
+pub passed_by : {X : Type 0} (p : X → Bool) (xs : List X) (n count : ℕ) (x : X) → PassedSoFar p xs n count → slice_get xs n ≡ Some x → p x ≡ false → PassedSoFar p xs (n + 1) count
+passed_by p xs n count x h at is =
+    let few = h.few in
+    let so_far = h.so_far in
+    let next : n + 1 ≡ suc n = omega arith in
+    let step = ap length (passed_step p xs n x at ∙ ap (λ (b : Bool). cond b (x ∷ filter p (drop (suc n) xs)) (filter p (drop (suc n) xs))) is) in
+    let same = ap (λ (k : ℕ). length (filter p (drop k xs))) next in
+    record { few = omega (arith, few); so_far = omega (arith, so_far, step, same) }
+
+pub passed_all : {X : Type 0} (p : X → Bool) (xs : List X) (n count : ℕ) → PassedSoFar p xs n count → length xs ≤ n → count ≡ length (filter p xs)
+passed_all p xs n count h all = let so_far = h.so_far in let none = ap (λ l. length (filter p l)) (dropped_all xs n all) in omega (arith, so_far, none)
+
 module _ (routes : List Route) (after : ℕ) (readers : List ℕ) (calls : List Call) (tape : List Token) (early : ℕ) (before : List ℕ) where
   -- A call has a late message where one has a greater number than there are early ones.
   late_tells : length readers ≤ 4 → IsNumbered tape → TakesFrom readers calls tape → IsEarly routes after tape early
@@ -170,12 +253,21 @@ module _ (routes : List Route) (after : ℕ) (readers : List ℕ) (calls : List 
           (subst (λ k. k < h.message.seq) (sym (count h.place h.message h.there)) (late_number routes after tape early numbered e h.message h.late))
 
   -- Whether no two calls have one, by how many have one.
-  pub obeys_tells : length readers ≤ 4 → IsNumbered tape → TakesFrom readers calls tape → IsEarly routes after tape early
+  obeys_made : length readers ≤ 4 → IsNumbered tape → TakesFrom readers calls tape → IsEarly routes after tape early
       → ((j channel : ℕ) → j < 4 → slice_get readers j ≡ Some channel → slice_index before j ≡ length (on_channel channel (take early tape)))
       → (many : ℕ) → many ≡ length (filter (λ (x : Call). late_from 0 (messages_of x.tuple) before) calls)
       → (b : Bool) → Decides b (many ≤ 1) → Decides b (HasOneLate routes after calls tape)
-  obeys_tells few numbered takes e counts many is b d =
+  obeys_made few numbered takes e counts many is b d =
       let tell = late_tells few numbered takes e counts in (
         λ yes m n x y a c late_x late_y. few_one (λ (x : Call). late_from 0 (messages_of x.tuple) before) calls (subst (λ k. k ≤ 1) is (d.0 yes)) m n x y a c ((tell m x a).1 late_x) ((tell n y c).1 late_y),
         λ one. d.1 (subst (λ k. k ≤ 1) (sym is) (one_few (λ (x : Call). late_from 0 (messages_of x.tuple) before) calls (λ m n x y a c px py. one m n x y a c ((tell m x a).0 px) ((tell n y c).0 py)))),
       )
+
+  -- .. and as is told.
+  pub obeys_tells : (told : List TraceCall) → trace_calls 0 calls ≡ told → length readers ≤ 4 → IsNumbered tape → TakesFrom readers calls tape → IsEarly routes after tape early
+      → ((j channel : ℕ) → j < 4 → slice_get readers j ≡ Some channel → slice_index before j ≡ length (on_channel channel (take early tape)))
+      → (many : ℕ) → many ≡ length (filter (λ (x : TraceCall). late_seqs 0 x.seqs before) told)
+      → (b : Bool) → Decides b (many ≤ 1) → Decides b (HasOneLate routes after calls tape)
+  obeys_tells told same few numbered takes e counts many is b d =
+      obeys_made few numbered takes e counts many
+      (is ∙ ap (λ (l : List TraceCall). length (filter (λ (x : TraceCall). late_seqs 0 x.seqs before) l)) (sym same) ∙ late_told 0 calls before) b d

@@ -4,14 +4,17 @@ use Rattle.std.proofs.lemmas.Option.{slice_get-map, slice_get_within}
 use Rattle.std.proofs.lemmas.List.{length-map}
 use Rattle.cy_msg.specs.declared.token.Token.{Token}
 use Rattle.cy_fuse.specs.Visitor.{VisitorView}
-use Rattle.cy_comp.specs.Routine.{RoutineView}
+use Rattle.cy_comp.specs.Routine.{RoutineView, new_routine}
+use Rattle.cy_comp.specs.declared.plan.Plan.{Plan}
+use Rattle.wake_core.specs.declared.entries.TheConstants.{MOST_PLANNED}
+use Rattle.wake_core.proofs.FoundBounds.{planned_kept}
 use Rattle.cy_comp.specs.declared.call.Out.{Out}
-use Rattle.cy_comp.specs.Calls.{outs, output, last_outcome, is_last}
+use Rattle.cy_comp.specs.Calls.{outs, last_outcome, is_last}
 use Rattle.wake_core.proofs.Arriving.{there}
 use Rattle.wake_core.specs.declared.route.Route.{Route}
 use Rattle.wake_core.specs.declared.parts.Parts.{Parts}
-use Rattle.wake_core.specs.Plain.{Plain, Stop, opening_world, unsent_of, taped_of}
-use Rattle.wake_core.specs.Fields.{read, no_visitor, no_routine, IsFixed, IsVisited, IsRoomy}
+use Rattle.wake_core.specs.Plain.{Plain, Stop, opening_world}
+use Rattle.wake_core.specs.Fields.{read, no_visitor, IsFixed, IsVisited, IsRoomy}
 use Rattle.wake_core.specs.Parts.{AreFit, shown_by, routine_in}
 use Rattle.wake_core.specs.WorldOf.{routes_in, counts_in, stop_in}
 use Rattle.cy_verify.specs.Verdict.{Task}
@@ -19,7 +22,6 @@ use Rattle.cy_verify.specs.declared.follower.Follower.{Follower}
 use Rattle.cy_verify.specs.declared.walk.Walk.{Walk}
 use Rattle.cy_verify.specs.private.Walking.{IsOpening}
 use Rattle.wake_core.specs.Planned.{first_reader, planned_count}
-use Rattle.wake_core.specs.WorldCalls.{IsRoutineOf}
 use Rattle.wake_core.proofs.Reading.{read_at}
 use Rattle.std.proofs.Common.{false, slice_index, take}
 use Rattle.cy_msg.specs.Tokens.{on_channel}
@@ -31,10 +33,19 @@ use Rattle.cy_verify.specs.private.Following.{IsOf, Follows}
 use Rattle.cy_verify.specs.private.Walking.{IsFresh, IsWalked}
 use Rattle.cy_verify.proofs.FollowersMade.{IsNew}
 use Rattle.cy_verify.proofs.Heard.{get_there}
-use Rattle.wake_core.specs.Run.{routes_of}
+use Rattle.wake_core.specs.Run.{route_of, routes_of}
 
 read_get : {X Y : Type 0} (g : X → Y) (d : Y) (xs : List X) (n : ℕ) (x : X) → slice_get xs n ≡ Some x → read g d xs n ≡ g x
 read_get g d xs n x e = read_at g d xs n x (slice_get_within xs n x e) ∙ ap g (get_there xs n x x e)
+
+one : {X : Type 0} {a b : X} → Some a ≡ Some b → a ≡ b
+one e = cc
+
+head_is : {X : Type 0} {a b : X} {xs ys : List X} → a ∷ xs ≡ b ∷ ys → a ≡ b
+head_is e = cc
+
+tail_is : {X : Type 0} {a b : X} {xs ys : List X} → a ∷ xs ≡ b ∷ ys → xs ≡ ys
+tail_is e = cc
 
 outs_empty : (channel : ℕ) → outs channel [] ≡ []
 unfolding outs
@@ -45,9 +56,27 @@ unfolding read
 all_true [] n e all = ap (λ k. replicate k true) e
 all_true (x ∷ xs) n e all = ap (λ y. y ∷ xs) (all 0) ∙ ap (λ l. true ∷ l) (all_true xs (length xs) refl (λ c. all (suc c))) ∙ ap (λ k. replicate k true) e
 
+-- Nothing was called yet of any component.
+abbrev pub AreCallers : List Route → List Follower → Type 0
+AreCallers routes fs = (c : ℕ) (x : Route) (f : Follower) → slice_get routes c ≡ Some x → slice_get fs c ≡ Some f → f.routine ≡ new_routine x.kind MOST_PLANNED
+
+pub callers_are : (plans : List Plan) (fs : List Follower) → map (λ (f : Follower). f.routine) fs ≡ map (λ (p : Plan). new_routine p.kind MOST_PLANNED) plans → AreCallers (routes_of plans) fs
+callers_are [] fs same c x f at is = cc
+callers_are (p ∷ plans) [] same c x f at is = cc
+callers_are (p ∷ plans) (g ∷ fs) same zero x f at is = first same at is
+  where
+    first : ◌≡◌ {A = List RoutineView} (g.routine ∷ map (λ (f : Follower). f.routine) fs) (new_routine p.kind MOST_PLANNED ∷ map (λ (p : Plan). new_routine p.kind MOST_PLANNED) plans)
+        → Some (route_of p) ≡ Some x → Some g ≡ Some f → f.routine ≡ new_routine x.kind MOST_PLANNED
+    first same at is = ap (λ (h : Follower). h.routine) (sym (one is)) ∙ head_is same ∙ ap (λ (y : Route). new_routine y.kind MOST_PLANNED) (one at)
+callers_are (p ∷ plans) (g ∷ fs) same (suc c) x f at is = callers_are plans fs (tail_is same) c x f at is
+
+pub visitors_many : (plans : List Plan) (counts : List ℕ) (stop : Option Stop) (parts : Parts) → shown_by parts ≡ opening_world (routes_of plans) counts stop → AreFit parts → length parts.visitors ≡ length plans
+unfolding shown_by
+visitors_many plans counts stop parts shown fit = fit.visitors_fit ∙ ap (λ (w : Plain). length w.routes) shown ∙ length-map plans route_of
+
 -- The parts of an opening world, and followers of them.
 module _ (routes : List Route) (counts : List ℕ) (stop : Option Stop) (parts : Parts) (shown : shown_by parts ≡ opening_world routes counts stop) (fit : AreFit parts) (fs : List Follower)
-    (visitors : map (λ (f : Follower). f.visitor) fs ≡ parts.visitors) (routines : map (λ (f : Follower). f.routine) fs ≡ parts.routines) where
+    (visitors : map (λ (f : Follower). f.visitor) fs ≡ parts.visitors) (callers : AreCallers routes fs) where
   pub routes_are : routes_in parts.fixed ≡ routes
   unfolding shown_by
   routes_are = ap (λ (w : Plain). w.routes) shown
@@ -74,26 +103,12 @@ module _ (routes : List Route) (counts : List ℕ) (stop : Option Stop) (parts :
   visitor_at : (c : ℕ) (f : Follower) → slice_get fs c ≡ Some f → slice_get parts.visitors c ≡ Some f.visitor
   visitor_at c f e = ap (λ l. slice_get l c) (sym visitors) ∙ slice_get-map (λ (f : Follower). f.visitor) fs c ∙ ap (option_map (λ (f : Follower). f.visitor)) e
 
-  routine_at : (c : ℕ) (f : Follower) → slice_get fs c ≡ Some f → slice_get parts.routines c ≡ Some f.routine
-  routine_at c f e = ap (λ l. slice_get l c) (sym routines) ∙ slice_get-map (λ (f : Follower). f.routine) fs c ∙ ap (option_map (λ (f : Follower). f.routine)) e
-
   visitor_read : (c : ℕ) (f : Follower) → slice_get fs c ≡ Some f → read (λ v. v) no_visitor parts.visitors c ≡ f.visitor
   visitor_read c f e = read_get (λ v. v) no_visitor parts.visitors c f.visitor (visitor_at c f e)
-
-  routine_read : (c : ℕ) (f : Follower) → slice_get fs c ≡ Some f → routine_in parts c ≡ f.routine
-  routine_read c f e = read_get (λ r. r) no_routine parts.routines c f.routine (routine_at c f e)
 
   arrivals_none : (c : ℕ) (f : Follower) → slice_get fs c ≡ Some f → f.visitor.arrivals ≡ []
   unfolding shown_by
   arrivals_none c f e = sym (read_get (λ v. v.arrivals) [] parts.visitors c f.visitor (visitor_at c f e)) ∙ ap (λ (w : Plain). w.arrivals c) shown
-
-  calls_none : (c : ℕ) (f : Follower) → slice_get fs c ≡ Some f → f.routine.calls ≡ []
-  unfolding shown_by
-  calls_none c f e = ap (λ (r : RoutineView). r.calls) (sym (routine_read c f e)) ∙ ap (λ (w : Plain). w.calls c) shown
-
-  its_routine : (c : ℕ) (x : Route) (f : Follower) → slice_get routes c ≡ Some x → slice_get fs c ≡ Some f → IsRoutineOf c (opening_world routes counts stop) f.routine
-  its_routine c x f at e = subst (λ (r : RoutineView). IsRoutineOf c (opening_world routes counts stop) r) (routine_read c f e)
-      (subst (λ (w : Plain). IsRoutineOf c w (routine_in parts c)) shown (fit.routines c (rw routes_are (slice_get_within routes c x at))))
 
   its_visited : IsVisited routes counts (read (λ v. v) no_visitor parts.visitors)
   its_visited = subst (λ (l : List ℕ). IsVisited routes l (read (λ v. v) no_visitor parts.visitors)) counts_are (subst (λ (l : List Route). IsVisited l (counts_in parts.fixed) (read (λ v. v) no_visitor parts.visitors)) routes_are fit.visited)
@@ -102,23 +117,13 @@ module _ (routes : List Route) (counts : List ℕ) (stop : Option Stop) (parts :
   its_roomy = subst (λ (l : List ℕ). IsRoomy routes l (read (λ v. v) no_visitor parts.visitors) (routine_in parts) (vec_capacity parts.tape)) counts_are
       (subst (λ (l : List Route). IsRoomy l (counts_in parts.fixed) (read (λ v. v) no_visitor parts.visitors) (routine_in parts) (vec_capacity parts.tape)) routes_are fit.roomy)
 
-  none_pending : (c : ℕ) (x : Route) (f : Follower) → slice_get routes c ≡ Some x → slice_get fs c ≡ Some f → f.routine.pending ≡ None
-  none_pending c x f at e = by (output x.out (taped_of routes [] c + 1)) f.routine.pending (sym ((its_routine c x f at e).pending x at) ∙ nothing)
-    where
-      nothing : unsent_of (opening_world routes counts stop) c ≡ None
-      nothing = rw at (ap (λ l. slice_get l 0) (outs_empty x.out))
-
-      by : (g : Out → Token) (o : Option Out) → option_map g o ≡ None → o ≡ None
-      by g None q = refl
-      by g (Some out) q = cc
-
-  pub each_of : (c : ℕ) (x : Route) (f : Follower) → slice_get routes c ≡ Some x → slice_get fs c ≡ Some f → IsOf x (planned_count routes counts (first_reader x)) f
-  each_of c x f at e = record {
-    kind = (its_routine c x f at e).kind x at;
+  pub each_of : IsFixed routes counts → (c : ℕ) (x : Route) (f : Follower) → slice_get routes c ≡ Some x → slice_get fs c ≡ Some f → IsOf x (planned_count routes counts (first_reader x)) f
+  each_of fixed c x f at e = record {
+    kind = ap (λ (r : RoutineView). r.kind) (callers c x f at e);
     roles = ap (λ (v : VisitorView). v.roles) (sym (visitor_read c f e)) ∙ its_visited.roles c x at;
     overflow = ap (λ (v : VisitorView). v.overflow) (sym (visitor_read c f e)) ∙ its_visited.overflows c x at;
     queue = ap (λ (v : VisitorView). v.queue) (sym (visitor_read c f e)) ∙ its_visited.queues c x at;
-    calls = subst (λ (r : RoutineView). planned_count routes counts (first_reader x) ≤ length r.calls + r.spare) (routine_read c f e) (its_roomy.calls c x at);
+    calls = subst (λ (r : RoutineView). planned_count routes counts (first_reader x) ≤ length r.calls + r.spare) (sym (callers c x f at e)) (planned_kept routes counts c x at fixed);
   }
 
   pub each_roomy : (c : ℕ) (x : Route) (f : Follower) → slice_get routes c ≡ Some x → slice_get fs c ≡ Some f → sum (map (planned_count routes counts) x.readers) ≤ length f.visitor.arrivals + f.visitor.spare
@@ -132,31 +137,33 @@ module _ (routes : List Route) (counts : List ℕ) (stop : Option Stop) (parts :
         outputs = new.1;
         ended = new.2;
         arrivals = arrivals_none c f e;
-        calls = calls_none c f e;
-        pending = none_pending c x.0 f x.1 e;
+        calls = ap (λ (r : RoutineView). r.calls) (callers c x.0 f x.1 e);
+        pending = ap (λ (r : RoutineView). r.pending) (callers c x.0 f x.1 e);
       }
 
 -- So it is the opening of a walk.
-pub opens : (t : Task) (parts : Parts) (fs : Vec Follower Global) → shown_by parts ≡ opening_world (routes_of t.plans) t.counts t.stop → AreFit parts → map (λ (f : Follower). f.visitor) fs.items ≡ parts.visitors → map (λ (f : Follower). f.routine) fs.items ≡ parts.routines
+pub opens : (t : Task) (parts : Parts) (fs : Vec Follower Global) (tape : Vec Token Global) → tape.items ≡ [] → vec_capacity parts.tape ≤ vec_capacity tape → shown_by parts ≡ opening_world (routes_of t.plans) t.counts t.stop → AreFit parts → map (λ (f : Follower). f.visitor) fs.items ≡ parts.visitors → map (λ (f : Follower). f.routine) fs.items ≡ map (λ (p : Plan). new_routine p.kind MOST_PLANNED) t.plans
     → ((n : ℕ) (f : Follower) → slice_get fs.items n ≡ Some f → IsNew f) → IsFixed (routes_in parts.fixed) (counts_in parts.fixed)
-    → IsOpening t record { followers = fs; tape = parts.tape; played = 0; spent = parts.spent; fixed = parts.fixed }
-opens t parts fs shown fit visitors routines new fixed =
+    → IsOpening t record { followers = fs; tape = tape; played = 0; spent = parts.spent; fixed = parts.fixed }
+opens t parts fs tape empty room shown fit visitors routines new fixed =
     let routes : List Route = routes_of t.plans in
-    let r = routes_are routes t.counts t.stop parts shown fit fs.items visitors routines in
-    let n = counts_are routes t.counts t.stop parts shown fit fs.items visitors routines in
+    let callers = callers_are t.plans fs.items routines in
+    let r = routes_are routes t.counts t.stop parts shown fit fs.items visitors callers in
+    let n = counts_are routes t.counts t.stop parts shown fit fs.items visitors callers in
+    let kept = subst (λ (l : List ℕ). IsFixed routes l) n (subst (λ (l : List Route). IsFixed l (counts_in parts.fixed)) r fixed) in
     record {
-      made = record { its_routes = r; its_counts = n; its_stop = stop_is routes t.counts t.stop parts shown fit fs.items visitors routines };
-      its = subst (λ (l : List ℕ). IsFixed routes l) n (subst (λ (l : List Route). IsFixed l (counts_in parts.fixed)) r fixed);
+      made = record { its_routes = r; its_counts = n; its_stop = stop_is routes t.counts t.stop parts shown fit fs.items visitors callers };
+      its = kept;
       are_of = record {
-        many = many routes t.counts t.stop parts shown fit fs.items visitors routines;
-        each = each_of routes t.counts t.stop parts shown fit fs.items visitors routines;
-        roomy = each_roomy routes t.counts t.stop parts shown fit fs.items visitors routines;
+        many = many routes t.counts t.stop parts shown fit fs.items visitors callers;
+        each = each_of routes t.counts t.stop parts shown fit fs.items visitors callers kept;
+        roomy = each_roomy routes t.counts t.stop parts shown fit fs.items visitors callers;
       };
-      fresh = λ c f e. each_fresh routes t.counts t.stop parts shown fit fs.items visitors routines c f (new c f e) e;
-      tape = tape_is routes t.counts t.stop parts shown fit fs.items visitors routines;
+      fresh = λ c f e. each_fresh routes t.counts t.stop parts shown fit fs.items visitors callers c f (new c f e) e;
+      tape = empty;
       played = refl;
-      spent = spent_are routes t.counts t.stop parts shown fit fs.items visitors routines;
-      roomy = (its_roomy routes t.counts t.stop parts shown fit fs.items visitors routines).messages;
+      spent = spent_are routes t.counts t.stop parts shown fit fs.items visitors callers;
+      roomy = let kept_room = (its_roomy routes t.counts t.stop parts shown fit fs.items visitors callers).messages in omega (arith, kept_room, room);
     }
 
 none_last : (x : Route) → is_last (last_outcome x.kind []) ≡ false

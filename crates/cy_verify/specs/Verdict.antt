@@ -4,17 +4,17 @@ use Rattle.cy_msg.specs.declared.token.Token.{Token}
 use Rattle.cy_msg.specs.declared.stop.Stop.{Stop}
 use Rattle.cy_comp.specs.declared.plan.Plan.{Plan}
 use Rattle.wake_core.specs.declared.entries.TheConstants.{MOST_PLANNED}
-use Rattle.wake_core.specs.declared.world.World.{World}
 use Rattle.wake_core.specs.Fields.{IsWithin}
 use Rattle.wake_core.specs.LawfulRun.{LawfulRun}
 use Rattle.wake_core.specs.Plain.{Plain, opening_world}
 use Rattle.wake_core.specs.Planned.{planned}
 use Rattle.wake_core.specs.Rest.{IsToPlay, run_shown}
 use Rattle.wake_core.specs.Run.{routes_of}
-use Rattle.wake_core.specs.WorldOf.{plain_of}
+use Rattle.cy_trace.specs.Summary.{calls_from}
 use Rattle.cy_trace.specs.TraceOfRun.{trace_of_run}
 use Rattle.cy_trace.specs.declared.trace.Trace.{Trace}
 use Rattle.cy_verify.specs.declared.error.VerifyError.{VerifyError}
+use Rattle.cy_verify.specs.declared.verdict.Told.{Told}
 use Rattle.cy_verify.specs.declared.verdict.Verdict.{Verdict}
 use Rattle.cy_verify.specs.declared.verdict.Verdict.TheVariants.{Lawful, Unlawful}
 
@@ -44,7 +44,15 @@ pub record IsTold (t : Task) (trace : Trace) (w : Plain) : Type 0 where
   pub lawful : LawfulRun t.tokens (routes_of t.plans) t.stop w
   pub told : trace ≡ trace_of_run t.names t.plans t.shadowed (run_shown w)
 
--- What judging a trace answers: a world of which it tells, or that there is none.
+-- A lawful run of it has this trace, with this tape and so many calls.
+pub record IsOfRun (t : Task) (trace : Trace) (told : Told) : Type 0 where
+  pub world : Plain
+  pub is_told : IsTold t trace world
+  pub tape : told.tape ≡ world.tape
+  pub calls : told.calls ≡ calls_from (run_shown world) 0 t.plans
+
+-- What judging a trace answers: the tape and the calls of a lawful run that has it, or that none
+-- has it.
 pub record Judges (t : Task) (trace : Trace) (result : Result Verdict VerifyError) : Type 0 where
-  pub lawful : (w : World) → result ≡ Ok (Lawful w) → IsTold t trace (plain_of w)
+  pub lawful : (told : Told) → result ≡ Ok (Lawful told) → IsOfRun t trace told
   pub unlawful : (w : Plain) → result ≡ Ok Unlawful → IsTold t trace w → ⊥

@@ -1,3 +1,4 @@
+pub mod Calling
 pub mod Following
 pub mod Leading
 pub mod Walking

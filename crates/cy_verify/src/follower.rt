@@ -13,7 +13,8 @@ ghost use Rattle.cy_comp.specs.Calls.{is_last};
 ghost use Rattle.cy_trace.specs.TraceOfRun.{output_of_call};
 ghost use Rattle.cy_verify.specs.private.Following.{IsNextOn};
 
-use cy_comp::{Out, Outcome, Plan, Routine, State};
+use crate::caller::Caller;
+use cy_comp::{Out, Outcome, Plan, State};
 use cy_fuse::{Cursor, Visitor, fetches_find};
 use cy_msg::{Token, Tuple};
 use cy_trace::{TraceComponent, TraceOutput};
@@ -26,7 +27,7 @@ const MOST_READERS: usize = 4;
 #[derive(Drop)]
 pub(crate) struct Follower {
     pub(crate) visitor: Visitor,
-    pub(crate) routine: Routine,
+    pub(crate) routine: Caller,
     // How much of the tape was searched for what comes to each reader.
     searched: [usize; MOST_READERS],
     // How many outputs were taken.
@@ -54,7 +55,7 @@ impl Follower {
     ghost use Rattle.cy_verify.specs.private.Leading.{AwaitsTo, CanCall, PutsOut};
 
     /// A component to which nothing came.
-    pub(crate) fn new(visitor: Visitor, routine: Routine) -> Self
+    pub(crate) fn new(visitor: Visitor, routine: Caller) -> Self
         ensures visitor { result.visitor ≡ visitor }
         ensures routine { result.routine ≡ routine }
         ensures nothing { (result.outputs ≡ 0) × (result.ended ≡ false) }
@@ -135,7 +136,7 @@ impl Follower {
     {
         fetches_find();
         laws::bounds();
-        let Some(call) = told.calls.get(self.routine.calls().len()) else {
+        let Some(call) = told.calls.get(self.routine.call_count()) else {
             return false;
         };
         if self.ended || !self.listen(plan, told.roles.as_slice(), call.tail, tape) {
@@ -173,7 +174,7 @@ impl Follower {
             × Leads (route_of plan.now) told.now stopped r self.new (tape.now ++ t ∷ []) }
     {
         fetches_find();
-        for _at in self.routine.calls().len()..told.calls.count() {
+        for _at in self.routine.call_count()..told.calls.count() {
             if !self.call(plan, told, tape) {
                 return None;
             }
@@ -220,7 +221,7 @@ impl Follower {
             → (result ≡ true)
             × Leads (route_of plan.now) told.now stopped r self.new tape.now }
     {
-        for _at in self.routine.calls().len()..told.calls.count() {
+        for _at in self.routine.call_count()..told.calls.count() {
             if !self.call(plan, told, tape) || self.routine.pending().is_some() {
                 return false;
             }

@@ -7,25 +7,26 @@ ghost use Rattle.wake_core.specs.Serial.{last_clock};
 ghost use Rattle.wake_core.specs.WorldOf.{stop_in};
 ghost use Rattle.cy_trace.specs.TraceOfRun.{tape_entry};
 ghost use Rattle.cy_verify.specs.Verdict.{Task, MayJudge, Judges};
+ghost use Rattle.cy_verify.specs.private.Ending.{call_total};
 ghost use Rattle.cy_verify.specs.private.Judging.{IsFollowed};
 ghost use Rattle.cy_verify.specs.private.Led.{IsLed};
 ghost use Rattle.cy_verify.specs.private.Walking.{task_in, IsWalked};
 
 use crate::ending::is_allowed;
+use crate::follower::Follower;
 use crate::heads::is_headed;
 use crate::walk::Walk;
-use crate::world_made::world_of;
-use crate::{Verdict, VerifyError};
+use crate::{Told, Verdict, VerifyError};
 use cy_comp::{Wiring, outcomes_are_answers};
 use cy_fuse::fetches_find;
-use cy_msg::{PlayList, Stop};
+use cy_msg::{Items, PlayList, Stop};
 use cy_trace::Trace;
 use std::alloc::Global;
 use wake_core::laws;
 
 /// Whether a trace is that of a lawful run of a play list over the components of a wiring, with a
-/// stop or none: then also what the run has come to. `counts` has the number of messages that are
-/// played on each channel. The only error is want of memory.
+/// stop or none: then also the tape of the run, and how many calls it has. `counts` has the number
+/// of messages that are played on each channel. The only error is want of memory.
 pub fn verify(
     alloc: Global,
     wiring: &Wiring,
@@ -65,8 +66,7 @@ pub fn verify(
         drop(walk);
         return Ok(Verdict::Unlawful);
     }
-    let world = world_of(alloc, walk, list, stop)?;
-    Ok(Verdict::Lawful(world))
+    Ok(Verdict::Lawful(told_of(walk)))
 }
 
 // Follows a trace to its end: whether it may be that of a lawful run.
@@ -97,7 +97,40 @@ fn follows(
     if !walk.finish(wiring, list, trace, stop) {
         return false;
     }
-    is_allowed(walk, wiring, stop)
+    is_allowed(walk, wiring, trace.components.as_slice(), stop)
+}
+
+// What is asked of the run that was followed: its tape, and how many calls it has.
+fn told_of(walk: Walk) -> Told
+    ensures tape { result.tape ≡ walk.tape.items }
+    ensures calls { result.calls ≡ call_total walk.followers.items }
+{
+    let Walk {
+        followers,
+        tape,
+        played: _,
+        spent,
+        fixed,
+    } = walk;
+    let calls = count_calls(followers.as_slice());
+    drop(followers);
+    drop(spent);
+    drop(fixed);
+    Told {
+        tape: Items::new(tape),
+        calls,
+    }
+}
+
+// How many calls these components made.
+fn count_calls(followers: &[Follower]) -> u128
+    ensures { result ≡ call_total followers.now }
+{
+    let mut count = 0;
+    for component in 0..followers.len() {
+        count += followers[component].routine.call_count() as u128;
+    }
+    count
 }
 
 // No message has a time past the last one of the clock.

@@ -3,18 +3,19 @@
 //! `specs/Verdict` says what is asked, and what is answered.
 #![tactic(auto)]
 
+mod caller;
 mod channels;
 mod ending;
 mod error;
 mod follower;
 mod heads;
 mod judge;
+mod made;
 mod obedient;
 mod timely;
 mod verdict;
 mod walk;
-mod world_made;
 
 pub use error::VerifyError;
 pub use judge::verify;
-pub use verdict::Verdict;
+pub use verdict::{Told, Verdict};

@@ -3,15 +3,17 @@ ghost use Rattle.std.specs.Prelude.{ℕ, ◌≡◌, ◌≤◌, ◌<◌, nat_lt, 
 ghost use Rattle.std.specs.Prelude.{is_some, slice_get, slice_index, filter, List, ◌∷◌, []};
 ghost use Rattle.std.specs.Bool.{Decides};
 ghost use Rattle.cy_msg.specs.declared.token.Token.{Token};
-ghost use Rattle.cy_msg.specs.Tuple.{messages_of};
 ghost use Rattle.cy_msg.specs.Tokens.{on_channel, IsNumbered};
 ghost use Rattle.cy_comp.specs.declared.call.Call.{Call};
 ghost use Rattle.wake_core.specs.Run.{routes_of, writes_from};
-ghost use Rattle.cy_verify.specs.private.Passes.{IsEarly, late_from, TakesFrom};
+ghost use Rattle.cy_trace.specs.TraceOfRun.{trace_calls};
+ghost use Rattle.cy_trace.specs.declared.trace.TraceCall.{TraceCall};
+ghost use Rattle.cy_verify.specs.private.Passes.{IsEarly, late_seqs, TakesFrom};
 ghost use Rattle.cy_verify.specs.private.Passes.{HasOneLate};
 
-use cy_comp::{Call, Calls, Plan};
-use cy_msg::{Token, Tuple};
+use cy_comp::Plan;
+use cy_msg::Token;
+use cy_trace::{Calls, TraceCall};
 
 // The most readers that a component has.
 const MOST_READERS: usize = 4;
@@ -61,38 +63,35 @@ fn count_on(readers: &[u32], reader: usize, early: &[Token]) -> usize
     }
 }
 
-// Whether a message stands behind the first so many of its channel.
-fn is_late(message: &Token, before: usize) -> bool
-    ensures { result ≡ nat_lt before message.now.seq }
-{
-    message.seq as usize > before
-}
-
 // Whether a call has a late message in its tuple, where so many of each reader are early.
-fn has_late(call: &Call, before: [usize; MOST_READERS]) -> bool
-    ensures { result ≡ late_from 0 (messages_of call.now.tuple) before }
+fn has_late(call: &TraceCall, before: [usize; MOST_READERS]) -> bool
+    ensures { result ≡ late_seqs 0 call.now.seqs before }
 {
-    match &call.tuple {
-        Tuple::One(a) => is_late(a, before[0]),
-        Tuple::Two(a, b) => is_late(a, before[0]) || is_late(b, before[1]),
-        Tuple::Three(a, b, c) => {
-            is_late(a, before[0]) || is_late(b, before[1]) || is_late(c, before[2])
-        }
-        Tuple::Four(a, b, c, d) => {
-            is_late(a, before[0])
-                || is_late(b, before[1])
-                || is_late(c, before[2])
-                || is_late(d, before[3])
+    let seqs = call.seqs.as_slice();
+    for reader in 0..seqs.len() {
+        if seqs[reader] as usize > before[reader] {
+            return true;
         }
     }
+    false
 }
 
 // How many calls have a late message in their tuples, where so many of each reader are early.
-fn count_late(calls: Calls<'_>, before: [usize; MOST_READERS]) -> usize
+fn count_late(told: &Calls, before: [usize; MOST_READERS]) -> usize
     ensures { result ≡ length
-        (filter (λ (x : Call). late_from 0 (messages_of x.tuple) before) calls.entry) }
+        (filter (λ (x : TraceCall). late_seqs 0 x.seqs before) told.now) }
 {
-    calls.filter(|call| has_late(call, before)).count()
+    let mut late = 0;
+    for place in 0..told.count() {
+        let Some(call) = told.get(place) else {
+            unreachable!()
+        };
+        if !has_late(&call, before) {
+            continue;
+        }
+        late += 1;
+    }
+    late
 }
 
 // How many of each reader's messages stand in a part of the tape.
@@ -108,19 +107,20 @@ fn counts_of(readers: &[u32], early: &[Token]) -> [usize; MOST_READERS]
     ]
 }
 
-/// Whether the component that a stop names has at most one call with a late message.
+/// Whether a component has at most one call with a late message, of which these calls are told.
 pub(crate) fn obeys(
     plans: &[Plan],
     after: u32,
     readers: &[u32],
-    calls: Calls<'_>,
+    told: &Calls,
     tape: &[Token],
 ) -> bool
     requires few { length readers.now ≤ 4 }
     requires numbered { IsNumbered tape.now }
-    requires stand { TakesFrom readers.now calls tape.now }
-    ensures { Decides result (HasOneLate (routes_of plans.now) after calls.entry tape.now) }
+    ensures { (calls : List Call) → trace_calls 0 calls ≡ told.now
+        → TakesFrom readers.now calls tape.now
+        → Decides result (HasOneLate (routes_of plans.now) after calls tape.now) }
 {
     let early = &tape[..early_part(plans, after, tape)];
-    count_late(calls, counts_of(readers, early)) <= 1
+    count_late(told, counts_of(readers, early)) <= 1
 }

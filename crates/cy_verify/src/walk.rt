@@ -3,14 +3,17 @@ ghost use Rattle.std.specs.Prelude.{ℕ, ◌≡◌, ◌==◌, ◌++◌, ◌∷�
 ghost use Rattle.std.specs.Prelude.{Some, None, is_some, option_map, IsOkUnless, length};
 ghost use Rattle.std.specs.List.{position};
 ghost use Rattle.cy_comp.specs.declared.plan.Plan.{Plan};
+ghost use Rattle.cy_comp.specs.Routine.{new_routine};
+ghost use Rattle.wake_core.specs.declared.entries.TheConstants.{MOST_PLANNED};
 ghost use Rattle.cy_verify.specs.declared.error.VerifyError.TheVariants as VerifyError;
 ghost use Rattle.cy_verify.specs.declared.follower.Follower.{Follower};
 ghost use Rattle.cy_verify.specs.private.Walking.{names_it};
 
 use crate::VerifyError;
+use crate::caller::Caller;
 use crate::channels::Channels;
 use crate::follower::Follower;
-use cy_comp::{Plan, Routine, Wiring};
+use cy_comp::{Plan, Wiring};
 use cy_fuse::Visitor;
 use cy_msg::{Items, PlayList, Stop, Text, Token};
 use cy_trace::{NamedSeq, Trace, TraceComponent};
@@ -86,7 +89,14 @@ impl Walk {
             closing: _,
             raised: _,
         } = world.apart();
-        let followers = followers_of(alloc, visitors.into_vec(), routines.into_vec())?;
+        // Calls are counted and not kept, so the room for them is given back. The tape gets the room
+        // of the text that was read before, where it has enough.
+        let most = tape.capacity();
+        drop(tape);
+        drop(routines);
+        let tape = Vec::with_capacity(alloc, most)?;
+        let callers = callers_of(alloc, wiring.plans.as_slice())?;
+        let followers = followers_of(alloc, visitors.into_vec(), callers)?;
         Ok(Walk {
             followers,
             tape,
@@ -306,11 +316,23 @@ fn names_it(stop: Option<Stop>, component: usize) -> bool
     }
 }
 
+// What is called of these components, before the first call.
+fn callers_of(alloc: Global, plans: &[Plan]) -> Result<Vec<Caller>, VerifyError>
+    ensures { IfOk result (λ v. v.items
+        ≡ map (λ (p : Plan). new_routine p.kind MOST_PLANNED) plans.now) }
+{
+    let mut callers = Vec::with_capacity(alloc, plans.len())?;
+    for plan in plans {
+        callers.push(Caller::new(alloc, &plan.kind)?)?;
+    }
+    Ok(callers)
+}
+
 // The followers of components with these parts, to which nothing came.
 fn followers_of(
     alloc: Global,
     visitors: Vec<Visitor>,
-    routines: Vec<Routine>,
+    routines: Vec<Caller>,
 ) -> Result<Vec<Follower>, VerifyError>
     requires { length visitors.items ≡ length routines.items }
     ensures followers { IfOk result (λ v. (map (λ (f : Follower). f.visitor) v.items

@@ -3,10 +3,14 @@ use Rattle.std.specs.Prelude.{ℕ, ◌≡◌, ◌⊎◌, List, [], Result, IfOk,
 use Rattle.cy_store.specs.Files.{Holds}
 use Rattle.cy_store.specs.Reads.{Reads, Accepts, Refuses, Absent}
 use Rattle.cy_store.specs.Store.{StoreView, SameCounts, Rose}
+use Rattle.cy_msg.specs.declared.token.Token.{Token}
 use Rattle.wake_core.specs.Plain.{Plain}
+use Rattle.wake_core.specs.Rest.{run_shown}
+use Rattle.cy_trace.specs.Summary.{calls_from}
 use Rattle.cy_trace.specs.TraceForm.{IsTrace, text_of_trace}
 use Rattle.cy_trace.specs.declared.trace.Trace.{Trace}
 use Rattle.cy_verify.specs.Verdict as verdict
+use Rattle.cy_verify.specs.declared.verdict.Told.{Told}
 use Rattle.cy_replay.specs.declared.error.Fault.TheVariants as fault
 use Rattle.cy_replay.specs.declared.error.Refusal.{Refusal}
 use Rattle.cy_replay.specs.declared.error.SetupError.{SetupError}
@@ -15,7 +19,7 @@ use Rattle.cy_replay.specs.declared.setup.Replay.{Replay}
 use Rattle.cy_replay.specs.Setup.{replayed}
 use Rattle.cy_words.specs.PlayWords.{PlayWords}
 use Rattle.cy_commands.specs.Commands.VerifyWork.{IsRead, IsTold, IsVerified, Judged}
-use Rattle.cy_commands.specs.Commands.VerifyWork.{record_of}
+use Rattle.cy_commands.specs.Commands.PlayWork.{source_in, tape_record}
 use Rattle.cy_commands.specs.Work.{Work}
 
 -- What a call answers that judges files, by what these may come to: something that fits, or the
@@ -42,9 +46,17 @@ ComesBeside w x view result = Judged w (replayed x) x.list view.files result
 abbrev pub IsToldIn : PlayWords → Replay → StoreView → Plain → Type 0
 IsToldIn w x view world = IsTold w (replayed x) x.list view.files world
 
-abbrev pub IsRecordIn : PlayWords → Replay → StoreView → Plain → Type 0
-IsRecordIn w x view world = Holds view.files w.output
-    (λ bytes. bytes ≡ record_of w (replayed x) x.list world)
+-- .. and the tape and the number of calls of the run that a trace tells of.
+pub record IsRunIn (w : PlayWords) (x : Replay) (view : StoreView) (run : Told) : Type 0 where
+  pub world : Plain
+  pub is_told : IsToldIn w x view world
+  pub tape : run.tape ≡ world.tape
+  pub calls : run.calls ≡ calls_from (run_shown world) 0 x.wiring.plans
+
+-- The record is that of a tape.
+abbrev pub IsRecordIn : PlayWords → Replay → StoreView → List Token → Type 0
+IsRecordIn w x view tape = Holds view.files w.output
+    (λ bytes. bytes ≡ tape_record w (source_in (replayed x) x.list) tape)
 
 -- What a run of a replay was to be.
 abbrev pub task_of : Replay → verdict.Task

@@ -1,18 +1,18 @@
 // The command `verify`.
-ghost use Rattle.std.specs.Prelude.{◌≡◌, IfOk, IfErr, IsOkUnless};
+ghost use Rattle.std.specs.Prelude.{◌≡◌, IfOk, IfErr, IsOkUnless, length};
 ghost use Rattle.cy_msg.specs.declared.play_list.PlayList.{PlayList};
 ghost use Rattle.cy_request.specs.Request.{HasReader};
 ghost use Rattle.cy_replay.specs.Setup.{IsSetUp, Replayed, replayed};
-ghost use Rattle.cy_verify.specs.Verdict.{IsTold};
+ghost use Rattle.cy_trace.specs.Summary.{lawful_line as line_by};
+ghost use Rattle.cy_verify.specs.Verdict.{IsOfRun};
 ghost use Rattle.cy_words.specs.Command as command;
 ghost use Rattle.cy_words.specs.PlayViews.{play_words_of};
-ghost use Rattle.wake_core.specs.WorldOf.{plain_of};
-ghost use Rattle.cy_commands.specs.Commands.VerifyWork.{IsLawful, IsReadToVerify, IsSetOut};
-ghost use Rattle.cy_commands.specs.Commands.VerifyWork.{IsVerified, Judged, line_of};
+ghost use Rattle.cy_commands.specs.Commands.VerifyWork.{IsReadToVerify, IsSetOut};
+ghost use Rattle.cy_commands.specs.Commands.VerifyWork.{IsVerified, Judged};
 ghost use Rattle.cy_commands.specs.Due.{IsDueFor};
 ghost use Rattle.cy_commands.specs.Line.{bytes_of_line};
 ghost use Rattle.cy_commands.specs.private.VerifyEnds.{ComesBeside, Finds, IsJudgedFile};
-ghost use Rattle.cy_commands.specs.private.VerifyEnds.{IsLineBeside, IsRecordIn, IsToldIn};
+ghost use Rattle.cy_commands.specs.private.VerifyEnds.{IsLineBeside, IsRecordIn, IsRunIn};
 ghost use Rattle.cy_commands.specs.private.VerifyEnds.{IsTraceIn, IsUnlawful, IsVerifiedLine};
 ghost use Rattle.cy_commands.specs.private.VerifyEnds.{task_of};
 
@@ -22,7 +22,7 @@ use crate::play::read_files;
 use crate::status::Status;
 use crate::unset::due_unset;
 use cy_compare::{SameError, same_record};
-use cy_msg::Bytes;
+use cy_msg::{Bytes, PlayList};
 use cy_recording::{Played, played_places_are_there};
 use cy_replay::{Fault, Replay, SetupError, failed, read_trace_file, refused};
 use cy_store::Store;
@@ -30,11 +30,11 @@ use cy_trace::{
     Trace, TraceError, lawful_line, read_trace, runs_are_traces, texts_tell_traces,
     traces_of_runs_fit,
 };
-use cy_verify::{Verdict, VerifyError, verify};
+use cy_verify::{Told, Verdict, VerifyError, verify};
 use cy_words::Play;
 use std::alloc::Global;
 use std::thread::Threads;
-use wake_core::{World, laws};
+use wake_core::laws;
 
 // What holds of all files of a play that are accepted. Nothing runs.
 fn is_set_out(play: &Play, replay: &Replay)
@@ -63,10 +63,10 @@ fn trace_of<S: Store>(alloc: Global, play: &Play, store: &mut S) -> Result<Trace
     }
 }
 
-// The world of which a trace tells, or that no lawful run has it.
-fn world_of(alloc: Global, play: &Play, replay: &Replay, trace: &Trace) -> Result<World, SetupError>
+// What a trace tells of its run, or that no lawful run has it.
+fn run_of(alloc: Global, play: &Play, replay: &Replay, trace: &Trace) -> Result<Told, SetupError>
     requires { IsSetUp (play_words_of play.now).request replay.now }
-    ensures told { IfOk result (λ w. IsTold (task_of replay.now) trace.now (plain_of w)) }
+    ensures told { IfOk result (IsOfRun (task_of replay.now) trace.now) }
     ensures error { IfErr result (IsUnlawful (play_words_of play.now) replay.now trace.now) }
 {
     let counts = replay.counts.as_slice();
@@ -78,23 +78,22 @@ fn world_of(alloc: Global, play: &Play, replay: &Replay, trace: &Trace) -> Resul
         replay.stop,
         trace,
     ) {
-        Ok(Verdict::Lawful(world)) => Ok(world),
+        Ok(Verdict::Lawful(told)) => Ok(told),
         Ok(Verdict::Unlawful) => Err(refused(alloc, play.trace, Fault::Unlawful)),
         Err(VerifyError::Memory) => Err(SetupError::Memory),
     }
 }
 
-// Reads the trace, and says of which world it tells.
-fn judged_world<S: Store>(
+// Reads the trace: what it tells of its run.
+fn judged_run<S: Store>(
     alloc: Global,
     play: &Play,
     store: &mut S,
     replay: &Replay,
-) -> Result<World, SetupError>
+) -> Result<Told, SetupError>
     requires set_up { IsSetUp (play_words_of play.now).request replay.now }
     requires set_out { IsSetOut (play_words_of play.now) (replayed replay.now) replay.now.list }
-    ensures { Finds
-        (λ w. IsToldIn (play_words_of play.now) replay.now (S.shows store.old) (plain_of w))
+    ensures { Finds (IsRunIn (play_words_of play.now) replay.now (S.shows store.old))
         (ComesBeside (play_words_of play.now) replay.now (S.shows store.old))
         (λ file. file ≡ (play_words_of play.now).trace)
         (S.shows store.old) (S.shows store.new) result }
@@ -102,25 +101,23 @@ fn judged_world<S: Store>(
     texts_tell_traces();
     runs_are_traces();
     let trace = trace_of(alloc, play, store)?;
-    let world = world_of(alloc, play, replay, &trace);
+    let told = run_of(alloc, play, replay, &trace);
     drop(trace);
-    world
+    told
 }
 
-// Whether the record is that of the world's tape.
+// Whether the record is that of the run's tape.
 fn compare<S: Store>(
     alloc: Global,
     play: &Play,
     store: &mut S,
     replay: &Replay,
-    world: &World,
+    told: &Told,
 ) -> Result<(), SetupError>
     requires set_up { IsSetUp (play_words_of play.now).request replay.now }
-    requires told { IsToldIn (play_words_of play.now) replay.now (S.shows store.old)
-        (plain_of world.now) }
+    requires told { IsRunIn (play_words_of play.now) replay.now (S.shows store.old) told.now }
     ensures { Finds
-        (λ _. IsRecordIn (play_words_of play.now) replay.now (S.shows store.old)
-        (plain_of world.now))
+        (λ _. IsRecordIn (play_words_of play.now) replay.now (S.shows store.old) told.now.tape)
         (ComesBeside (play_words_of play.now) replay.now (S.shows store.old))
         (λ file. file ≡ (play_words_of play.now).output)
         (S.shows store.old) (S.shows store.new) result }
@@ -132,7 +129,7 @@ fn compare<S: Store>(
         wiring: &replay.wiring,
         list: &replay.list,
     };
-    match same_record(alloc, store, play.output, &played, world.tape_list()) {
+    match same_record(alloc, store, play.output, &played, told.tape.as_slice()) {
         Ok(None) => Ok(()),
         Ok(Some(place)) => Err(refused(alloc, play.output, Fault::Differs { place })),
         Err(SameError::Store) => Err(failed(alloc, play.output)),
@@ -141,14 +138,14 @@ fn compare<S: Store>(
 }
 
 // The line that tells of the run.
-fn tell(alloc: Global, play: &Play, replay: &Replay, world: &World) -> Result<Bytes, SetupError>
-    requires { IsLawful (play_words_of play.now) (replayed replay.now) replay.now.list
-        (plain_of world.now) }
-    ensures line { IfOk result (λ line. line ≡ line_of (replayed replay.now) replay.now.list
-        (plain_of world.now)) }
+fn tell(alloc: Global, list: &PlayList, told: &Told) -> Result<Bytes, SetupError>
+    ensures line { IfOk result (λ line. line ≡ line_by (length list.now.tokens)
+        list.now.shadowed told.now.calls (length told.now.tape)) }
     ensures only_memory { IsOkUnless result SetupError.Memory }
 {
-    match lawful_line(alloc, world, &replay.wiring, replay.list.shadowed) {
+    let played = list.tokens.as_slice().len() as u64;
+    let written = told.tape.as_slice().len() as u64;
+    match lawful_line(alloc, played, list.shadowed, told.calls, written) {
         Ok(line) => Ok(line),
         Err(TraceError::Memory) => Err(SetupError::Memory),
         Err(TraceError::Bad { .. }) => unreachable!(),
@@ -161,18 +158,17 @@ fn compared<S: Store>(
     play: &Play,
     store: &mut S,
     replay: &Replay,
-    world: &World,
+    told: &Told,
 ) -> Result<Bytes, SetupError>
     requires set_up { IsSetUp (play_words_of play.now).request replay.now }
-    requires told { IsToldIn (play_words_of play.now) replay.now (S.shows store.old)
-        (plain_of world.now) }
+    requires told { IsRunIn (play_words_of play.now) replay.now (S.shows store.old) told.now }
     ensures { Finds (IsLineBeside (play_words_of play.now) replay.now (S.shows store.old))
         (ComesBeside (play_words_of play.now) replay.now (S.shows store.old))
         (λ file. file ≡ (play_words_of play.now).output)
         (S.shows store.old) (S.shows store.new) result }
 {
-    compare(alloc, play, store, replay, world)?;
-    tell(alloc, play, replay, world)
+    compare(alloc, play, store, replay, told)?;
+    tell(alloc, &replay.list, told)
 }
 
 // The line that tells of the run, where the trace is that of a lawful one.
@@ -188,9 +184,9 @@ fn judged<S: Store>(
         (ComesBeside (play_words_of play.now) replay.now (S.shows store.old))
         (IsJudgedFile (play_words_of play.now)) (S.shows store.old) (S.shows store.new) result }
 {
-    let world = judged_world(alloc, play, store, replay)?;
-    let line = compared(alloc, play, store, replay, &world);
-    drop(world);
+    let told = judged_run(alloc, play, store, replay)?;
+    let line = compared(alloc, play, store, replay, &told);
+    drop(told);
     line
 }
 

@@ -4,19 +4,26 @@ use Rattle.cy_msg.specs.Tokens.{IsNumbered}
 use Rattle.cy_msg.specs.declared.stop.Stop.{Stop}
 use Rattle.cy_comp.specs.declared.plan.Plan.{Plan}
 use Rattle.wake_core.specs.Run.{routes_of}
+use Rattle.cy_trace.specs.TraceOfRun.{trace_calls}
+use Rattle.cy_trace.specs.declared.trace.TraceComponent.{TraceComponent}
 use Rattle.cy_verify.specs.declared.follower.Follower.{Follower}
 use Rattle.cy_verify.specs.declared.walk.Walk.{Walk}
 use Rattle.cy_verify.specs.private.Passes.{IsApart, HasOneLate, TakesFrom}
 
 -- The messages of the tape are numbered, there is a follower for each component, whose calls took
--- messages of the tape, and a stop names a component.
-pub record MayAsk (plans : List Plan) (stop : Option Stop) (walk : Walk) : Type 0 where
+-- messages of the tape and are told, and a stop names a component.
+pub record MayAsk (plans : List Plan) (told : List TraceComponent) (stop : Option Stop)
+    (walk : Walk) : Type 0 where
   pub numbered : IsNumbered walk.tape.items
   pub many : length walk.followers.items ≡ length plans
   pub few : (c : ℕ) (p : Plan) → slice_get plans c ≡ Some p → length p.readers ≤ 4
   pub takes : (c : ℕ) (p : Plan) (f : Follower) → slice_get plans c ≡ Some p
       → slice_get walk.followers.items c ≡ Some f
       → TakesFrom p.readers f.routine.calls walk.tape.items
+  pub all_told : length told ≡ length plans
+  pub calls_told : (c : ℕ) (f : Follower) (k : TraceComponent)
+      → slice_get walk.followers.items c ≡ Some f → slice_get told c ≡ Some k
+      → trace_calls 0 f.routine.calls ≡ k.calls
   pub known : (s : Stop) → stop ≡ Some s → s.component < length plans
 
 -- The component that a stop names has at most one call with a late message.

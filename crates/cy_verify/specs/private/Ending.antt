@@ -1,6 +1,6 @@
 -- What a walk that was followed to its end comes to.
-use Rattle.std.specs.Prelude.{ℕ, ◌≡◌, ◌≤◌, ◌<◌, Bool, true, List, [], length, map, is_some, Some}
-use Rattle.std.specs.Prelude.{slice_get, Option, None}
+use Rattle.std.specs.Prelude.{ℕ, ◌+◌, ◌≡◌, ◌≤◌, ◌<◌, Bool, true, List, [], ◌∷◌, length, map}
+use Rattle.std.specs.Prelude.{slice_get, is_some, Some, None}
 use Rattle.cy_msg.specs.declared.token.Token.{Token}
 use Rattle.cy_msg.specs.Tokens.{IsTimed}
 use Rattle.cy_fuse.specs.Visitor.{VisitorView}
@@ -14,7 +14,6 @@ use Rattle.wake_core.specs.Plain.{Plain, Ready, Stop, opening_world}
 use Rattle.wake_core.specs.Run.{routes_of, writes_from}
 use Rattle.wake_core.specs.Serial.{last_clock}
 use Rattle.wake_core.specs.Sound.{HasLate, IsOutput, WasHeld}
-use Rattle.wake_core.specs.WorldOf.{IsMade}
 use Rattle.cy_trace.specs.TraceOfRun.{tape_entry}
 use Rattle.cy_trace.specs.TraceText.{version_of}
 use Rattle.cy_trace.specs.declared.trace.Trace.{Trace}
@@ -30,6 +29,11 @@ visitors_in followers = map (λ (f : Follower). f.visitor) followers
 
 abbrev pub routines_in : List Follower → List RoutineView
 routines_in followers = map (λ (f : Follower). f.routine) followers
+
+-- How many calls they made.
+abbrev pub call_total : List Follower → ℕ
+call_total [] = 0
+call_total (f ∷ rest) = length f.routine.calls + call_total rest
 
 -- The calls of each of them.
 abbrev pub calls_in : List Follower → ℕ → List Call
@@ -90,12 +94,3 @@ pub record IsHeaded (t : Task) (tape : List Token) (trace : Trace) : Type 0 wher
   pub names : (c : ℕ) (p : Plan) (k : TraceComponent) → slice_get t.plans c ≡ Some p
       → slice_get trace.components c ≡ Some k → (k.name ≡ p.name) × (k.overflow ≡ p.overflow)
   pub taped : map (tape_entry t.names) tape ≡ trace.tape
-
--- A walk is whole for the task over what it keeps, with these messages to play and this stop.
-pub record IsRipe (tokens : List Token) (stop : Option Stop) (w : Walk) : Type 0 where
-  pub task : Task
-  pub told : List TraceComponent
-  pub whole : IsWhole task told w
-  pub made : IsMade (routes_of task.plans) task.counts task.stop w.fixed
-  pub its_tokens : tokens ≡ task.tokens
-  pub its_stop : stop ≡ task.stop

@@ -64,6 +64,12 @@ late_from reader [] before = false
 late_from reader (m ∷ rest) before =
     nat_lt (slice_index before reader) m.seq || late_from (reader + 1) rest before
 
+-- The same of the numbers of messages.
+abbrev pub late_seqs : (reader : ℕ) → List ℕ → (before : List ℕ) → Bool
+late_seqs reader [] before = false
+late_seqs reader (n ∷ rest) before =
+    nat_lt (slice_index before reader) n || late_seqs (reader + 1) rest before
+
 -- Each message that a call took came from a tape, to the reader of its channel.
 pub record TakesFrom (readers : List ℕ) (calls : List Call) (tape : List Token) : Type 0 where
   pub reads : (n j : ℕ) (x : Call) (m : Token) → slice_get calls n ≡ Some x

@@ -13,8 +13,8 @@ pub is_allowed-requires : goal.is_allowed-requires
 is_allowed-requires c =
     let kept = ap (λ (w : Walk). w.fixed) c.finish.ensures.same ∙ c.put_all.ensures.same in
     let may = same_may c.args.wiring.now c.args.list.now c.args.walk.now c.finish.new.self kept c.requires.may in
-    subst (λ (s : Option Stop). MayAsk c.args.wiring.now.plans s c.finish.new.self) (ap stop_in kept ∙ sym c.requires.stop)
-    (may_ask (task_in c.args.wiring.now c.args.list.now c.finish.new.self) c.args.trace.now.components c.finish.new.self c.requires.told may.within (c.if-not-finish.ensures.walked refl))
+    rw c.as_slice.ensures (subst (λ (s : Option Stop). MayAsk c.args.wiring.now.plans c.args.trace.now.components s c.finish.new.self) (ap stop_in kept ∙ sym c.requires.stop)
+    (may_ask (task_in c.args.wiring.now c.args.list.now c.finish.new.self) c.args.trace.now.components c.finish.new.self c.requires.told may.within (c.if-not-finish.ensures.walked refl)))
 
 pub returns-clause-leads : goal.returns-clause-leads
 returns-clause-leads c = λ w led told.

@@ -4,7 +4,7 @@ use Rattle.cy_verify.specs.private.Judging.{IsFollowed}
 use Rattle.cy_verify.specs.private.Led.{IsLed}
 use Rattle.cy_verify.specs.private.Walking.{IsWalked}
 use Rattle.cy_verify.proofs.Begun.{opening_led}
-use Rattle.cy_verify.proofs.Judged.{task_is, told_headed, told_taped, judges_none, followed_whole, judges_world, made_on, refuted}
+use Rattle.cy_verify.proofs.Judged.{task_is, told_headed, told_taped, judges_none, judges_told, refuted}
 use Rattle.cy_verify.proofs.Opening.{opening_walked}
 use Rattle.cy_verify.proofs.judge.verify.Goals as goal
 
@@ -35,21 +35,6 @@ returns-then-not-follows c =
     (subst (λ (t : Task). IsLed t c.args.trace.now.components w c.in_ok-walk.walk) (sym (task_is c.args.wiring.now c.args.list.now c.args.counts.now c.args.stop c.in_ok-walk.walk begun.made))
     (opening_led _ c.args.trace.now w c.in_ok-walk.walk h begun)) (told_taped _ c.args.trace.now w h)))
 
-pub world_of-requires : goal.world_of-requires
-world_of-requires c =
-    let begun = c.in_ok-walk.ensures.opens c.args.list.now.tokens c.args.list.now.shadowed in
-    let followed = subst (λ (t : Task). IsFollowed t c.args.trace.now c.follows.new.walk) (task_is c.args.wiring.now c.args.list.now c.args.counts.now c.args.stop c.in_ok-walk.walk begun.made) (c.if-not-follows.ensures.followed refl) in
-    record {
-      ripe = record {
-        task = _;
-        told = c.args.trace.now.components;
-        whole = followed_whole _ c.args.trace.now c.follows.new.walk c.requires (c.if-not-is_headed.ensures.0 refl) followed c.args.list.now.timed c.times_fit.ensures;
-        made = made_on c.in_ok-walk.walk c.follows.new.walk c.follows.ensures.same begun.made;
-        its_tokens = refl;
-        its_stop = refl;
-      };
-    }
-
 pub returns : goal.returns
 returns c =
     let task : Task = record {
@@ -62,5 +47,5 @@ returns c =
     } in
     let begun = c.in_ok-walk.ensures.opens c.args.list.now.tokens c.args.list.now.shadowed in
     let followed = subst (λ (t : Task). IsFollowed t c.args.trace.now c.follows.new.walk) (task_is c.args.wiring.now c.args.list.now c.args.counts.now c.args.stop c.in_ok-walk.walk begun.made) (c.if-not-follows.ensures.followed refl) in
-    judges_world c.fetches_find.ensures.find c.outcomes_are_answers.ensures task c.args.trace.now c.follows.new.walk c.in_ok-world.world c.requires (c.if-not-is_headed.ensures.0 refl) followed c.args.list.now.timed c.times_fit.ensures
-    (c.in_ok-world.ensures.world task (made_on c.in_ok-walk.walk c.follows.new.walk c.follows.ensures.same begun.made))
+    judges_told c.fetches_find.ensures.find c.outcomes_are_answers.ensures task c.args.trace.now c.follows.new.walk c.told_of.result c.requires (c.if-not-is_headed.ensures.0 refl) followed c.args.list.now.timed c.times_fit.ensures
+    c.told_of.ensures.tape c.told_of.ensures.calls

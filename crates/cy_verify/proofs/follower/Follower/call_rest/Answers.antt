@@ -1,5 +1,5 @@
 use Rattle.cy_verify.proofs.EndLed.{can_call_on, none_puts}
-use Rattle.std.proofs.Common.{Option, Some, None, is_some, ◌≡◌, Bool, true, false, arith, refl, sym, ◌∙◌, ap, length}
+use Rattle.std.proofs.Common.{Option, Some, None, is_some, ◌≡◌, Bool, true, false, arith, refl, sym, ◌∙◌}
 use Rattle.wake_core.specs.Run.{route_of}
 use Rattle.cy_verify.proofs.Heard.{stays_then, may_further}
 use Rattle.cy_verify.proofs.TapeGrown.{following_itself, none_of, following_more, all_called}
@@ -14,7 +14,7 @@ some_of None e = cc
 some_of (Some x) e = (x, refl)
 
 pub loop-at-init : goal.loop-at-init
-loop-at-init c = record { to = record { following = following_itself c.requires.follows; many = ap length (sym c.calls.ensures) ∙ sym c.len-at.ensures }; leads = λ stopped r lead whole. lead }
+loop-at-init c = record { to = record { following = following_itself c.requires.follows; many = sym c.call_count-at.ensures }; leads = λ stopped r lead whole. lead }
 
 pub call-requires-clause-may : goal.call-requires-clause-may
 call-requires-clause-may c = may_further c.requires.may c.loop-at.invariant.to.following.stays

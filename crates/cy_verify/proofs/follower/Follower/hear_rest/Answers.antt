@@ -1,4 +1,4 @@
-use Rattle.std.proofs.Common.{◌≡◌, Bool, true, false, refl, sym, ap, arith, length, slice_index}
+use Rattle.std.proofs.Common.{◌≡◌, Bool, true, false, refl, sym, arith, slice_index}
 use Rattle.cy_verify.proofs.Awaited.{due_next, next_came, all_came}
 use Rattle.cy_verify.proofs.Heard.{stays_itself, stays_then, may_further, listening_more, index_there, told_few}
 use Rattle.cy_verify.proofs.follower.Follower.hear_rest.Goals as goal

@@ -1,4 +1,4 @@
-use Rattle.std.proofs.Common.{◌≡◌, Bool, true, false, arith, refl, sym, ap, length, slice_index}
+use Rattle.std.proofs.Common.{◌≡◌, Bool, true, false, arith, refl, sym, slice_index}
 use Rattle.wake_core.specs.Run.{route_of}
 use Rattle.cy_verify.proofs.Awaited.{tells_reached, tells_all, due_listened, next_came_to, tuples_its}
 use Rattle.cy_verify.proofs.Heard.{stays_itself, stays_then, may_further, listening_more, index_there}

@@ -1,4 +1,4 @@
-use Rattle.std.proofs.Common.{◌≡◌, ◌+◌, Bool, true, false, Some, refl, sym, ◌∙◌, ap, arith, length}
+use Rattle.std.proofs.Common.{◌≡◌, ◌+◌, Bool, true, false, Some, refl, sym, ◌∙◌, ap, arith}
 use Rattle.cy_msg.specs.declared.token.Token.{Token}
 use Rattle.cy_verify.proofs.CallLed.{told_more}
 use Rattle.cy_verify.proofs.OutputLed.{can_call, puts_it, leads_sent}
@@ -11,7 +11,7 @@ wrong : {b : Bool} → b ≡ true → b ≡ false → ⊥
 wrong e n = cc
 
 pub loop-at-init : goal.loop-at-init
-loop-at-init c = record { to = record { following = following_itself c.requires.follows; many = ap length (sym c.calls.ensures) ∙ sym c.len-at.ensures }; leads = λ stopped r t lead puts. lead }
+loop-at-init c = record { to = record { following = following_itself c.requires.follows; many = sym c.call_count-at.ensures }; leads = λ stopped r t lead puts. lead }
 
 pub call-requires-clause-may : goal.call-requires-clause-may
 call-requires-clause-may c = may_further c.requires.may c.loop-at.invariant.to.following.stays
