@@ -1,0 +1,4 @@
+pub mod Point
+pub mod Scalar
+pub mod Value
+pub mod Values

@@ -1,0 +1,37 @@
+// The forms of channels.
+ghost use Rattle.std.specs.Prelude.{◌≡◌, option_map};
+ghost use Rattle.cy_value.specs.Values.{form_of, value_by};
+
+use crate::{ValueForm, value_in};
+use cy_msg::Text;
+use cy_wire::whole_of;
+
+/// Where the value of a channel's messages is.
+#[derive(Drop)]
+pub struct ChannelValue {
+    /// The name of the channel.
+    pub channel: Text,
+    /// Where the value is.
+    pub form: ValueForm,
+}
+
+/// The form of a channel among those of some: the first one that is given.
+pub fn form_of<'a>(values: &'a [ChannelValue], channel: &str) -> Option<&'a ValueForm>
+    ensures { option_map (λ form. form.now) result ≡ form_of values.now channel.now }
+{
+    let found = values
+        .iter()
+        .find(|value| value.channel.as_str() == channel)?;
+    Some(&found.form)
+}
+
+/// The value of a content: by a form, or the number of the message Whole where there is none.
+#[inline(always)]
+pub fn value_by(form: Option<&ValueForm>, content: &[u8]) -> Option<i64>
+    ensures { result ≡ value_by (option_map (λ f. f.now) form.entry) content.now }
+{
+    match form {
+        Some(form) => value_in(form, content),
+        None => whole_of(content),
+    }
+}
