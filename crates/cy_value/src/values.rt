@@ -1,10 +1,11 @@
 // The forms of channels.
-ghost use Rattle.std.specs.Prelude.{◌≡◌, option_map};
+ghost use Rattle.std.specs.Prelude.{◌≡◌, option_map, IfOk, IfErr};
 ghost use Rattle.cy_value.specs.Values.{form_of, value_by};
 
 use crate::{ValueForm, value_in};
-use cy_msg::Text;
+use cy_msg::{Items, NamesError, Text};
 use cy_wire::whole_of;
+use std::alloc::Global;
 
 /// Where the value of a channel's messages is.
 #[derive(Drop)]
@@ -13,6 +14,34 @@ pub struct ChannelValue {
     pub channel: Text,
     /// Where the value is.
     pub form: ValueForm,
+}
+
+impl ChannelValue {
+    /// A copy. The only error is `Memory`.
+    pub fn copy(&self, alloc: Global) -> Result<Self, NamesError>
+        ensures copy { IfOk result (λ value. value ≡ self.now) }
+        ensures memory { IfErr result (λ e. e ≡ NamesError.Memory) }
+    {
+        Ok(ChannelValue {
+            channel: Text::new(alloc, self.channel.as_str())?,
+            form: self.form.copy(alloc)?,
+        })
+    }
+}
+
+/// A copy of some. The only error is `Memory`.
+pub fn copy_values(
+    alloc: Global,
+    values: &[ChannelValue],
+) -> Result<Items<ChannelValue>, NamesError>
+    ensures copy { IfOk result (λ copy. copy ≡ values.now) }
+    ensures memory { IfErr result (λ e. e ≡ NamesError.Memory) }
+{
+    let mut copies = Vec::with_capacity(alloc, values.len())?;
+    for value in values {
+        copies.push(value.copy(alloc)?)?;
+    }
+    Ok(Items::new(copies))
 }
 
 /// The form of a channel among those of some: the first one that is given.
