@@ -1,5 +1,5 @@
 -- Forms that are the same.
-use Rattle.std.specs.Prelude.{ℕ, ◌==◌, ◌&&◌, Bool}
+use Rattle.std.specs.Prelude.{◌==◌, ◌&&◌, Bool}
 use Rattle.std.specs.Str.{bytes_eq}
 use Rattle.cy_value.specs.declared.form.ValueForm.{ValueForm}
 use Rattle.cy_value.specs.Names.{kind_name}

@@ -1,5 +1,5 @@
 -- The names of kinds.
-use Rattle.std.specs.Prelude.{ℕ, if◌then◌else◌, List, [], ◌∷◌, codes, map, Option, Some, None}
+use Rattle.std.specs.Prelude.{ℕ, if◌then◌else◌, List, [], ◌∷◌, codes, Option, Some, None}
 use Rattle.std.specs.Str.{bytes_eq}
 use Rattle.cy_value.specs.declared.kind.ScalarKind.{ScalarKind}
 use Rattle.cy_value.specs.declared.kind.ScalarKind.TheVariants.{Int32, Int64, Uint32, Uint64}

@@ -4,8 +4,7 @@ use Rattle.std.specs.Prelude.{ℕ, ℤ, pos, zero, suc, negsuc, ◌+◌, ◌-◌
 use Rattle.std.specs.Prelude.{nat_le, min, max, Bool, if◌then◌else◌, Option, Some, None}
 use Rattle.cy_value.specs.declared.point.PointFormat.{PointFormat}
 
--- The format of four bytes, and that of eight. With an exponent of 0 the last binary place is that
--- of 2 to the power of -149, or -1074, and of exponents 0 counts as 1.
+-- The format of four bytes, and that of eight.
 abbrev pub binary32 : PointFormat
 binary32 = record { fractions = 2 ^ 23; exponents = 2 ^ 8; places = 150 }
 
@@ -28,8 +27,8 @@ abbrev pub digits_of : PointFormat → ℕ → ℕ
 digits_of format bits = if exponent_of format bits == 0 then fraction_of format bits
     else fraction_of format bits + format.fractions
 
--- The size of the number is its digits, times two to its exponent, over two to so many places; an
--- exponent of 0 counts as 1. It is multiplied, and what stands behind the point is dropped.
+-- The size of the number is its digits times 2 to its exponent, over 2 to the number of places; an
+-- exponent of 0 counts as 1. It is multiplied by a scale, and what is behind the point is dropped.
 abbrev pub size_of : PointFormat → ℕ → ℕ → ℕ
 size_of format scale bits =
     digits_of format bits * scale * 2 ^ max (exponent_of format bits) 1 / 2 ^ format.places

@@ -1,6 +1,7 @@
 -- What the bits of a field stand for, by its kind (protobuf.dev, "Encoding" and "Scalar Value
 -- Types").
-use Rattle.std.specs.Prelude.{ℕ, ℤ, pos, ◌-◌, ◌%◌, ◌^◌, ◌==◌, min, if◌then◌else◌, Option, Some, None}
+use Rattle.std.specs.Prelude.{ℕ, ℤ, pos, ◌-◌, ◌%◌, ◌^◌, ◌==◌, min, if◌then◌else◌}
+use Rattle.std.specs.Prelude.{Option, Some, None}
 use Rattle.std.specs.Int.{w32, w64, cast_signed}
 use Rattle.cy_wire.specs.Field.{WireValue, Varint, Eight, Bytes, Four}
 use Rattle.cy_wire.specs.Message.{varint_value}

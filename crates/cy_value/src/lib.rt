@@ -19,4 +19,4 @@ mod values;
 pub use form::{LONGEST_PATH, ValueForm};
 pub use kind::ScalarKind;
 pub use value::value_in;
-pub use values::{ChannelValue, copy_values, form_of, value_by};
+pub use values::{ChannelValue, copy_values, form_at, form_of, place_of, value_by};

@@ -1,6 +1,6 @@
 // The forms of channels.
 ghost use Rattle.std.specs.Prelude.{◌≡◌, option_map, IfOk, IfErr};
-ghost use Rattle.cy_value.specs.Values.{form_of, value_by};
+ghost use Rattle.cy_value.specs.Values.{form_at, form_of, place_of, value_by};
 
 use crate::{ValueForm, value_in};
 use cy_msg::{Items, NamesError, Text};
@@ -52,6 +52,23 @@ pub fn form_of<'a>(values: &'a [ChannelValue], channel: &str) -> Option<&'a Valu
         .iter()
         .find(|value| value.channel.as_str() == channel)?;
     Some(&found.form)
+}
+
+/// Which of some is the first that is given for a channel.
+pub fn place_of(values: &[ChannelValue], channel: &str) -> Option<usize>
+    ensures { result ≡ place_of values.now channel.now }
+{
+    values
+        .iter()
+        .position(|value| value.channel.as_str() == channel)
+}
+
+/// The form at a place among some.
+#[inline(always)]
+pub fn form_at(values: &[ChannelValue], place: Option<usize>) -> Option<&ValueForm>
+    ensures { option_map (λ form. form.now) result ≡ form_at values.entry.now place }
+{
+    Some(&values.get(place?)?.form)
 }
 
 /// The value of a content: by a form, or the number of the message Whole where there is none.

@@ -5,9 +5,13 @@ use Rattle.cy_value.proofs.scaled.scaled.Goals as goal
 pub returns-then-exponent-places : goal.returns-then-exponent-places
 returns-then-exponent-places c =
     let raised = rw (c.from.ensures, c.from-2.ensures) at c.raised.ensures in
-    raised ∙ ap (λ (size : ℕ). min size (2 ^ 63)) (sym (outweighs (c.args.digits * c.args.scale) c.args.exponent c.args.places (omega arith)))
+    let number = c.args.digits * c.args.scale in
+    let same = outweighs number c.args.exponent c.args.places (omega arith) in
+    raised ∙ ap (λ (size : ℕ). min size (2 ^ 63)) (sym same)
 
 pub returns-else-exponent-places : goal.returns-else-exponent-places
 returns-else-exponent-places c =
     let lowered = rw (c.from.ensures, c.from-2.ensures) at c.lowered.ensures in
-    lowered ∙ ap (λ (size : ℕ). min size (2 ^ 63)) (sym (outweighed (c.args.digits * c.args.scale) c.args.exponent c.args.places (omega arith)))
+    let number = c.args.digits * c.args.scale in
+    let same = outweighed number c.args.exponent c.args.places (omega arith) in
+    lowered ∙ ap (λ (size : ℕ). min size (2 ^ 63)) (sym same)
