@@ -48,18 +48,16 @@ fi
 
 cat "$work/m.line"
 echo "record $(stat -c %s "$record") bytes, written $(stat -c %s "$work/m.out") and a trace of $(stat -c %s "$work/m.trace")"
-large_pages=$GLIBC_TUNABLES
-plain_pages=glibc.malloc.hugetlb=0:glibc.malloc.mmap_max=0:glibc.malloc.top_pad=67108864
-for pages in large plain; do
-  tunables=${pages}_pages
-  export GLIBC_TUNABLES=${!tunables}
-  echo "On all processors, with $pages pages, load $(cut -d ' ' -f 1 /proc/loadavg):"
-  python3 "$top/bench/turns.py" "$runs" "${commands[@]}"
-  echo "On one processor, with $pages pages, load $(cut -d ' ' -f 1 /proc/loadavg):"
-  python3 "$top/bench/turns.py" "$runs" "${commands_on_one[@]}"
-done
 
-export GLIBC_TUNABLES=$large_pages
+in_turns() { # the kind of pages, and what asks the C library for them
+  echo "On all processors, with $1 pages, load $(cut -d ' ' -f 1 /proc/loadavg):"
+  GLIBC_TUNABLES=$2 python3 "$top/bench/turns.py" "$runs" "${commands[@]}"
+  echo "On one processor, with $1 pages, load $(cut -d ' ' -f 1 /proc/loadavg):"
+  GLIBC_TUNABLES=$2 python3 "$top/bench/turns.py" "$runs" "${commands_on_one[@]}"
+}
+in_turns large "$GLIBC_TUNABLES"
+in_turns plain glibc.malloc.hugetlb=0:glibc.malloc.mmap_max=0:glibc.malloc.top_pad=67108864
+
 written=$(($(stat -c %s "$work/m.out") + $(stat -c %s "$work/m.trace")))
 mkdir "$work/copy"
 echo "Beside these:"
