@@ -179,6 +179,22 @@ std::vector<Message> read_record(std::string_view file, Channels& channels, std:
   return messages;
 }
 
+// Messages on channels that components write aren't played.
+void leave_out_shadowed(std::vector<Message>& list, const std::vector<Plan>& plans,
+                        const Channels& channels) {
+  auto is_shadowed = [&](const Message& message) {
+    const std::string& name = channels[message.channel].name;
+    return std::any_of(plans.begin(), plans.end(), [&](const Plan& it) { return it.out == name; });
+  };
+  list.erase(std::remove_if(list.begin(), list.end(), is_shadowed), list.end());
+}
+
+void sort_by_time(std::vector<Message>& list) {
+  auto is_earlier = [](const Message& a, const Message& b) { return a.time < b.time; };
+  if (std::is_sorted(list.begin(), list.end(), is_earlier)) return;
+  std::stable_sort(list.begin(), list.end(), is_earlier);
+}
+
 // ---- The run.
 
 constexpr uint32_t kNone = std::numeric_limits<uint32_t>::max();
@@ -257,7 +273,8 @@ class Component {
   }
 
   // What the class answers to a tuple.
-  std::optional<Message> answer(const std::vector<Message>& tape, const Tuple& tuple, std::string& pool) {
+  std::optional<Message> answer(const std::vector<Message>& tape, const Tuple& tuple,
+                                std::string& pool) {
     Message out = tape[tuple[0]];
     switch (plan_.kind) {
       case Class::kSum: {
@@ -315,15 +332,21 @@ class Component {
 class Run {
  public:
   // A run in which no channel has more than so many messages.
-  Run(const std::vector<Plan>& plans, Channels& channels, std::string& pool, size_t most) : pool_(pool) {
+  Run(const std::vector<Plan>& plans, Channels& channels, std::string& pool, size_t most)
+      : pool_(pool) {
     components_.reserve(plans.size());
-    for (const Plan& plan : plans) components_.emplace_back(plan, channels.number_of(plan.out), most);
+    for (const Plan& plan : plans) {
+      uint32_t out = channels.number_of(plan.out);
+      channels[out] = {plan.out, "", ""};  // no component file has a type
+      components_.emplace_back(plan, out, most);
+    }
     routes_.resize(channels.size());
     for (uint32_t channel = 0; channel < channels.size(); channel++) {
       for (Component& component : components_) {
         const std::vector<std::string>& readers = component.plan().readers;
-        size_t role = std::find(readers.begin(), readers.end(), channels[channel].name) - readers.begin();
-        if (role < readers.size()) routes_[channel].push_back({&component, role});
+        auto it = std::find(readers.begin(), readers.end(), channels[channel].name);
+        size_t role = it - readers.begin();
+        if (it != readers.end()) routes_[channel].push_back({&component, role});
       }
     }
     tape_.reserve(most * (1 + plans.size()));
@@ -351,13 +374,15 @@ class Run {
   void send(const Message& message) {
     uint32_t place = tape_.size();
     tape_.push_back(message);
-    for (const Reader& reader : routes_[message.channel]) reader.component->arrive(reader.role, place);
+    for (const Reader& reader : routes_[message.channel])
+      reader.component->arrive(reader.role, place);
   }
 
   // Resumes components until none can be resumed.
   void settle(uint64_t clock) {
     for (;;) {
-      auto it = std::find_if(components_.begin(), components_.end(), [&](const Component& c) { return c.can_resume(clock); });
+      auto it = components_.begin();
+      while (it != components_.end() && !it->can_resume(clock)) ++it;
       if (it == components_.end()) return;
       if (std::optional<Message> sent = it->resume(tape_, pool_)) send(*sent);
     }
@@ -473,7 +498,9 @@ class RecordWriter {
       fill(single, message);
       uint64_t length = single.ByteSizeLong();
       uint64_t more = 1 + google::protobuf::io::CodedOutputStream::VarintSize64(length) + length;
-      if (counts_.messages > 0 && (size + more > kLongestBody || message.time > first + kLongestTime)) {
+      bool is_late = message.time > first && message.time - first > kLongestTime;
+      bool is_full = size + more > kLongestBody || is_late;
+      if (counts_.messages > 0 && is_full) {
         write_chunk();
         size = 0;
       }
@@ -568,7 +595,8 @@ class Text {
   char* end_;
 };
 
-void write_trace(const char* name, const Channels& channels, const Run& run, size_t played, size_t shadowed) {
+void write_trace(const char* name, const Channels& channels, const Run& run, size_t played,
+                 size_t shadowed) {
   Text text(name);
   const std::vector<Message>& tape = run.tape();
   text << "cyber-trace 1\nplayed " << played << " shadowed " << shadowed << '\n';
@@ -577,7 +605,9 @@ void write_trace(const char* name, const Channels& channels, const Run& run, siz
     text << "roles " << (component.roles().empty() ? "-" : component.roles()) << '\n';
     for (const Call& call : component.calls()) {
       text << "call " << call.position << '/' << call.tail;
-      for (size_t k = 0; k < component.plan().readers.size(); k++) text << ' ' << tape[call.tuple[k]].seq;
+      for (size_t k = 0; k < component.plan().readers.size(); k++) {
+        text << ' ' << tape[call.tuple[k]].seq;
+      }
       if (call.out == kNone) {
         text << " -";
       } else {
@@ -604,17 +634,14 @@ int main(int count, char** words) {
   std::vector<Message> list = read_record(file, channels, pool);
   const std::vector<Plan> components = plans();
   size_t all = list.size();
-  auto is_shadowed = [&](const Message& message) {
-    return std::any_of(components.begin(), components.end(), [&](const Plan& plan) { return plan.out == channels[message.channel].name; });
-  };
-  list.erase(std::remove_if(list.begin(), list.end(), is_shadowed), list.end());
-  auto earlier = [](const Message& a, const Message& b) { return a.time < b.time; };
-  if (!std::is_sorted(list.begin(), list.end(), earlier)) std::stable_sort(list.begin(), list.end(), earlier);
+  leave_out_shadowed(list, components, channels);
+  sort_by_time(list);
   Run run(components, channels, pool, list.size());
   run.play(list);
   RecordWriter(words[2], channels, pool).write(run.tape());
   write_trace(words[3], channels, run, list.size(), all - list.size());
   size_t calls = 0;
   for (const Component& component : run.components()) calls += component.calls().size();
-  std::printf("done: played %zu, shadowed %zu, calls %zu, written %zu\n", list.size(), all - list.size(), calls, run.tape().size());
+  std::printf("done: played %zu, shadowed %zu, calls %zu, written %zu\n", list.size(),
+              all - list.size(), calls, run.tape().size());
 }

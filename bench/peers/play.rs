@@ -31,12 +31,31 @@ struct Plan {
     out: &'static str,
 }
 
-#[rustfmt::skip]
+const fn plan(
+    name: &'static str,
+    class: Class,
+    readers: &'static [&'static str],
+    out: &'static str,
+) -> Plan {
+    Plan {
+        name,
+        class,
+        readers,
+        queue: 1,
+        out,
+    }
+}
+
 const PLANS: [Plan; 4] = [
-    Plan { name: "adder", class: Class::Sum, readers: &["/a", "/b"], queue: 1, out: "/sum" },
-    Plan { name: "band", class: Class::Filter { lo: -2000, hi: 500 }, readers: &["/sum"], queue: 1, out: "/band" },
-    Plan { name: "last8", class: Class::Window { n: 8 }, readers: &["/band"], queue: 1, out: "/win" },
-    Plan { name: "late", class: Class::Hold { delay: 5_000_000 }, readers: &["/a"], queue: 1, out: "/late" },
+    plan("adder", Class::Sum, &["/a", "/b"], "/sum"),
+    plan(
+        "band",
+        Class::Filter { lo: -2000, hi: 500 },
+        &["/sum"],
+        "/band",
+    ),
+    plan("last8", Class::Window { n: 8 }, &["/band"], "/win"),
+    plan("late", Class::Hold { delay: 5_000_000 }, &["/a"], "/late"),
 ];
 
 // ---- The wire form of Protocol Buffers, read and written.
@@ -134,10 +153,16 @@ struct Channels<'a>(Vec<Channel<'a>>);
 impl<'a> Channels<'a> {
     // There are few, so that a search is as fast as a map.
     fn number_of(&mut self, name: &'a [u8]) -> usize {
-        self.0.iter().position(|it| it.name == name).unwrap_or_else(|| {
-            self.0.push(Channel { name, form: [b"", b""] });
-            self.0.len() - 1
-        })
+        self.0
+            .iter()
+            .position(|it| it.name == name)
+            .unwrap_or_else(|| {
+                self.0.push(Channel {
+                    name,
+                    form: [b"", b""],
+                });
+                self.0.len() - 1
+            })
     }
 }
 
@@ -170,13 +195,23 @@ fn read_message<'a>(mut bytes: &'a [u8], channels: &mut Channels<'a>) -> io::Res
             _ => {}
         }
     }
-    Ok(Played { time, content, channel: channels.number_of(name) })
+    Ok(Played {
+        time,
+        content,
+        channel: channels.number_of(name),
+    })
+}
+
+fn little_endian(bytes: &[u8]) -> u64 {
+    bytes
+        .iter()
+        .rfold(0, |value, byte| value << 8 | u64::from(*byte))
 }
 
 // The type of the next section, and its body.
 fn take_section<'a>(bytes: &mut &'a [u8]) -> io::Result<(u64, &'a [u8])> {
     let head = take_bytes(bytes, 16)?;
-    let [kind, length] = [&head[..8], &head[8..]].map(|it| it.iter().rfold(0, |n, byte| n << 8 | u64::from(*byte)));
+    let [kind, length] = [&head[..8], &head[8..]].map(little_endian);
     Ok((kind, take_bytes(bytes, length)?))
 }
 
@@ -271,7 +306,10 @@ impl<'a> Component<'a> {
             return;
         }
         let mut tuple = [0; MOST_READERS];
-        for (place, latest) in tuple.iter_mut().zip(&self.latest[..self.plan.readers.len()]) {
+        for (place, latest) in tuple
+            .iter_mut()
+            .zip(&self.latest[..self.plan.readers.len()])
+        {
             let Some(found) = latest else { return };
             *place = *found;
         }
@@ -307,7 +345,11 @@ impl<'a> Component<'a> {
                 for place in &tuple[..self.plan.readers.len()] {
                     sum += i128::from(tape[*place as usize].value?);
                 }
-                Some(Message { value: Some(limited(sum)), content: None, ..first })
+                Some(Message {
+                    value: Some(limited(sum)),
+                    content: None,
+                    ..first
+                })
             }
             Class::Filter { lo, hi } => {
                 let value = first.value?;
@@ -320,7 +362,11 @@ impl<'a> Component<'a> {
                 }
                 self.window.push_back(value);
                 self.sum += i128::from(value);
-                Some(Message { value: Some(limited(self.sum)), content: None, ..first })
+                Some(Message {
+                    value: Some(limited(self.sum)),
+                    content: None,
+                    ..first
+                })
             }
             Class::Hold { delay } => {
                 let time = first.time.saturating_add(delay).min(u64::MAX - 1);
@@ -334,7 +380,12 @@ impl<'a> Component<'a> {
         let position = self.fetch()?;
         let tuple = self.kept[self.kept.len() - 1 - (self.tail - position) as usize];
         let mut out = self.answer(tape, &tuple);
-        self.calls.push(Call { position, tail: self.tail, tuple, out: None });
+        self.calls.push(Call {
+            position,
+            tail: self.tail,
+            tuple,
+            out: None,
+        });
         self.next = position + 1;
         if let Some(message) = &mut out {
             self.sent += 1;
@@ -363,20 +414,29 @@ impl<'a> Run<'a> {
     fn new(channels: &mut Channels<'a>, most: usize) -> Self {
         let mut components = Vec::new();
         for plan in &PLANS {
-            let out = channels.number_of(plan.out.as_bytes()) as u32;
-            components.push(Component::new(plan, out, most));
+            let out = channels.number_of(plan.out.as_bytes());
+            channels.0[out].form = [b"", b""]; // no component file has a type
+            components.push(Component::new(plan, out as u32, most));
         }
         let mut routes = Vec::new();
         for channel in &channels.0 {
             let mut readers = Vec::new();
             for (component, plan) in PLANS.iter().enumerate() {
-                if let Some(role) = plan.readers.iter().position(|it| it.as_bytes() == channel.name) {
+                if let Some(role) = plan
+                    .readers
+                    .iter()
+                    .position(|it| it.as_bytes() == channel.name)
+                {
                     readers.push((component, role));
                 }
             }
             routes.push(readers);
         }
-        Run { components, routes, tape: Vec::with_capacity((1 + PLANS.len()) * most) }
+        Run {
+            components,
+            routes,
+            tape: Vec::with_capacity((1 + PLANS.len()) * most),
+        }
     }
 
     fn send(&mut self, message: Message<'a>) {
@@ -461,7 +521,12 @@ struct Counts {
 }
 
 impl Counts {
-    const NONE: Counts = Counts { begin: u64::MAX, end: 0, messages: 0, raw: 0 };
+    const NONE: Counts = Counts {
+        begin: u64::MAX,
+        end: 0,
+        messages: 0,
+        raw: 0,
+    };
 
     fn add(&mut self, time: u64, raw: usize) {
         self.begin = self.begin.min(time);
@@ -472,7 +537,12 @@ impl Counts {
 }
 
 fn write_chunk(writer: &mut Writer, counts: &Counts, body: &[u8]) -> io::Result<()> {
-    let Counts { begin, end, messages, raw } = *counts;
+    let Counts {
+        begin,
+        end,
+        messages,
+        raw,
+    } = *counts;
     let (mut head, mut cache) = (Vec::new(), Vec::new());
     for (k, number) in [begin, end, messages, raw].into_iter().enumerate() {
         push_number(&mut head, k as u64 + 1, number);
@@ -487,7 +557,11 @@ fn write_chunk(writer: &mut Writer, counts: &Counts, body: &[u8]) -> io::Result<
 }
 
 // The chunks of the tape; gives how many there are, and the counts of all messages.
-fn write_chunks(writer: &mut Writer, channels: &Channels, tape: &[Message]) -> io::Result<(u64, Counts)> {
+fn write_chunks(
+    writer: &mut Writer,
+    channels: &Channels,
+    tape: &[Message],
+) -> io::Result<(u64, Counts)> {
     let (mut chunks, mut all, mut counts) = (0, Counts::NONE, Counts::NONE);
     let (mut first, mut body, mut own) = (0, Vec::new(), Vec::new());
     for message in tape {
@@ -504,7 +578,9 @@ fn write_chunks(writer: &mut Writer, channels: &Channels, tape: &[Message]) -> i
         let sizes = varint_size(named) + varint_size(message.time) + varint_size(length);
         let size = 3 + sizes + name.len() + content.len();
         let more = 1 + varint_size(size as u64) + size;
-        if counts.messages > 0 && (body.len() + more > LONGEST_BODY || message.time > first + LONGEST_TIME) {
+        let is_full =
+            body.len() + more > LONGEST_BODY || message.time.saturating_sub(first) > LONGEST_TIME;
+        if counts.messages > 0 && is_full {
             write_chunk(writer, &counts, &body)?;
             body.clear();
             counts = Counts::NONE;
@@ -539,7 +615,10 @@ fn write_channels(writer: &mut Writer, channels: &Channels, tape: &[Message]) ->
         counts[channel] += 1;
     }
     for &number in &order {
-        let Channel { name, form: [kind, description] } = channels.0[number];
+        let Channel {
+            name,
+            form: [kind, description],
+        } = channels.0[number];
         let (mut body, mut cache) = (Vec::new(), Vec::new());
         push_number(&mut cache, 1, counts[number]);
         for (k, bytes) in [name, kind, description].into_iter().enumerate() {
@@ -553,7 +632,11 @@ fn write_channels(writer: &mut Writer, channels: &Channels, tape: &[Message]) ->
 
 fn write_record(file: File, channels: &Channels, tape: &[Message]) -> io::Result<()> {
     let file = BufWriter::with_capacity(1 << 20, file);
-    let mut writer = Writer { file, place: HEADER_END as u64, index: Vec::new() };
+    let mut writer = Writer {
+        file,
+        place: HEADER_END as u64,
+        index: Vec::new(),
+    };
     writer.file.write_all(&[0; HEADER_END])?;
     let channel_number = write_channels(&mut writer, channels, tape)?;
     let (chunks, all) = write_chunks(&mut writer, channels, tape)?;
@@ -576,9 +659,12 @@ fn write_record(file: File, channels: &Channels, tape: &[Message]) -> io::Result
 
 // ---- Writing the trace.
 
+// The decimal digits of 0 to 99.
 const PAIRS: &[u8; 200] = b"\
-    0001020304050607080910111213141516171819202122232425262728293031323334353637383940414243444546474849\
-    5051525354555657585960616263646566676869707172737475767778798081828384858687888990919293949596979899";
+    00010203040506070809101112131415161718192021222324\
+    25262728293031323334353637383940414243444546474849\
+    50515253545556575859606162636465666768697071727374\
+    75767778798081828384858687888990919293949596979899";
 
 fn push_decimal(text: &mut Vec<u8>, mut value: u64) {
     let mut digits = [0; 20];
@@ -632,13 +718,22 @@ fn spill(file: &mut File, text: &mut Vec<u8>) -> io::Result<()> {
     Ok(())
 }
 
-fn write_trace(mut file: File, channels: &Channels, run: &Run, played: usize, shadowed: usize) -> io::Result<()> {
+// The head of a trace, with the numbers of messages that were played and shadowed.
+fn trace_head(played: usize, shadowed: usize) -> String {
+    format!("cyber-trace 1\nplayed {played} shadowed {shadowed}\n")
+}
+
+fn write_trace(mut file: File, head: &str, channels: &Channels, run: &Run) -> io::Result<()> {
     let mut text = Vec::with_capacity(2 * FULL);
-    writeln!(text, "cyber-trace 1\nplayed {played} shadowed {shadowed}")?;
+    text.extend_from_slice(head.as_bytes());
     for component in &run.components {
         writeln!(text, "component \"{}\"", component.plan.name)?;
         text.extend_from_slice(b"roles ");
-        text.extend_from_slice(if component.roles.is_empty() { b"-" } else { &component.roles });
+        text.extend_from_slice(if component.roles.is_empty() {
+            b"-"
+        } else {
+            &component.roles
+        });
         text.push(b'\n');
         for call in &component.calls {
             push_call(&mut text, call, component.plan.readers.len(), &run.tape);
@@ -666,14 +761,19 @@ fn main() -> Result<(), Box<dyn error::Error>> {
     let mut channels = Channels(Vec::new());
     let mut list = read_record(&file, &mut channels)?;
     let all = list.len();
-    list.retain(|it| PLANS.iter().all(|plan| channels.0[it.channel].name != plan.out.as_bytes()));
+    list.retain(|it| {
+        PLANS
+            .iter()
+            .all(|plan| channels.0[it.channel].name != plan.out.as_bytes())
+    });
     list.sort_by_key(|it| it.time);
     let mut run = Run::new(&mut channels, list.len());
     run.play(&list);
     write_record(File::create(out)?, &channels, &run.tape)?;
-    write_trace(File::create(trace)?, &channels, &run, list.len(), all - list.len())?;
+    let (played, shadowed, written) = (list.len(), all - list.len(), run.tape.len());
+    let head = trace_head(played, shadowed);
+    write_trace(File::create(trace)?, &head, &channels, &run)?;
     let calls: usize = run.components.iter().map(|it| it.calls.len()).sum();
-    let (played, written) = (list.len(), run.tape.len());
-    println!("done: played {played}, shadowed {}, calls {calls}, written {written}", all - played);
+    println!("done: played {played}, shadowed {shadowed}, calls {calls}, written {written}");
     Ok(())
 }
