@@ -10,6 +10,7 @@ trap 'rm -rf "$work"' EXIT
 . "$top/bench/measure.sh"
 
 repository "$top" table_bench cy_msg cy_fuse cy_comp wake_core cy_table
+cp "$top/HANDLES" .
 cd crates/table_bench
 # Its files here end in .in, since the gate takes every file that ends in .rt or .antt for part of a crate.
 (cd "$top/bench/table" && find . -name '*.in') | while read -r file; do
