@@ -1,6 +1,6 @@
 #!/usr/bin/env bash
-# Measures `cyber play --serial` of the files of `make 1000000` and `cyber verify` of what it writes, in turns in one run: of each the best
-# of three times and the most memory, and what verifying takes beside playing. Usage: bench/verify.sh [COUNT], by default 1000000 messages.
+# Measures `cyber verify` of what `cyber play --serial` writes for the files of `make`, beside that play, in turns in one run.
+# Usage: bench/verify.sh [COUNT [RUNS]], by default 1000000 messages and three turns. PROGRAM may name another program than the built one.
 set -euo pipefail
 top=$(cd "$(dirname "$0")/.." && pwd)
 work=$(mktemp -d)
@@ -8,29 +8,13 @@ trap 'rm -rf "$work"' EXIT
 . "$top/bench/measure.sh"
 
 count=${1:-1000000}
-"$top/cyber" --build
-"$top/cyber" make "$count" "$work/m"
-python3 - "$top/crates/cyber/out/cyber" "$work" <<'P'
-import os, subprocess, sys, time
-program, work = sys.argv[1:]
-words = ["--dag", f"{work}/m.dag", "--record", f"{work}/m.record", "--out", f"{work}/out.record", "--trace", f"{work}/out.trace"]
-commands = {"cyber play --serial": ["play", "--serial", *words], "cyber verify": ["verify", *words]}
-times, peaks = {name: [] for name in commands}, {name: 0 for name in commands}
-for _ in range(3):
-    for name, command in commands.items():
-        began = time.perf_counter()
-        child = subprocess.Popen([program, *command], stdout=subprocess.PIPE)
-        line = child.stdout.read().decode()
-        _, status, used = os.wait4(child.pid, 0)
-        times[name].append(time.perf_counter() - began)
-        peaks[name] = max(peaks[name], used.ru_maxrss / 1024)
-        if status:
-            sys.exit(f"{name}: status {os.waitstatus_to_exitcode(status)}")
-        if len(times[name]) == 1:
-            print(line, end="")
-best = {name: min(it) for name, it in times.items()}
-for name in commands:
-    print(f"{name}: {best[name] * 1000:.1f} ms, peak {peaks[name]:.1f} MB")
-play, verify = commands
-print(f"verify beside play: {best[verify] / best[play]:.2f} times the time, {peaks[verify] / peaks[play]:.2f} times the memory")
-P
+runs=${2:-3}
+[ -n "${PROGRAM:-}" ] || "$top/cyber" --build
+# The program itself, since the launcher first looks whether it is up to date.
+program=$(readlink -f "${PROGRAM:-$top/crates/cyber/out/cyber}")
+"$program" make "$count" "$work/m"
+words=(--dag "$work/m.dag" --record "$work/m.record" --out "$work/m.out" --trace "$work/m.trace")
+"$program" verify "${words[@]}"
+python3 "$top/bench/turns.py" "$runs" \
+  "cyber verify" "$program" verify "${words[@]}" -- \
+  "cyber play --serial" "$program" play --serial "${words[@]}"
