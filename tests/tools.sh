@@ -931,6 +931,7 @@ delay: 5' >total.conf
     --record examples/burst/burst.rec)
   page_of burst burst/burst.dag burst/burst.rec --program "$PWD/none" --good "$PWD/good"
   try 0 python3 "$check" burst.html burst.trace burst.rec
+  shows burst.html 'Messages of 1 channel and calls of 1 component differ.'
   shows burst.html 'First difference of each channel'
   pages+=("good=$PWD/burst.html")
   tac good/out.rec >good/bad
@@ -953,7 +954,7 @@ ok'
   shows burst.html 'A lawful run cyber verify says that a lawful run has this trace and this record. lawful: played 8, shadowed 0, calls 8, written 16'
   shows burst.html 'TheirOwn'
   if command -v dot >/dev/null; then
-    shows burst.html 'TheirOwn, 3 calls'
+    shows burst.html 'control: TheirOwn, 3 calls'
   else
     skip 'graphs in pages' 'no Graphviz'
   fi
@@ -1086,10 +1087,11 @@ shows_batches() {
   try 0 "$python" "$tool" --out batch.out
   says out 'written: batch.out/report.html: 200 drives'
   try 0 python3 "$check" batch.out/report.html
-  shows batch.out/report.html '198 well, 2 failed, 0 refused, 0 not done, 0 unlike the good run.'
+  shows batch.out/report.html '198 well, 2 failed, 0 not done.'
   cp -r batch.out last.out
   sed -i 's/^d3,0,32,0,64,96,/d3,0,32,0,60,92,/; s/^d200/d201/' last.out/summary.csv
   try 0 "$python" "$tool" --out batch.out --last last.out
+  shows batch.out/report.html '198 well, 2 failed, 0 not done, 0 unlike the good run.'
   shows batch.out/report.html '64was 60'
   shows batch.out/report.html 'That run also had d201.'
   try 0 "$python" "$tool" --out batch.out --table drives.csv --drive d1 --program none --good last.out

@@ -44,7 +44,7 @@ def render(template, scripts, view):
     environment = Environment(
         loader=FileSystemLoader(FOLDER), autoescape=True, undefined=StrictUndefined, trim_blocks=True, lstrip_blocks=True
     )
-    names = ("shown", "number", "duration", "exact", "rounded", "size", "date")
+    names = ("shown", "number", "plural", "duration", "exact", "rounded", "size", "date")
     environment.filters |= {name: getattr(text, name) for name in names}
     style, script = source_of(["page.css"]), FUNCTION.format(source_of(scripts))
     assets = {"style": Markup(style), "script": Markup(script), "policy": policy_of(style, script)}

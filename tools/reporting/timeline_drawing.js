@@ -19,7 +19,9 @@ const measure = () => {
   place.label = isNarrow ? 16 : 0;
   place.lane = isNarrow ? 60 : 46;
   const all = place.top + lanes.length * place.lane + 4;
-  place.height = Math.min(all, Math.max(240, Math.floor(window.innerHeight * 0.74)));
+  const room = Math.max(240, Math.floor(window.innerHeight * 0.74));
+  place.height = all < room + 2 * place.lane ? all : room; // rather a little more room than a lane that is cut
+  frame.style.maxHeight = `${place.height + 2}px`; // with its border
   spacer.style.height = `${all - place.height}px`;
   const ratio = window.devicePixelRatio || 1;
   canvas.width = Math.round(place.width * ratio);
@@ -32,12 +34,20 @@ const setFont = (size, weight = 400) => {
   context.font = `${weight} ${size}px ${colours.font}`;
 };
 
-const fitted = (text, width) => {
+// A text that is cut where it is too wide. Of what is left, so large a share is from its end.
+const fitted = (text, width, shareOfEnd = 0) => {
   if (context.measureText(text).width <= width) return text;
-  let length = text.length;
-  while (length > 1 && context.measureText(`${text.slice(0, length)}…`).width > width) length -= 1;
-  return `${text.slice(0, length)}…`;
+  const cut = (length) => {
+    const end = Math.floor(length * shareOfEnd);
+    return `${text.slice(0, length - end)}…${text.slice(text.length - end)}`;
+  };
+  let length = text.length - 1;
+  while (length > 1 && context.measureText(cut(length)).width > width) length -= 1;
+  return cut(length);
 };
+
+// A name without its middle: names that begin alike are told apart by how they end.
+const fittedName = (name, width) => fitted(name, width, 0.6);
 
 const line = (x1, y1, x2, y2) => {
   context.beginPath();
@@ -124,11 +134,18 @@ const drawGaps = (lane, zone) => {
   }
 };
 
-const drawNumber = (text, x, y, colour = colours.soft) => {
+// The number of a mark behind it, where there is room up to the next one.
+const drawNumber = (lane, index, y, colour = colours.soft) => {
+  const x = xOf(lane.begins[index]) + 4;
+  const end = index + 1 < lane.begins.length ? xOf(lane.begins[index + 1]) : place.width;
+  const room = Math.min(end, place.width - 3) - x;
+  if (room < 8) return;
   setFont(10);
+  const text = count(numberOf(lane, index));
+  if (context.measureText(text).width > room) return;
   context.fillStyle = colour;
   context.textAlign = "left";
-  context.fillText(text, x + 4, y);
+  context.fillText(text, x, y);
 };
 
 const drawChannel = (lane) => {
@@ -145,7 +162,6 @@ const drawChannel = (lane) => {
   if (isShownByCounts(lane, from, to)) return;
   context.strokeStyle = colour;
   context.lineWidth = 1.5;
-  const hasNumbers = to - from < (place.right - place.left) / 52;
   for (let k = from; k < to; k += 1) {
     const x = xOf(lane.begins[k]);
     if (x < place.left - 1 || x > place.right + 1) continue;
@@ -154,7 +170,7 @@ const drawChannel = (lane) => {
       line(x - 3, zone.top + 3, x, zone.top);
       line(x + 3, zone.top + 3, x, zone.top);
     }
-    if (hasNumbers) drawNumber(count(numberOf(lane, k)), x, zone.bottom - 2);
+    drawNumber(lane, k, zone.bottom - 2);
   }
 };
 
@@ -191,7 +207,7 @@ const drawHeld = (lane, zone, index) => {
   line(to - 0.5, row.top, to - 0.5, row.top + row.height);
 };
 
-const drawCall = (lane, zone, index, hasNumbers) => {
+const drawCall = (lane, zone, index) => {
   const x = xOf(lane.begins[index]);
   if (x < place.left - 1 || x > place.right + 1) return;
   const isQuiet = !lane.outputs[index];
@@ -200,7 +216,7 @@ const drawCall = (lane, zone, index, hasNumbers) => {
   context.lineWidth = 2;
   line(x, isQuiet ? row.top + row.height / 2 : row.top, x, row.top + row.height);
   if (!isQuiet) context.fillRect(x - 2, row.top, 4, Math.min(4, row.height));
-  if (hasNumbers && row.height > 9) drawNumber(count(numberOf(lane, index)), x, row.top + row.height - 1, lane.lags[index] > 0 ? ON_HELD : colours.soft);
+  if (row.height > 9) drawNumber(lane, index, row.top + row.height - 1, lane.lags[index] > 0 ? ON_HELD : colours.soft);
 };
 
 const drawCallCounts = (lane, zone) => {
@@ -230,9 +246,8 @@ const drawComponent = (lane) => {
     context.globalAlpha = 1;
   }
   if (!isCrowded) {
-    const hasNumbers = to - from < (place.right - place.left) / 52;
     for (let k = from; k < to; k += 1) if (lane.lags[k] > 0) drawHeld(lane, zone, k);
-    for (let k = from; k < to; k += 1) drawCall(lane, zone, k, hasNumbers);
+    for (let k = from; k < to; k += 1) drawCall(lane, zone, k);
   }
   drawSkips(lane, zone);
 };
@@ -249,7 +264,7 @@ const drawLabel = (lane) => {
   context.fillStyle = colours.ink;
   setFont(13, lane.kind === "channel" ? 400 : 650);
   if (place.label) {
-    const name = fitted(lane.name, place.width * 0.55);
+    const name = fittedName(lane.name, place.width * 0.55);
     context.fillText(name, 8, y + 13);
     const width = context.measureText(name).width;
     setFont(11);
@@ -257,7 +272,7 @@ const drawLabel = (lane) => {
     context.fillText(fitted(noteOf(lane), place.width - width - 30), 18 + width, y + 13);
     return;
   }
-  context.fillText(fitted(lane.name, place.left - 20), 10, y + 19);
+  context.fillText(fittedName(lane.name, place.left - 20), 10, y + 19);
   setFont(11);
   context.fillStyle = colours.soft;
   context.fillText(fitted(noteOf(lane), place.left - 20), 10, y + 35);
@@ -307,7 +322,8 @@ const drawAxis = ({ step, text }) => {
     context.fillStyle = colours.soft;
     context.fillRect(x, place.top - 6, 1, 6);
     const half = context.measureText(text(time)).width / 2;
-    if (x - half > place.left - 4 && x + half < place.width - 6) context.fillText(text(time), x, 18);
+    const middle = place.label ? Math.max(x, half + 2) : x; // where names are above their lanes, nothing is left of the plot
+    if (middle - half > (place.label ? 0 : place.left - 4) && middle + half < place.width - 6) context.fillText(text(time), middle, 18);
   }
   if (!place.label) {
     context.textAlign = "left";
