@@ -44,8 +44,8 @@ class Graph(NamedTuple):
 
 
 def shortened(text, most=LONGEST_LABEL):
-    """A text of at most so many characters, without its middle where it is longer."""
-    return text if len(text) <= most else f"{text[: most // 2]}…{text[len(text) - most // 2 + 1 :]}"
+    """A text of at most so many characters. Where it is longer its end is kept, by which names of channels are told apart."""
+    return text if len(text) <= most else f"{text[: most // 3]}…{text[len(text) - most + most // 3 + 1 :]}"
 
 
 def node_of(kind, name, *notes):

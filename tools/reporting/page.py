@@ -3,6 +3,7 @@ import base64
 import hashlib
 import json
 import os
+import re
 
 from jinja2 import Environment, FileSystemLoader, StrictUndefined
 from markupsafe import Markup
@@ -13,6 +14,11 @@ FOLDER = os.path.dirname(os.path.abspath(__file__))
 FUNCTION = '(() => {{\n"use strict";\n\n{}}})();\n'  # all scripts of a page are in one function, and see each other's names
 # What could end the element that the data is in, or what older scripts take for the end of a line.
 ESCAPES = {ord(it): f"\\u{ord(it):04x}" for it in "<>&\u2028\u2029"}
+
+
+def breakable(name):
+    """A name that may go on in a new line behind each of its parts."""
+    return Markup("<wbr>").join(re.split(r"(?<=[/._-])(?=[^/._-])", text.shown(name)))
 
 
 def json_text(data):
@@ -45,7 +51,7 @@ def render(template, scripts, view):
         loader=FileSystemLoader(FOLDER), autoescape=True, undefined=StrictUndefined, trim_blocks=True, lstrip_blocks=True
     )
     names = ("shown", "number", "plural", "duration", "exact", "rounded", "size", "date")
-    environment.filters |= {name: getattr(text, name) for name in names}
+    environment.filters |= {name: getattr(text, name) for name in names} | {"breakable": breakable}
     style, script = source_of(["page.css"]), FUNCTION.format(source_of(scripts))
     assets = {"style": Markup(style), "script": Markup(script), "policy": policy_of(style, script)}
     return environment.get_template(template).render(**view, **assets)

@@ -11,10 +11,22 @@ const readColours = () => {
   colours.font = getComputedStyle(document.body).fontFamily;
 };
 
+const setFont = (size, weight = 400) => {
+  context.font = `${weight} ${size}px ${colours.font}`;
+};
+
+const setNameFont = (lane) => setFont(13, lane.kind === "channel" ? 400 : 650);
+
+// How wide the names of all lanes are.
+const widthOfNames = () => lanes.reduce((most, lane) => {
+  setNameFont(lane);
+  return Math.max(most, context.measureText(lane.name).width);
+}, 0);
+
 const measure = () => {
   place.width = frame.clientWidth;
   const isNarrow = place.width < NARROW;
-  place.left = isNarrow ? 6 : Math.round(Math.min(230, place.width * 0.24));
+  place.left = isNarrow ? 6 : Math.round(Math.min(Math.max(widthOfNames() + 30, 180), place.width * 0.3));
   place.right = Math.max(place.left + 1, place.width - 10); // a window may be too narrow for anything
   place.label = isNarrow ? 16 : 0;
   place.lane = isNarrow ? 60 : 46;
@@ -28,10 +40,6 @@ const measure = () => {
   canvas.height = Math.round(place.height * ratio);
   canvas.style.height = `${place.height}px`;
   context.setTransform(ratio, 0, 0, ratio, 0, 0);
-};
-
-const setFont = (size, weight = 400) => {
-  context.font = `${weight} ${size}px ${colours.font}`;
 };
 
 // A text that is cut where it is too wide. Of what is left, so large a share is from its end.
@@ -262,16 +270,19 @@ const drawLabel = (lane) => {
   const y = yOf(lane.number);
   context.textAlign = "left";
   context.fillStyle = colours.ink;
-  setFont(13, lane.kind === "channel" ? 400 : 650);
   if (place.label) {
-    const name = fittedName(lane.name, place.width * 0.55);
+    setFont(11);
+    const note = context.measureText(noteOf(lane)).width;
+    setNameFont(lane);
+    const name = fittedName(lane.name, Math.max(place.width * 0.55, place.width - note - 30));
     context.fillText(name, 8, y + 13);
     const width = context.measureText(name).width;
     setFont(11);
     context.fillStyle = colours.soft;
-    context.fillText(fitted(noteOf(lane), place.width - width - 30), 18 + width, y + 13);
+    context.fillText(fitted(noteOf(lane), place.width - width - 22), 18 + width, y + 13);
     return;
   }
+  setNameFont(lane);
   context.fillText(fittedName(lane.name, place.left - 20), 10, y + 19);
   setFont(11);
   context.fillStyle = colours.soft;

@@ -10,7 +10,7 @@ from reporting.page import json_text
 from reporting.text import duration, exact, number, plural, rounded, shown
 
 MOST_DATA = 2_800_000  # bytes of the timeline, so that a page has less than 5,000,000
-GAPS_SHOWN = 8
+GAPS_SHOWN = 4
 CALLS_SHOWN = 10
 PLOTS = 120
 LONGEST_SCALE = 13  # letters of a number beside a plot
@@ -165,10 +165,8 @@ def channel_row(replay, channel, measures):
 
 
 def graph_of(replay):
-    """The graph of channels and components, None where it can't be drawn."""
-    names = dict.fromkeys(replay.channels)
-    for _, part in replay.components:
-        names |= dict.fromkeys(part.readers + ([part.out] if part.out is not None else []))
+    """The graph of channels and components, None where it can't be drawn. Channels that no component reads or writes aren't in it."""
+    names = dict.fromkeys(name for _, part in replay.components for name in [*part.readers, part.out] if name is not None)
     counts = {name: len(it.times) for name, it in replay.channels.items()}
     nodes = [graph.node_of("channel", shown(it), plural(counts.get(it, 0), "message")) for it in names]
     places = {name: place for place, name in enumerate(names)}
@@ -278,6 +276,7 @@ def view_of(replay, words, verdict, wiring, comparison):
     for it, part in replay.components:
         measures = measure_component(it, timeline.begins[part.name], clocks.get(part.name, ()))
         components.append(component_row(it, part, measures, commands.get(it.name)))
+    channels = [channel_row(replay, it, channel_measures[it.name]) for it in replay.channels.values()]
     lanes = {item.name: place for place, (kind, item) in enumerate(timeline.lanes) if kind == "channel"}
     component_lanes = {item[0].name: place for place, (kind, item) in enumerate(timeline.lanes) if kind == "component"}
     trace, (plots, left) = replay.trace, plots_of(replay)
@@ -294,9 +293,9 @@ def view_of(replay, words, verdict, wiring, comparison):
             ("Tuples skipped", sum(it["measures"].skipped for it in components)), ("Messages written", len(trace.tape_channels)),
         ],
         "components": components,
-        "channels": [channel_row(replay, it, channel_measures[it.name]) for it in replay.channels.values()],
+        "channels": channels,
         "lanes": lanes, "component_lanes": component_lanes,
-        "graph": graph_of(replay),
+        "graph": graph_of(replay), "unwired": sum(not it["readers"] and it["maker"] is None for it in channels),
         "plots": plots, "plots_left": left, "few": charts.FEW_POINTS,
         "comparison": comparison_view(replay, comparison),
         "timeline": text, "is_sampled": any("counts" in lane for lane in data["lanes"]), "piece": duration(replay.span // data["pieces"]),
