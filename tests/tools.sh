@@ -1006,18 +1006,24 @@ passing() { # from which channel, to which, and of which type
 }
 
 shows_fields() {
+  local speed range
   begin 'numbers in messages of described types are plotted'
   if ! "$python" -c 'import google.protobuf' 2>/dev/null; then
     skip 'plots of described messages' 'no Protocol Buffers package'
     return
   fi
-  "$python" "$top/tests/tools/described_record.py" in.rec
   passing /chassis /copy demo.Chassis
-  python3 "$top/tests/replay.py" out.rec out.trace line --dag pass.dag --record in.rec
-  try 0 "$python" "$top/tools/report.py" --dag pass.dag --record in.rec --out out.rec --trace out.trace --program none page.html
-  shows page.html '/chassis speed 2 numbers, from 1.5 to 3.25'
-  shows page.html '/copy speed 2 numbers, from 1.5 to 3.25'
-  try 0 python3 "$check" page.html out.trace out.rec
+  while IFS='|' read -r speed range; do
+    "$python" "$top/tests/tools/described_record.py" in.rec "$speed"
+    python3 "$top/tests/replay.py" out.rec out.trace line --dag pass.dag --record in.rec
+    try 0 "$python" "$top/tools/report.py" --dag pass.dag --record in.rec --out out.rec --trace out.trace --program none page.html
+    shows page.html "/chassis speed 2 numbers, from $range"
+    shows page.html "/copy speed 2 numbers, from $range"
+    try 0 python3 "$check" page.html out.trace out.rec
+  done <<'SPEEDS'
+3.25|1.5 to 3.25
+-2e38|−2e+38 to 1.5
+SPEEDS
   shows_fields_of_other_types
 }
 
