@@ -1478,13 +1478,20 @@ refuses_tables() {
 # The component outside is a copy of a built-in one, so each drive has to have the record and the trace of that. All drives name the same
 # record of answers.
 asks_in_batches() {
-  local python=python3 copy
+  local python=python3 copy reports=()
   begin 'the drives of a batch with a component outside have answers of their own'
   python3 "$top/tests/tools/drives.py" 9 .
   move_outside
   try 1 "${call[@]}" --config program="$player" out=good
-  try 1 "${call[@]}" --config program="$player" table=own.csv good=good verify=verify
-  says out '9 drives: 8 well, 1 failed, 0 refused, 0 not done, 0 unlike the good run, 1 without a good run'
+  if python3 -c 'import jinja2' 2>/dev/null; then
+    reports=(reports=yes)
+  else
+    skip 'pages in batches' 'no Jinja2'
+  fi
+  try 1 "${call[@]}" --config program="$player" table=own.csv good=good verify=verify "${reports[@]}"
+  [ "$(cat out)" = '9 drives: 8 well, 1 failed, 0 refused, 0 not done, 0 unlike the good run, 1 without a good run' ]
+  count $? "$name: it prints $(head -c 300 out)"
+  [ ${#reports[@]} -eq 0 ] || has_pages
   says batch.out/summary.csv 'd3,0,32,0,64,96,[0-9.]+,[0-9.]+,[0-9]+,verified,,"done: played 32, shadowed 0, calls 64, written 96"'
   says batch.out/summary.csv "d7,1,.*,external: \`cyber play\` ended with status 1: .*at 2137: .*"
   [ ! -e sum.rec ] && [ "$(find batch.out -name sum.rec | wc -l)" -eq 8 ]
@@ -1511,6 +1518,15 @@ asks_in_batches() {
   [ "$(cat changed)" = batch.out/d4/row.json ]
   count $? "$name: played again: $(cat changed)"
   refuses_commands
+}
+
+# Looks that there is a page of the batch, and one of each of its nine drives.
+has_pages() {
+  [ "$(find batch.out -mindepth 2 -name report.html | wc -l)" -eq 9 ]
+  count $? "$name: not a page for each drive: $(find batch.out -name report.html)"
+  try 0 python3 "$top/tests/tools/check_report.py" batch.out/report.html
+  shows batch.out/report.html '8 well, 1 failed, 0 refused, 0 not done, 0 unlike the good run.'
+  shows batch.out/d3/report.html 'Nothing differs: both runs have the same messages'
 }
 
 # Makes a table of the same drives in which a component is asked, and puts its command into `copy`.

@@ -10,6 +10,7 @@ from markupsafe import Markup
 
 from reporting import text
 
+SHORT_NAME = 16  # letters
 FOLDER = os.path.dirname(os.path.abspath(__file__))
 FUNCTION = '(() => {{\n"use strict";\n\n{}}})();\n'  # all scripts of a page are in one function, and see each other's names
 # What could end the element that the data is in, or what older scripts take for the end of a line.
@@ -17,8 +18,9 @@ ESCAPES = {ord(it): f"\\u{ord(it):04x}" for it in "<>&\u2028\u2029"}
 
 
 def breakable(name):
-    """A name that may go on in a new line behind each of its parts."""
-    return Markup("<wbr>").join(re.split(r"(?<=[/._-])(?=[^/._-])", text.shown(name)))
+    """A name that may go on in a new line behind each of its parts, where it is long."""
+    parts = re.split(r"(?<=[/._-])(?=[^/._-])", text.shown(name))
+    return Markup("<wbr>").join(parts if len(name) > SHORT_NAME else ["".join(parts)])
 
 
 def json_text(data):
