@@ -113,7 +113,7 @@ def points_at_the_burst(line):
     look(line.point(1, 3, 0.15)[0] == "Tuple skipped by control", f"a skipped tuple says {line.details()}")
     look(line.point(4, 7)[0] == "Gap on /total", f"a gap says {line.details()}")
     look(len(line.point(2, 2)) == 1, f"where nothing is, it says {line.details()}")
-    look(line.colour(1, 2.5, 0.4) == [232, 163, 61], f"a held output has the colour {line.colour(1, 2.5, 0.4)}")
+    look(line.colour(1, 2.5, 0.4) == [196, 127, 20], f"a held output has the colour {line.colour(1, 2.5, 0.4)}")
     look(line.colour(1, 5.5, 0.4) == [245, 246, 248], f"where nothing is, the colour is {line.colour(1, 5.5, 0.4)}")
 
 
