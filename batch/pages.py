@@ -15,6 +15,7 @@ import sys
 
 sys.path.insert(1, os.path.join(os.path.dirname(os.path.abspath(__file__)), "..", "tools"))
 from drives import as_played, commands_of, drive_of, row_of
+from record import fault_of
 from summary import KINDS, is_unlike, kind_of
 
 NUMBERS = ("played", "shadowed", "calls", "written", "seconds", "processor", "memory")
@@ -104,7 +105,7 @@ def write_drive(words):
             verdict = make_page(words_of_drive(words, drive, folder))
             return f"written: {path}: {verdict.title.lower()}"
         except (OSError, ValueError) as error:
-            fault = f"the files of its run can't be read: {error}"
+            fault = f"the files of its run can't be read: {fault_of(error)}"
     view = {"title": f"Drive {words.drive}", "drive": drive, "row": row, "fault": fault}
     os.makedirs(folder, exist_ok=True)
     write_page(path, render("failed.html", [], view))
@@ -128,7 +129,7 @@ def main():
         print(f"pages.py: {error}; pages are made by Jinja2 (python3-jinja2 of Debian)", file=sys.stderr)
         return 1
     except (OSError, ValueError) as error:
-        print(f"pages.py: {error}", file=sys.stderr)
+        print(f"pages.py: {fault_of(error)}", file=sys.stderr)
         return 1
     return 0
 

@@ -12,6 +12,7 @@ import os
 import sys
 
 from drives import judged_of, read_table, row_of
+from record import fault_of
 
 HEADS = ["drive", "status", "played", "shadowed", "calls", "written", "seconds", "processor", "memory", "verify", "difference", "line"]
 NOT_DONE, WITHOUT = "not done", "no good run"
@@ -75,7 +76,7 @@ def main():
     try:
         line, is_well = sum_up(write_summary(words.table, words.folder, words.good, words.verify), words.good, words.verify)
     except (OSError, ValueError) as error:
-        print(f"summary.py: {error}", file=sys.stderr)
+        print(f"summary.py: {fault_of(error)}", file=sys.stderr)
         return 1
     print(line)
     return 0 if is_well else 1

@@ -15,7 +15,7 @@ from base64 import b64encode
 
 from dag import read_entries
 from messages import Record
-from record import forms_of, header_of, name_of, opened, whole_of
+from record import fault_of, forms_of, header_of, name_of, opened, whole_of
 from tape import taped_messages
 from trace import read_trace
 
@@ -137,8 +137,7 @@ def main():
         print(f"calls: {error}; described messages are decoded by the Protocol Buffers package (python3-protobuf)", file=sys.stderr)
         return 1
     except (OSError, ValueError) as error:
-        is_named = isinstance(error, OSError) and error.filename
-        print(f"calls: {f'{os.fsdecode(error.filename)}: {error.strerror}' if is_named else error}", file=sys.stderr)
+        print(f"calls: {fault_of(error)}", file=sys.stderr)
         return 1
     return 0
 

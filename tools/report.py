@@ -11,6 +11,8 @@ status 0 where the page was written, whatever it says, and with 1 and a line whe
 import argparse
 import sys
 
+from record import fault_of
+
 
 def words_reader():
     """What reads the words of a call."""
@@ -43,7 +45,7 @@ def main():
         print(f"report: {error}; pages are made by Jinja2 (python3-jinja2 of Debian)", file=sys.stderr)
         return 1
     except (OSError, ValueError) as error:
-        print(f"report: {error}", file=sys.stderr)
+        print(f"report: {fault_of(error)}", file=sys.stderr)
         return 1
     print(f"written: {words.page}: {verdict.title.lower()}")
     return 0
