@@ -81,14 +81,19 @@ def write_batch(folder, last_folder):
     return f"written: {path}: {len(drives)} drives"
 
 
+def title_of(words):
+    """The heading of a drive's page."""
+    return f"Drive {words.drive}"
+
+
 def words_of_drive(words, drive, folder):
     """The words of tools/report.py for a drive of the table."""
     good = os.path.join(words.good, words.drive) if words.good else None
     is_there = good and all(os.path.isfile(os.path.join(good, it)) for it in ("out.rec", "out.trace"))
     played = as_played(drive, folder)
     given = {it: played.get(it) or None for it in ("dag", "record", "sched", "channels", "drop", "begin", "end", "stop", "types")}
-    files = {"out": os.path.join(folder, "out.rec"), "trace": os.path.join(folder, "out.trace")}
-    given |= {"good": good if is_there else None, "run": commands_of(drive), "program": words.program, "page": page_path(folder)}
+    files = {"out": os.path.join(folder, "out.rec"), "trace": os.path.join(folder, "out.trace"), "page": page_path(folder)}
+    given |= {"good": good if is_there else None, "run": commands_of(drive), "program": words.program, "title": title_of(words)}
     return argparse.Namespace(**given, **files)
 
 
@@ -106,7 +111,7 @@ def write_drive(words):
             return f"written: {path}: {verdict.title.lower()}"
         except (OSError, ValueError) as error:
             fault = f"the files of its run can't be read: {fault_of(error)}"
-    view = {"title": f"Drive {words.drive}", "drive": drive, "row": row, "fault": fault}
+    view = {"title": title_of(words), "drive": drive, "row": row, "fault": fault}
     os.makedirs(folder, exist_ok=True)
     write_page(path, render("failed.html", [], view))
     return f"written: {path}: no run"

@@ -900,6 +900,7 @@ report() {
   page_of burst burst/burst.dag burst/burst.rec --program "$PWD/none"
   try 0 python3 "$check" burst.html burst.trace burst.rec
   shows burst.html '5 skipped, 1 time; at most 5 in a row.'
+  shows burst.html 'Replay of burst.rec'
   page_of beat drive/heartbeat.dag drive/drive.rec --program "$PWD/none"
   try 0 python3 "$check" beat.html beat.trace beat.rec
   shows beat.html 'CountComponent, timer, each 1,000 ms'
@@ -1088,6 +1089,7 @@ shows_batches() {
   done
   try 0 python3 "$check" batch.out/d1/report.html batch.out/d1/out.trace batch.out/d1/out.rec
   try 0 python3 "$check" batch.out/d9/report.html batch.out/d9/out.trace batch.out/d9/out.rec
+  shows batch.out/d9/report.html 'Drive d9'
   shows batch.out/d9/report.html '--stop sum@100'
   shows batch.out/d7/report.html 'cyber: 7.rec: at 2137: Cut'
   try 0 "$python" "$tool" --out batch.out

@@ -281,7 +281,7 @@ def view_of(replay, words, verdict, wiring, comparison):
     component_lanes = {item[0].name: place for place, (kind, item) in enumerate(timeline.lanes) if kind == "component"}
     trace, (plots, left) = replay.trace, plots_of(replay)
     return {
-        "title": f"Replay of {shown(os.path.basename(words.record))}",
+        "title": shown(words.title or f"Replay of {os.path.basename(words.record)}"),
         "verdict": verdict,
         "replay": replay,
         "files": [file_of(*it) for it in files_of(words)],
