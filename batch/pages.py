@@ -18,7 +18,8 @@ from drives import as_played, commands_of, drive_of, row_of
 from record import fault_of
 from summary import KINDS, is_unlike, kind_of
 
-NUMBERS = ("played", "shadowed", "calls", "written", "seconds", "processor", "memory")
+COUNTS, COSTS = ("played", "shadowed", "calls", "written"), ("seconds", "processor", "memory")
+NOTABLE = 0.1  # by how much of it a cost has to be another one than in the last run to be shown
 SIGNS = dict(zip(KINDS, "✓✗✗…"))
 
 
@@ -45,14 +46,19 @@ def number_of(text):
         return None
 
 
+def is_notable(column, now, before):
+    """Whether a number of the last run is shown beside that of this one: each other count, and costs that are quite different."""
+    if before is None or now == before:
+        return False
+    return column in COUNTS or now is None or abs(now - before) > NOTABLE * before
+
+
 def view_of_row(folder, row, last):
     """What the page shows of a drive."""
     kind, page = kind_of(row), page_path("", row["drive"])
-    before = {it: number_of(last.get(it)) for it in NUMBERS} if last else {}
-    numbers = {it: (number_of(row.get(it)), before.get(it)) for it in NUMBERS}
-    is_changed = bool(last) and (
-        last["status"] != row["status"] or any(numbers[it][0] != numbers[it][1] for it in ("played", "shadowed", "calls", "written"))
-    )
+    numbers = {it: (number_of(row.get(it)), number_of((last or {}).get(it))) for it in COUNTS + COSTS}
+    is_changed = bool(last) and (last["status"] != row["status"] or any(now != before for now, before in map(numbers.get, COUNTS)))
+    numbers = {it: (now, before if is_notable(it, now, before) else None) for it, (now, before) in numbers.items()}
     return {
         "row": row, "kind": kind, "sign": SIGNS[kind], "page": page if os.path.isfile(os.path.join(folder, page)) else None,
         "numbers": numbers, "is_unlike": is_unlike(row), "is_changed": is_changed, "last_status": last["status"] if last else None,
@@ -61,6 +67,7 @@ def view_of_row(folder, row, last):
 
 def write_batch(folder, last_folder):
     """Writes the page of a batch."""
+    from reporting import text
     from reporting.page import render, write_page  # it needs Jinja2
 
     rows, last = read_summary(folder), read_summary(last_folder) if last_folder else {}
@@ -75,6 +82,7 @@ def write_batch(folder, last_folder):
         "processor": sum(it["numbers"]["processor"][0] or 0 for it in drives),
         "calls": sum(it["numbers"]["calls"][0] or 0 for it in drives),
         "gone": [name for name in last if name not in rows],
+        "number": text.number, "rounded": text.rounded, "size": text.size,
     }
     path = page_path(folder)
     write_page(path, render("batch.html", ["tables.js"], view))
