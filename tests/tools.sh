@@ -7,7 +7,7 @@
 # PROGRAM is the proved program, by default the one that the gate left; without one, a section that needs it is skipped.
 set -uo pipefail
 top=$(cd "$(dirname "$0")/.." && pwd)
-program=$(readlink -f "${PROGRAM:-$top/crates/cyber/out/cyber}")
+program=$(readlink -m "${PROGRAM:-$top/crates/cyber/out/cyber}")
 environment=${TOOLS_ENVIRONMENT:-${XDG_CACHE_HOME:-${HOME:-/tmp}/.cache}/zektrob-tools}
 work=$(mktemp -d)
 trap 'rm -rf "$work"' EXIT
