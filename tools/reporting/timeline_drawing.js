@@ -17,16 +17,26 @@ const setFont = (size, weight = 400) => {
 
 const setNameFont = (lane) => setFont(13, lane.kind === "channel" ? 400 : 650);
 
-// How wide the names of all lanes are.
-const widthOfNames = () => lanes.reduce((most, lane) => {
+const setNoteFont = () => setFont(11);
+
+const noteOf = (lane) => {
+  const part = lane.begins.length < lane.total ? `, 1 in ${count(Math.round(lane.total / lane.begins.length))} drawn` : "";
+  if (lane.kind === "channel") return `${plural(lane.total, "message")}${part}`;
+  return `${plural(lane.total, "call")}${lane.skipped ? `, ${count(lane.skipped)} skipped` : ""}${part}`;
+};
+
+// How wide the names of all lanes are, and the notes below them.
+const widthOfLabels = () => lanes.reduce((most, lane) => {
   setNameFont(lane);
-  return Math.max(most, context.measureText(lane.name).width);
+  const name = context.measureText(lane.name).width;
+  setNoteFont();
+  return Math.max(most, name, context.measureText(noteOf(lane)).width);
 }, 0);
 
 const measure = () => {
   place.width = frame.clientWidth;
   const isNarrow = place.width < NARROW;
-  place.left = isNarrow ? 6 : Math.round(Math.min(Math.max(widthOfNames() + 30, 180), place.width * 0.3));
+  place.left = isNarrow ? 6 : Math.round(Math.min(Math.max(widthOfLabels() + 30, 180), place.width * 0.3));
   place.right = Math.max(place.left + 1, place.width - 10); // a window may be too narrow for anything
   place.label = isNarrow ? 16 : 0;
   place.lane = isNarrow ? 60 : 46;
@@ -260,31 +270,25 @@ const drawComponent = (lane) => {
   drawSkips(lane, zone);
 };
 
-const noteOf = (lane) => {
-  const part = lane.begins.length < lane.total ? `, 1 in ${count(Math.round(lane.total / lane.begins.length))} drawn` : "";
-  if (lane.kind === "channel") return `${plural(lane.total, "message")}${part}`;
-  return `${plural(lane.total, "call")}${lane.skipped ? `, ${count(lane.skipped)} skipped` : ""}${part}`;
-};
-
 const drawLabel = (lane) => {
   const y = yOf(lane.number);
   context.textAlign = "left";
   context.fillStyle = colours.ink;
   if (place.label) {
-    setFont(11);
+    setNoteFont();
     const note = context.measureText(noteOf(lane)).width;
     setNameFont(lane);
     const name = fittedName(lane.name, Math.max(place.width * 0.55, place.width - note - 30));
     context.fillText(name, 8, y + 13);
     const width = context.measureText(name).width;
-    setFont(11);
+    setNoteFont();
     context.fillStyle = colours.soft;
     context.fillText(fitted(noteOf(lane), place.width - width - 22), 18 + width, y + 13);
     return;
   }
   setNameFont(lane);
   context.fillText(fittedName(lane.name, place.left - 20), 10, y + 19);
-  setFont(11);
+  setNoteFont();
   context.fillStyle = colours.soft;
   context.fillText(fitted(noteOf(lane), place.left - 20), 10, y + 35);
 };
@@ -311,6 +315,8 @@ const drawLane = (lane) => {
   context.fillRect(0, y + place.lane - 1, place.width, 1);
 };
 
+const FROM = "from the first message";
+
 const axisTicks = () => {
   setFont(11);
   for (const step of AXIS_STEPS) {
@@ -327,6 +333,7 @@ const drawAxis = ({ step, text }) => {
   context.fillStyle = colours.line;
   context.fillRect(0, place.top - 1, place.width, 1);
   setFont(11);
+  const free = place.label ? 0 : context.measureText(FROM).width + 14; // from where on there is room for times
   context.textAlign = "center";
   for (let time = Math.ceil(view.begin / step) * step; time <= view.end; time += step) {
     const x = xOf(time);
@@ -334,11 +341,11 @@ const drawAxis = ({ step, text }) => {
     context.fillRect(x, place.top - 6, 1, 6);
     const half = context.measureText(text(time)).width / 2;
     const middle = place.label ? Math.max(x, half + 2) : x; // where names are above their lanes, nothing is left of the plot
-    if (middle - half > (place.label ? 0 : place.left - 4) && middle + half < place.width - 6) context.fillText(text(time), middle, 18);
+    if (middle - half > free && middle + half < place.width - 6) context.fillText(text(time), middle, 18);
   }
   if (!place.label) {
     context.textAlign = "left";
-    context.fillText("from the first message", 10, 18);
+    context.fillText(FROM, 10, 18);
   }
 };
 
