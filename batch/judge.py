@@ -16,7 +16,7 @@ from itertools import zip_longest
 
 sys.path.insert(0, os.path.join(os.path.dirname(os.path.abspath(__file__)), "..", "tools"))
 from drives import as_played, drive_of, judged_path, row_of, run, verify_words_of, write_whole
-from record import each_message, opened
+from record import each_message, fault_of, opened
 
 FILE = re.compile(r"\{(record|dag|out|trace)\}")
 
@@ -29,7 +29,7 @@ def first_difference(path, good):
                 if message != wanted:
                     return f"message {at}: {text_of(message)}, was {text_of(wanted)}"
     except (OSError, ValueError) as error:
-        return f"the records can't be compared: {error}"
+        return f"the records can't be compared: {fault_of(error)}"
     return "none of the messages, but the files"
 
 
@@ -89,7 +89,7 @@ def main():
     try:
         write_whole(judged_path(words.out, words.drive), judge(words))
     except (OSError, ValueError) as error:
-        print(f"judge.py: {error}", file=sys.stderr)
+        print(f"judge.py: {fault_of(error)}", file=sys.stderr)
         return 1
     return 0
 

@@ -14,13 +14,13 @@ import os
 import sys
 
 sys.path.insert(1, os.path.join(os.path.dirname(os.path.abspath(__file__)), "..", "tools"))
-from drives import as_played, commands_of, read_table, row_of
+from drives import as_played, commands_of, drive_of, row_of
+from record import fault_of
+from summary import KINDS, is_unlike, kind_of
 
-NUMBERS = ("played", "shadowed", "calls", "written", "seconds", "processor", "memory")
-UNJUDGED = ("", "no good run", "not done")  # what a drive's difference says where there is none
-STATES = {
-    "well": ("✓", "well"), "failed": ("✗", "failed"), "refused": ("✗", "refused"), "undone": ("…", "not done"),
-}
+COUNTS, COSTS = ("played", "shadowed", "calls", "written"), ("seconds", "processor", "memory")
+NOTABLE = 0.1  # by how much of it a cost has to be another one than in the last run to be shown
+SIGNS = dict(zip(KINDS, "✓✗✗…"))
 
 
 def page_path(folder, name=""):
@@ -38,15 +38,6 @@ def read_summary(folder):
         return {row["drive"]: row for row in rows}
 
 
-def state_of(row):
-    """What came of a drive: well, failed, refused by `verify`, or undone."""
-    if "not done" in (row["status"], row.get("verify"), row.get("difference")):
-        return "undone"
-    if row["status"] != "0":
-        return "failed"
-    return "well" if row.get("verify") in (None, "", "verified") else "refused"
-
-
 def number_of(text):
     """The number in a cell, None in an empty one."""
     try:
@@ -55,39 +46,52 @@ def number_of(text):
         return None
 
 
+def is_notable(column, now, before):
+    """Whether a number of the last run is shown beside that of this one: each other count, and costs that are quite different."""
+    if before is None or now == before:
+        return False
+    return column in COUNTS or now is None or abs(now - before) > NOTABLE * before
+
+
 def view_of_row(folder, row, last):
     """What the page shows of a drive."""
-    state, page = state_of(row), page_path("", row["drive"])
-    is_unlike = (row.get("difference") or "") not in UNJUDGED
-    before = {it: number_of(last.get(it)) for it in NUMBERS} if last else {}
-    numbers = {it: (number_of(row.get(it)), before.get(it)) for it in NUMBERS}
-    is_changed = bool(last) and (
-        last["status"] != row["status"] or any(numbers[it][0] != numbers[it][1] for it in ("played", "shadowed", "calls", "written"))
-    )
-    marks = [state] + ["unlike"] * is_unlike + ["changed"] * is_changed
+    kind, page = kind_of(row), page_path("", row["drive"])
+    numbers = {it: (number_of(row.get(it)), number_of((last or {}).get(it))) for it in COUNTS + COSTS}
+    is_changed = bool(last) and (last["status"] != row["status"] or any(now != before for now, before in map(numbers.get, COUNTS)))
+    numbers = {it: (now, before if is_notable(it, now, before) else None) for it, (now, before) in numbers.items()}
     return {
-        "row": row, "state": state, "mark": STATES[state], "page": page if os.path.isfile(os.path.join(folder, page)) else None,
-        "numbers": numbers, "marks": " ".join(marks), "is_unlike": is_unlike, "last_status": last["status"] if last else None,
+        "row": row, "kind": kind, "sign": SIGNS[kind], "page": page if os.path.isfile(os.path.join(folder, page)) else None,
+        "numbers": numbers, "is_unlike": is_unlike(row), "is_changed": is_changed, "last_status": last["status"] if last else None,
     }
 
 
 def write_batch(folder, last_folder):
     """Writes the page of a batch."""
+    from reporting import text
     from reporting.page import render, write_page  # it needs Jinja2
 
     rows, last = read_summary(folder), read_summary(last_folder) if last_folder else {}
     drives = [view_of_row(folder, row, last.get(name)) for name, row in rows.items()]
-    counts = {state: sum(it["state"] == state for it in drives) for state in STATES}
+    counts = {kind: sum(it["kind"] == kind for it in drives) for kind in KINDS}
     view = {
-        "title": f"Batch {os.path.basename(os.path.abspath(folder))}", "drives": drives, "counts": counts, "states": STATES,
+        "title": f"Batch {os.path.basename(os.path.abspath(folder))}", "drives": drives, "counts": counts,
         "unlike": sum(it["is_unlike"] for it in drives), "last": last_folder,
+        # What wasn't asked for isn't mentioned.
+        "is_verified": any(row.get("verify") for row in rows.values()),
+        "is_compared": bool(last_folder) or any(row.get("difference") for row in rows.values()),
         "processor": sum(it["numbers"]["processor"][0] or 0 for it in drives),
         "calls": sum(it["numbers"]["calls"][0] or 0 for it in drives),
         "gone": [name for name in last if name not in rows],
+        "number": text.number, "rounded": text.rounded, "size": text.size,
     }
     path = page_path(folder)
     write_page(path, render("batch.html", ["tables.js"], view))
     return f"written: {path}: {len(drives)} drives"
+
+
+def title_of(words):
+    """The heading of a drive's page."""
+    return f"Drive {words.drive}"
 
 
 def words_of_drive(words, drive, folder):
@@ -96,8 +100,8 @@ def words_of_drive(words, drive, folder):
     is_there = good and all(os.path.isfile(os.path.join(good, it)) for it in ("out.rec", "out.trace"))
     played = as_played(drive, folder)
     given = {it: played.get(it) or None for it in ("dag", "record", "sched", "channels", "drop", "begin", "end", "stop", "types")}
-    files = {"out": os.path.join(folder, "out.rec"), "trace": os.path.join(folder, "out.trace")}
-    given |= {"good": good if is_there else None, "run": commands_of(drive), "program": words.program, "page": page_path(folder)}
+    files = {"out": os.path.join(folder, "out.rec"), "trace": os.path.join(folder, "out.trace"), "page": page_path(folder)}
+    given |= {"good": good if is_there else None, "run": commands_of(drive), "program": words.program, "title": title_of(words)}
     return argparse.Namespace(**given, **files)
 
 
@@ -106,18 +110,16 @@ def write_drive(words):
     from reporting.asking import make_page
     from reporting.page import render, write_page
 
-    drives, folder = read_table(words.table), os.path.join(words.out, words.drive)
-    if words.drive not in drives:
-        raise ValueError(f"{words.table}: no drive {words.drive}")
+    drive, folder = drive_of(words.table, words.drive), os.path.join(words.out, words.drive)
     row, path = row_of(words.out, words.drive), page_path(folder)
     fault = "it is not done" if row is None else None if row["status"] == 0 else row.get("line") or f"status {row['status']}"
     if fault is None:
         try:
-            verdict = make_page(words_of_drive(words, drives[words.drive], folder))
+            verdict = make_page(words_of_drive(words, drive, folder))
             return f"written: {path}: {verdict.title.lower()}"
         except (OSError, ValueError) as error:
-            fault = f"the files of its run can't be read: {error}"
-    view = {"title": f"Drive {words.drive}", "drive": drives[words.drive], "row": row, "fault": fault}
+            fault = f"the files of its run can't be read: {fault_of(error)}"
+    view = {"title": title_of(words), "drive": drive, "row": row, "fault": fault}
     os.makedirs(folder, exist_ok=True)
     write_page(path, render("failed.html", [], view))
     return f"written: {path}: no run"
@@ -140,7 +142,7 @@ def main():
         print(f"pages.py: {error}; pages are made by Jinja2 (python3-jinja2 of Debian)", file=sys.stderr)
         return 1
     except (OSError, ValueError) as error:
-        print(f"pages.py: {error}", file=sys.stderr)
+        print(f"pages.py: {fault_of(error)}", file=sys.stderr)
         return 1
     return 0
 

@@ -14,6 +14,7 @@ import re
 import sys
 
 from drives import LONGEST_LINE, TOOLS, commands_of, drive_of, external_words_of, row_path, run, words_of, write_whole
+from record import fault_of
 
 EXTERNAL = os.path.join(TOOLS, "external.py")
 BY_SIGNAL = range(129, 193)  # the statuses by which tools/external.py tells of a signal
@@ -78,7 +79,7 @@ def main():
     try:
         write_whole(row_path(words.out, words.drive), play(words))
     except (OSError, ValueError) as error:
-        print(f"play.py: {error}", file=sys.stderr)
+        print(f"play.py: {fault_of(error)}", file=sys.stderr)
         return 1
     return 0
 

@@ -12,9 +12,11 @@ import os
 import sys
 
 from drives import judged_of, read_table, row_of
+from record import fault_of
 
 HEADS = ["drive", "status", "played", "shadowed", "calls", "written", "seconds", "processor", "memory", "verify", "difference", "line"]
 NOT_DONE, WITHOUT = "not done", "no good run"
+KINDS = ("well", "failed", "refused", NOT_DONE)
 
 
 def row_with_verdict(folder, name, good, verify):
@@ -40,22 +42,26 @@ def write_summary(table, folder, good="", verify=""):
 
 
 def kind_of(row):
-    """What a drive is: well, failed, refused by the further command, or not done."""
+    """What a drive is: well, failed, refused by the further command, or not done. Its row may be that of the summary's file, of texts."""
     if NOT_DONE in (row["status"], row.get("verify"), row.get("difference")):
         return NOT_DONE
-    if row["status"] != 0:
+    if str(row["status"]) != "0":
         return "failed"
-    return "well" if row.get("verify", "") in ("", "verified") else "refused"
+    return "well" if row.get("verify") in (None, "", "verified") else "refused"
+
+
+def is_unlike(row):
+    """Whether a drive differs from its good run."""
+    return row.get("difference") not in (None, "", WITHOUT, NOT_DONE)
 
 
 def sum_up(rows, good="", verify=""):
     """The last line of a batch, and whether all is well. What wasn't asked for isn't mentioned."""
     kinds = [kind_of(row) for row in rows]
-    counts = [(it, kinds.count(it)) for it in ("well", "failed", "refused", NOT_DONE) if it != "refused" or verify]
+    counts = [(it, kinds.count(it)) for it in KINDS if it != "refused" or verify]
     if good:
-        differences = [row.get("difference", "") for row in rows]
-        counts.append(("unlike the good run", sum(it not in ("", WITHOUT, NOT_DONE) for it in differences)))
-        counts.append(("without a good run", differences.count(WITHOUT)))
+        counts.append(("unlike the good run", sum(map(is_unlike, rows))))
+        counts.append(("without a good run", sum(row.get("difference") == WITHOUT for row in rows)))
     line = f"{len(rows)} drives: {', '.join(f'{count} {what}' for what, count in counts)}"
     return line, kinds.count("well") == len(rows) and dict(counts).get("unlike the good run", 0) == 0
 
@@ -70,7 +76,7 @@ def main():
     try:
         line, is_well = sum_up(write_summary(words.table, words.folder, words.good, words.verify), words.good, words.verify)
     except (OSError, ValueError) as error:
-        print(f"summary.py: {error}", file=sys.stderr)
+        print(f"summary.py: {fault_of(error)}", file=sys.stderr)
         return 1
     print(line)
     return 0 if is_well else 1

@@ -7,7 +7,7 @@
 # PROGRAM is the proved program, by default the one that the gate left; without one, a section that needs it is skipped.
 set -uo pipefail
 top=$(cd "$(dirname "$0")/.." && pwd)
-program=$(readlink -f "${PROGRAM:-$top/crates/cyber/out/cyber}")
+program=$(readlink -m "${PROGRAM:-$top/crates/cyber/out/cyber}")
 environment=${TOOLS_ENVIRONMENT:-${XDG_CACHE_HOME:-${HOME:-/tmp}/.cache}/zektrob-tools}
 work=$(mktemp -d)
 trap 'rm -rf "$work"' EXIT
@@ -244,7 +244,7 @@ asks_the_program() { # the tool
   printf '%s\n' '#!/bin/sh' 'echo "cyber: some.dag: NoComponents" >&2' 'exit 1' >program
   fails_in_one_line 1 'timeline: `./program check --dag some.dag` ended with status 1: cyber: some.dag: NoComponents' \
     python3 "$1" out.trace --record out.rec --dag some.dag --program ./program -o run.json
-  fails_in_one_line 1 "timeline: .*No such file or directory: './none'" \
+  fails_in_one_line 1 'timeline: ./none: No such file or directory' \
     python3 "$1" out.trace --record out.rec --dag some.dag --program ./none -o run.json
   try 2 python3 "$1" out.trace --dag some.dag --wiring drive.check -o run.json
   if [ -x "$program" ]; then
@@ -293,7 +293,7 @@ refuses_traces() { # the tool
   fails_in_one_line 1 "timeline: bad.trace: component smooth: a call on a message that /wheel/speed doesn't have" \
     python3 "$1" bad.trace --record out.rec --wiring drive.check -o run.json
   fails_in_one_line 1 'timeline: text: no component; .*' python3 "$1" out.trace --record out.rec --wiring text -o run.json
-  fails_in_one_line 1 'timeline: .*No such file.*' python3 "$1" none -o run.json
+  fails_in_one_line 1 'timeline: none: No such file or directory' python3 "$1" none -o run.json
   try 0 python3 "$1" --help
   python3 "$top/bench/made.py" 20 made
   python3 "$top/tests/replay.py" out.rec out.trace line --record made.record --dag made.dag
@@ -422,7 +422,7 @@ decodes_what_is_passed_on() { # the tool
   try 0 "$python" "$1" a.rec --types types --channel /odd
   says err 'messages: a.rec: /odd: no descriptor of demo.Odd: .*'
   fails_in_one_line 2 'messages: line: no FileDescriptorSet: .*Not all data was converted' "$python" "$1" part.rec --types line
-  fails_in_one_line 2 "messages: .*No such file or directory: 'none'" "$python" "$1" part.rec --types none
+  fails_in_one_line 2 'messages: none: No such file or directory' "$python" "$1" part.rec --types none
 }
 
 compares_records() { # the tool
@@ -457,7 +457,7 @@ tells_faults() { # the tool
   compares_numbers "$1"
   counts_messages "$1"
   fails_in_one_line 2 'messages: .*README.md: not a record' python3 "$1" "$top/README.md"
-  fails_in_one_line 2 "messages: .*No such file or directory: 'none'" python3 "$1" none
+  fails_in_one_line 2 'messages: none: No such file or directory' python3 "$1" none
   fails_in_one_line 2 'messages: .*one.rec: no channel /other' python3 "$1" "$top/examples/pass/one.rec" --channel /other
   : >empty
   fails_in_one_line 2 'messages: empty: not a record' python3 "$1" empty
@@ -900,6 +900,7 @@ report() {
   page_of burst burst/burst.dag burst/burst.rec --program "$PWD/none"
   try 0 python3 "$check" burst.html burst.trace burst.rec
   shows burst.html '5 skipped, 1 time; at most 5 in a row.'
+  shows burst.html 'Replay of burst.rec'
   page_of beat drive/heartbeat.dag drive/drive.rec --program "$PWD/none"
   try 0 python3 "$check" beat.html beat.trace beat.rec
   shows beat.html 'CountComponent, timer, each 1,000 ms'
@@ -931,6 +932,7 @@ delay: 5' >total.conf
     --record examples/burst/burst.rec)
   page_of burst burst/burst.dag burst/burst.rec --program "$PWD/none" --good "$PWD/good"
   try 0 python3 "$check" burst.html burst.trace burst.rec
+  shows burst.html 'Messages of 1 channel and calls of 1 component differ.'
   shows burst.html 'First difference of each channel'
   pages+=("good=$PWD/burst.html")
   tac good/out.rec >good/bad
@@ -953,7 +955,7 @@ ok'
   shows burst.html 'A lawful run cyber verify says that a lawful run has this trace and this record. lawful: played 8, shadowed 0, calls 8, written 16'
   shows burst.html 'TheirOwn'
   if command -v dot >/dev/null; then
-    shows burst.html 'TheirOwn, 3 calls'
+    shows burst.html 'control: TheirOwn, 3 calls'
   else
     skip 'graphs in pages' 'no Graphviz'
   fi
@@ -1005,18 +1007,24 @@ passing() { # from which channel, to which, and of which type
 }
 
 shows_fields() {
+  local speed range
   begin 'numbers in messages of described types are plotted'
   if ! "$python" -c 'import google.protobuf' 2>/dev/null; then
     skip 'plots of described messages' 'no Protocol Buffers package'
     return
   fi
-  "$python" "$top/tests/tools/described_record.py" in.rec
   passing /chassis /copy demo.Chassis
-  python3 "$top/tests/replay.py" out.rec out.trace line --dag pass.dag --record in.rec
-  try 0 "$python" "$top/tools/report.py" --dag pass.dag --record in.rec --out out.rec --trace out.trace --program none page.html
-  shows page.html '/chassis speed 2 numbers, from 1.5 to 3.25'
-  shows page.html '/copy speed 2 numbers, from 1.5 to 3.25'
-  try 0 python3 "$check" page.html out.trace out.rec
+  while IFS='|' read -r speed range; do
+    "$python" "$top/tests/tools/described_record.py" in.rec "$speed"
+    python3 "$top/tests/replay.py" out.rec out.trace line --dag pass.dag --record in.rec
+    try 0 "$python" "$top/tools/report.py" --dag pass.dag --record in.rec --out out.rec --trace out.trace --program none page.html
+    shows page.html "/chassis speed 2 numbers, from $range"
+    shows page.html "/copy speed 2 numbers, from $range"
+    try 0 python3 "$check" page.html out.trace out.rec
+  done <<'SPEEDS'
+3.25|1.5 to 3.25
+-2e38|−2e+38 to 1.5
+SPEEDS
   shows_fields_of_other_types
 }
 
@@ -1062,8 +1070,8 @@ refuses_runs() {
   fails_in_one_line 1 'report: text: line 1: not a trace' "${call[@]}" --out out.rec --trace text page.html
   fails_in_one_line 1 'report: text: not a record' "${call[@]}" --out text --trace out.trace page.html
   fails_in_one_line 1 'report: in.rec: fewer messages .*' "${call[@]}" --out in.rec --trace out.trace page.html
-  fails_in_one_line 1 "report: .*No such file or directory: 'none'" "${call[@]}" --out none --trace out.trace page.html
-  fails_in_one_line 1 "report: .*No such file or directory: 'none/out.trace'" "${call[@]}" --out out.rec --trace out.trace --good none page.html
+  fails_in_one_line 1 'report: none: No such file or directory' "${call[@]}" --out none --trace out.trace page.html
+  fails_in_one_line 1 'report: none/out.trace: No such file or directory' "${call[@]}" --out out.rec --trace out.trace --good none page.html
   [ ! -e page.html ]
   count $? "$name: there is a page"
   try 0 python3 "$top/tests/tools/damaged.py" 12 out.trace "${call[@]}" --out out.rec --trace FILE page.html
@@ -1081,15 +1089,17 @@ shows_batches() {
   done
   try 0 python3 "$check" batch.out/d1/report.html batch.out/d1/out.trace batch.out/d1/out.rec
   try 0 python3 "$check" batch.out/d9/report.html batch.out/d9/out.trace batch.out/d9/out.rec
+  shows batch.out/d9/report.html 'Drive d9'
   shows batch.out/d9/report.html '--stop sum@100'
   shows batch.out/d7/report.html 'cyber: 7.rec: at 2137: Cut'
   try 0 "$python" "$tool" --out batch.out
   says out 'written: batch.out/report.html: 200 drives'
   try 0 python3 "$check" batch.out/report.html
-  shows batch.out/report.html '198 well, 2 failed, 0 refused, 0 not done, 0 unlike the good run.'
+  shows batch.out/report.html '198 well, 2 failed, 0 not done.'
   cp -r batch.out last.out
   sed -i 's/^d3,0,32,0,64,96,/d3,0,32,0,60,92,/; s/^d200/d201/' last.out/summary.csv
   try 0 "$python" "$tool" --out batch.out --last last.out
+  shows batch.out/report.html '198 well, 2 failed, 0 not done, 0 unlike the good run.'
   shows batch.out/report.html '64was 60'
   shows batch.out/report.html 'That run also had d201.'
   try 0 "$python" "$tool" --out batch.out --table drives.csv --drive d1 --program none --good last.out
@@ -1097,7 +1107,7 @@ shows_batches() {
   try 0 "$python" "$tool" --out batch.out --table drives.csv --drive d12 --program none
   shows batch.out/d12/report.html 'it is not done'
   fails_in_one_line 1 "pages.py: drives.csv: no drive d201" "$python" "$tool" --out batch.out --table drives.csv --drive d201
-  fails_in_one_line 1 "pages.py: .*No such file or directory: 'none/summary.csv'" "$python" "$tool" --out none
+  fails_in_one_line 1 'pages.py: none/summary.csv: No such file or directory' "$python" "$tool" --out none
   pages+=("batch=$PWD/batch.out/report.html")
   begin 'the page of a drive with a component outside has its command'
   python3 "$top/tests/tools/drives.py" 7 .
@@ -1432,7 +1442,7 @@ refuses_settings() {
   local batch=("${call[@]}" --config program="$program")
   fails_in_one_line 1 'batch: no such setting: prgram, treads; there are table, program, out, good, verify, reports' "${batch[@]}" prgram=x treads=4
   fails_in_one_line 1 'batch: empty.csv: no drives' "${batch[@]}" table=empty.csv
-  fails_in_one_line 1 "batch: .*No such file or directory: 'none.csv'" "${batch[@]}" table=none.csv
+  fails_in_one_line 1 'batch: none.csv: No such file or directory' "${batch[@]}" table=none.csv
   fails_in_one_line 1 'batch: good=god: no such folder' "${batch[@]}" good=god
   fails_in_one_line 1 'batch: good=empty: no run of these drives is there' "${batch[@]}" good=empty
   fails_in_one_line 1 'batch: good=./empty/../batch.out: no such folder' "${batch[@]}" good=./empty/../batch.out
@@ -1450,8 +1460,8 @@ refuses_tables() {
   begin 'what is wrong with a table is told'
   python3 "$top/tests/tools/drives.py" 2 .
   fails_in_one_line 1 'play.py: drives.csv: no drive d3' python3 "$play" --table drives.csv --drive d3 --program "$program" --out .
-  fails_in_one_line 1 "play.py: .*No such file or directory: '/none'" python3 "$play" --table drives.csv --drive d1 --program /none --out .
-  fails_in_one_line 1 "summary.py: .*No such file or directory: 'none'" python3 "$top/batch/summary.py" none .
+  fails_in_one_line 1 'play.py: /none: No such file or directory' python3 "$play" --table drives.csv --drive d1 --program /none --out .
+  fails_in_one_line 1 'summary.py: none: No such file or directory' python3 "$top/batch/summary.py" none .
   printf '\xef\xbb\xbf' | cat - drives.csv >marked.csv
   try 0 python3 "$play" --table marked.csv --drive d1 --program "$program" --out marked
   sed '3s/d2/d1/' drives.csv >bad.csv
@@ -1470,13 +1480,20 @@ refuses_tables() {
 # The component outside is a copy of a built-in one, so each drive has to have the record and the trace of that. All drives name the same
 # record of answers.
 asks_in_batches() {
-  local python=python3 copy
+  local python=python3 copy reports=()
   begin 'the drives of a batch with a component outside have answers of their own'
   python3 "$top/tests/tools/drives.py" 9 .
   move_outside
   try 1 "${call[@]}" --config program="$player" out=good
-  try 1 "${call[@]}" --config program="$player" table=own.csv good=good verify=verify
-  says out '9 drives: 8 well, 1 failed, 0 refused, 0 not done, 0 unlike the good run, 1 without a good run'
+  if python3 -c 'import jinja2' 2>/dev/null; then
+    reports=(reports=yes)
+  else
+    skip 'pages in batches' 'no Jinja2'
+  fi
+  try 1 "${call[@]}" --config program="$player" table=own.csv good=good verify=verify "${reports[@]}"
+  [ "$(cat out)" = '9 drives: 8 well, 1 failed, 0 refused, 0 not done, 0 unlike the good run, 1 without a good run' ]
+  count $? "$name: it prints $(head -c 300 out)"
+  [ ${#reports[@]} -eq 0 ] || has_pages
   says batch.out/summary.csv 'd3,0,32,0,64,96,[0-9.]+,[0-9.]+,[0-9]+,verified,,"done: played 32, shadowed 0, calls 64, written 96"'
   says batch.out/summary.csv "d7,1,.*,external: \`cyber play\` ended with status 1: .*at 2137: .*"
   [ ! -e sum.rec ] && [ "$(find batch.out -name sum.rec | wc -l)" -eq 8 ]
@@ -1503,6 +1520,15 @@ asks_in_batches() {
   [ "$(cat changed)" = batch.out/d4/row.json ]
   count $? "$name: played again: $(cat changed)"
   refuses_commands
+}
+
+# Looks that there is a page of the batch, and one of each of its nine drives.
+has_pages() {
+  [ "$(find batch.out -mindepth 2 -name report.html | wc -l)" -eq 9 ]
+  count $? "$name: not a page for each drive: $(find batch.out -name report.html)"
+  try 0 python3 "$top/tests/tools/check_report.py" batch.out/report.html
+  shows batch.out/report.html '8 well, 1 failed, 0 refused, 0 not done, 0 unlike the good run.'
+  shows batch.out/d3/report.html 'Nothing differs: both runs have the same messages'
 }
 
 # Makes a table of the same drives in which a component is asked, and puts its command into `copy`.

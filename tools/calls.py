@@ -15,31 +15,22 @@ from base64 import b64encode
 
 from dag import read_entries
 from messages import Record
-from record import each_message, forms_of, header_of, name_of, opened, whole_of
+from record import fault_of, forms_of, header_of, name_of, opened, whole_of
+from tape import taped_messages
 from trace import read_trace
 
 
 def taped(trace, path, channels):
     """The messages of a written record by channel, for these channels: times and contents. A ValueError where it isn't this trace's."""
     names = [it.encode("utf-8", "surrogateescape") for it in trace.channels]
-    counts = [0] * len(names)
     columns = [([], []) if it in channels else None for it in names]
-    tape = zip(trace.tape_channels, trace.tape_sequences)
     with opened(path) as data:
         try:
             header_of(data)
-            for channel, time, content in each_message(data):
-                number, sequence = next(tape, (None, 0))
-                if number is None or names[number] != channel:
-                    raise ValueError("not the record of this trace")
-                counts[number] += 1
-                if counts[number] != sequence:
-                    raise ValueError("not the record of this trace, whose tape has other numbers")
-                if columns[number]:
-                    columns[number][0].append(time)
-                    columns[number][1].append(content)
-            if next(tape, None) is not None:
-                raise ValueError("fewer messages than the trace's tape has")
+            for channel, _, time, content in taped_messages(trace, data):
+                if columns[channel]:
+                    columns[channel][0].append(time)
+                    columns[channel][1].append(content)
             forms = forms_of(data)
         except ValueError as error:
             raise ValueError(f"{path}: {error}") from None
@@ -146,8 +137,7 @@ def main():
         print(f"calls: {error}; described messages are decoded by the Protocol Buffers package (python3-protobuf)", file=sys.stderr)
         return 1
     except (OSError, ValueError) as error:
-        is_named = isinstance(error, OSError) and error.filename
-        print(f"calls: {f'{os.fsdecode(error.filename)}: {error.strerror}' if is_named else error}", file=sys.stderr)
+        print(f"calls: {fault_of(error)}", file=sys.stderr)
         return 1
     return 0
 

@@ -24,7 +24,7 @@ from answers import Answered, answers_record, check_only_answers, read_answers
 from asked import Command, Encoder, Ended, ended
 from calls import Play, component_named
 from dag import Component, read_entries
-from record import name_of
+from record import fault_of, name_of
 from strict import quoted
 from wiring import find_program
 
@@ -344,8 +344,7 @@ def main():
     except ImportError as error:
         print(f"external: {error}; described messages are decoded by the Protocol Buffers package (python3-protobuf)", file=sys.stderr)
     except (OSError, ValueError) as error:
-        is_named = isinstance(error, OSError) and error.filename
-        print(f"external: {f'{os.fsdecode(error.filename)}: {error.strerror}' if is_named else error}", file=sys.stderr)
+        print(f"external: {fault_of(error)}", file=sys.stderr)
         return getattr(error, "status", 1)
     except KeyboardInterrupt:
         print("external: stopped; what was answered is kept", file=sys.stderr)

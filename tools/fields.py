@@ -10,7 +10,7 @@ import argparse
 import signal
 import sys
 
-from record import forms_of, header_of, in_a_line, name_of, opened
+from record import fault_of, forms_of, header_of, in_a_line, name_of, opened
 from strict import quoted
 
 SCALED = ("FLOAT", "DOUBLE")
@@ -140,7 +140,7 @@ def main():
         print(f"fields: {error}; descriptions are read by the Protocol Buffers package (python3-protobuf of Debian)", file=sys.stderr)
         return 2
     except (OSError, ValueError) as error:
-        print(f"fields: {error}", file=sys.stderr)
+        print(f"fields: {fault_of(error)}", file=sys.stderr)
         return 2
     return 0
 

@@ -17,7 +17,7 @@ from contextlib import ExitStack
 from fractions import Fraction
 
 from differences import Comparison, Rules
-from record import content_of, each_message, forms_of, header_of, in_a_line, name_of, opened, whole_of
+from record import content_of, each_message, fault_of, forms_of, header_of, in_a_line, name_of, opened, whole_of
 from stats import print_stats
 
 UNDECODED = "undecoded bytes"  # a head that no field has
@@ -205,7 +205,7 @@ def main():
     except ImportError as error:
         print(f"messages: {error}; described messages are decoded by the Protocol Buffers package (python3-protobuf)", file=sys.stderr)
     except (OSError, ValueError) as error:
-        print(f"messages: {error}", file=sys.stderr)
+        print(f"messages: {fault_of(error)}", file=sys.stderr)
     return 2
 
 

@@ -4,6 +4,7 @@ The tools and the tests share it. Names of channels and contents are bytes, time
 no record.
 """
 import mmap
+import os
 from collections import Counter
 from contextlib import contextmanager
 
@@ -249,6 +250,12 @@ ESCAPES = {code: f"\\{code:03o}" for code in [*range(32), 127]} | {ord("\n"): "\
 def in_a_line(text):
     """A text that stands in one line: control characters are escaped as in a trace."""
     return text.translate(ESCAPES)
+
+
+def fault_of(error):
+    """What an error says, that of a file with the file's name before it."""
+    is_named = isinstance(error, OSError) and error.filename
+    return f"{os.fsdecode(error.filename)}: {error.strerror}" if is_named else str(error)
 
 
 def whole_of(content):

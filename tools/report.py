@@ -2,7 +2,7 @@
 """Makes a page of a replay, in one HTML file that needs no network.
 
     report.py --dag F --record F --out F --trace F [--sched F] [--channels LIST] [--drop LIST] [--begin N] [--end N] [--stop NAME@N]
-              [--run NAME='COMMAND'].. [--good DIR] [--types SET] [--program F] HTML
+              [--run NAME='COMMAND'].. [--good DIR] [--types SET] [--program F] [--title T] HTML
 
 takes the files and options of `cyber verify`. The page says whether the run is lawful, as `cyber verify` answers, and shows its timeline,
 its graph, its components and its channels; with --good it shows what differs from another run, DIR/out.rec and DIR/out.trace. Ends with
@@ -10,6 +10,8 @@ status 0 where the page was written, whatever it says, and with 1 and a line whe
 """
 import argparse
 import sys
+
+from record import fault_of
 
 
 def words_reader():
@@ -29,6 +31,7 @@ def words_reader():
     reader.add_argument("--good", metavar="DIR", help="the folder of another run, to compare with")
     reader.add_argument("--types", metavar="SET", help="a file with a FileDescriptorSet, for types that the record doesn't describe")
     reader.add_argument("--program", metavar="F", help="the program that verifies; else the one of this repository, or an installed one")
+    reader.add_argument("--title", metavar="T", help="the heading of the page; else it has the name of the record")
     reader.add_argument("page", metavar="HTML", help="the page that is written")
     return reader
 
@@ -43,7 +46,7 @@ def main():
         print(f"report: {error}; pages are made by Jinja2 (python3-jinja2 of Debian)", file=sys.stderr)
         return 1
     except (OSError, ValueError) as error:
-        print(f"report: {error}", file=sys.stderr)
+        print(f"report: {fault_of(error)}", file=sys.stderr)
         return 1
     print(f"written: {words.page}: {verdict.title.lower()}")
     return 0

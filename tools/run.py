@@ -1,7 +1,8 @@
 """A run as its trace, its record and its wiring tell it together."""
 from array import array
 
-from record import each_message, header_of, opened, whole_of
+from record import header_of, opened, whole_of
+from tape import taped_messages
 from trace import read_trace
 from wiring import Deduction, check_wiring, read_wiring
 
@@ -35,29 +36,17 @@ class Run:
         channel = self.wiring.get(component.name, ([], None))[1]
         return channel if channel in self.times else None
 
+    def triggers(self, component):
+        """The times of the messages that trigger a component, None where they aren't known."""
+        return next((self.times.get(it) for it in self.readers(component)), None)
+
     def begins(self, component):
         """The time of each call's trigger; where it isn't known the time of its output, or else of the call before it."""
-        trigger = self.readers(component)[:1]
-        if trigger and trigger[0] is not None:
-            times = self.times[trigger[0]]
-            return array("Q", [times[it - 1] for it in component.sequences[:: component.width]])
-        found, last = array("Q"), self.first
-        for output, time in zip(component.outputs, component.times):
-            last = time if output else last
-            found.append(last)
-        return found
+        return component.begins(self.triggers(component), self.first)
 
     def skips(self, component):
         """The times of the triggers of all tuples that calls jumped over, where the trigger's channel is known."""
-        trigger = self.readers(component)[:1]
-        if not component.skipped or trigger[0] is None:
-            return array("Q")
-        times, before = self.times[trigger[0]], component.sequences[0] - component.positions[0]
-        found, last = array("Q"), 0
-        for position in component.positions:
-            found.extend(times[it + before - 1] for it in range(last + 1, position))
-            last = position
-        return found
+        return component.skips(self.triggers(component))
 
 
 def times_of(trace, record):
@@ -66,21 +55,12 @@ def times_of(trace, record):
     A ValueError tells where it is no record, or not that of this trace.
     """
     columns, values = [array("Q") for _ in trace.channels], [[] for _ in trace.channels]
-    names = [it.encode("utf-8", "surrogateescape") for it in trace.channels]
-    tape = zip(trace.tape_channels, trace.tape_sequences)
     with opened(record) as data:
         header_of(data)
-        for channel, time, content in each_message(data):
-            number, sequence = next(tape, (None, 0))
-            if number is None or names[number] != channel:
-                raise ValueError("not the record of this trace")
-            columns[number].append(time)
-            if len(columns[number]) != sequence:
-                raise ValueError("not the record of this trace, whose tape has other numbers")
-            if sequence <= COMPARED:
-                values[number].append(whole_of(content))
-    if next(tape, None) is not None:
-        raise ValueError("fewer messages than the trace's tape has")
+        for channel, number, time, content in taped_messages(trace, data):
+            columns[channel].append(time)
+            if number <= COMPARED:
+                values[channel].append(whole_of(content))
     return dict(zip(trace.channels, columns)), dict(zip(trace.channels, values))
 
 
@@ -88,12 +68,8 @@ def check_tuples(run):
     """Raises a ValueError where a call is on messages that their channels don't have."""
     for it in run.trace.components:
         for role, channel in enumerate(run.readers(it)[: it.width]):
-            if channel is None:
-                continue
-            numbers, last = it.sequences[role :: it.width], len(run.times[channel])
-            before = numbers[0] - it.positions[0]  # how many messages came before the first tuple
-            if max(numbers) > last or role == 0 and not 0 <= before <= last - it.positions[-1]:
-                raise ValueError(f"component {it.name}: a call on a message that {channel} doesn't have")
+            if channel is not None:
+                it.check_messages(role, channel, len(run.times[channel]))
 
 
 def note_of(has_record, has_wiring, doubts):

@@ -16,7 +16,7 @@ from array import array
 from itertools import count, islice, repeat
 from operator import sub
 
-from record import opened
+from record import fault_of, opened
 from run import read_run
 
 COMPONENTS, CHANNELS = 1, 2  # the two processes of the timeline
@@ -303,7 +303,7 @@ def main():
         print(f"timeline: {error}; this needs the package {package} of pip, or python3-{package} of Debian", file=sys.stderr)
         return 1
     except (OSError, ValueError) as error:
-        print(f"timeline: {error}", file=sys.stderr)
+        print(f"timeline: {fault_of(error)}", file=sys.stderr)
         return 1
     return 0
 

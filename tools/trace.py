@@ -61,6 +61,38 @@ class Component:
         """The numbers of the messages of a call's tuple, in reader order."""
         return self.sequences[call * self.width : (call + 1) * self.width]
 
+    def begins(self, times, first):
+        """The time of each call's trigger, by the times of the messages of the trigger's channel.
+
+        Where these aren't known it is the time of the output, or else of the call before; of the first call it is then `first`.
+        """
+        if self.width and times is not None:
+            return array("Q", [times[it - 1] for it in self.sequences[:: self.width]])
+        found, last = array("Q"), first
+        for output, time in zip(self.outputs, self.times):
+            last = time if output else last
+            found.append(last)
+        return found
+
+    def skips(self, times):
+        """The times of the triggers of all tuples that calls jumped over; none where the times of the trigger's channel aren't known."""
+        found, last = array("Q"), 0
+        if not self.skipped or times is None:
+            return found
+        before = self.sequences[0] - self.positions[0]
+        for position in self.positions:
+            if position != last + 1:
+                found.extend(times[last + before : position - 1 + before])
+            last = position
+        return found
+
+    def check_messages(self, role, channel, count):
+        """Raises a ValueError where a call is on a message that the channel of a reader, with so many messages, doesn't have."""
+        numbers = self.sequences[role :: self.width]
+        before = numbers[0] - self.positions[0]  # how many messages came before the first tuple
+        if max(numbers) > count or role == 0 and not 0 <= before <= count - self.positions[-1]:
+            raise ValueError(f"component {self.name}: a call on a message that {channel} doesn't have")
+
 
 @dataclass
 class Trace:

@@ -7,14 +7,13 @@ takes the files and options of `cyber verify`, and looks at the rules of docs/RU
 `cyber verify` says. Ends with status 0 where all is lawful, 1 with a sentence where it isn't, and 2 where a file can't be read.
 """
 import argparse
-import os
 import sys
 from itertools import zip_longest
 
 from dag import forms_of_outs, read_components
 from judging import Task, Told, first_fault, message_text, tape_of
 from playlist import add_choice, choice_of, list_messages
-from record import CHANNEL, CHUNK, HEADER_END, forms_of, header_of, messages_of, opened, read_varint, record, sections_of
+from record import CHANNEL, CHUNK, HEADER_END, fault_of, forms_of, header_of, messages_of, opened, read_varint, record, sections_of
 from strict import Bad, read_trace
 
 
@@ -124,8 +123,7 @@ def main():
     try:
         sentence = why_not(words)
     except (OSError, ValueError) as error:
-        is_named = isinstance(error, OSError) and error.filename
-        print(f"why_not: {f'{os.fsdecode(error.filename)}: {error.strerror}' if is_named else error}", file=sys.stderr)
+        print(f"why_not: {fault_of(error)}", file=sys.stderr)
         return 2
     print(sentence or "lawful: a lawful run has this trace and this record")
     return 1 if sentence else 0

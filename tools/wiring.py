@@ -36,10 +36,17 @@ def read_wiring(path):
         return wiring_in(file, path)
 
 
+def program_here():
+    """The program that is built here, or else the one that is installed, or None.
+
+    The launcher `cyber` of the repository isn't called, since it would build a program that is missing, which takes half an hour.
+    """
+    return BUILT if os.access(BUILT, os.X_OK) else shutil.which("cyber")
+
+
 def find_program(program=None):
-    """The program that is named, else the one that is built here, else the one that is installed. A ValueError tells where there is none."""
-    if program is None:
-        program = BUILT if os.access(BUILT, os.X_OK) else shutil.which("cyber")
+    """The program that is named, or else the one that is here. A ValueError tells where there is none."""
+    program = program_here() if program is None else program
     if program is None:
         raise ValueError("no program is built here, and none is installed: name one by --program, or a file with what `check` prints by --wiring")
     return program

@@ -18,7 +18,7 @@ sys.path.insert(0, os.path.join(os.path.dirname(os.path.abspath(__file__)), ".."
 from record import messages_of, whole_of
 
 MOST = 5_000_000  # bytes of a page
-ALONE = {"meta", "link", "br", "img", "input", "hr"}  # elements without an end
+ALONE = {"meta", "link", "br", "wbr", "img", "input", "hr"}  # elements without an end
 
 
 def fail(text):

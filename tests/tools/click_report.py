@@ -113,7 +113,7 @@ def points_at_the_burst(line):
     look(line.point(1, 3, 0.15)[0] == "Tuple skipped by control", f"a skipped tuple says {line.details()}")
     look(line.point(4, 7)[0] == "Gap on /total", f"a gap says {line.details()}")
     look(len(line.point(2, 2)) == 1, f"where nothing is, it says {line.details()}")
-    look(line.colour(1, 2.5, 0.4) == [232, 163, 61], f"a held output has the colour {line.colour(1, 2.5, 0.4)}")
+    look(line.colour(1, 2.5, 0.4) == [196, 127, 20], f"a held output has the colour {line.colour(1, 2.5, 0.4)}")
     look(line.colour(1, 5.5, 0.4) == [245, 246, 248], f"where nothing is, the colour is {line.colour(1, 5.5, 0.4)}")
 
 
@@ -198,12 +198,19 @@ def sorts_by(page, section, column, first):
     look(order[-1] == first[0] and page.run(f"{head}.ariaSort") == "descending", f"{section} sorts back to {order}")
 
 
-def is_for_phones(page):
-    """Nothing is wider than a phone but what scrolls by itself; fingers move, zoom and choose."""
+def open_on_phone(page):
+    """Opens the page where nothing may be wider than a phone but what scrolls by itself, and no head of a row hides its cells."""
     page.set_size(390, 844, True, 2)
     page.open(page.path)
     width = page.run("document.documentElement.scrollWidth")
     look(width == 390, f"the page is {width} wide on a phone")
+    widest = page.run("Math.max(0, ...[...document.querySelectorAll('.wide tbody th')].map((it) => it.offsetWidth))")
+    look(widest <= 250, f"a head of a row is {widest} wide on a phone")
+
+
+def is_for_phones(page):
+    """Fingers move, zoom and choose."""
+    open_on_phone(page)
     low = page.run("[...document.querySelectorAll('.tools button')].filter((it) => it.offsetHeight < 44).length")
     look(low == 0, f"{low} buttons are too low for a finger")
     line = Timeline(page)
@@ -242,6 +249,7 @@ def names(page):
     line = Timeline(page)
     line.press("ArrowDown", "ArrowDown", "ArrowDown", "ArrowDown")
     look(line.details()[0].startswith("Call ") and f"</title>{tag}" in line.details()[0], f"a call says {line.details()}")
+    open_on_phone(page)
 
 
 def sampled(page):
@@ -306,9 +314,7 @@ def batch(page):
     sorts_by(page, "drives", 0, ["d1", "d2", "d3"])
     links = page.run("[...document.querySelectorAll('tbody a')].map((it) => it.getAttribute('href'))")
     look("d1/report.html" in links, f"the drives are linked to {links[:3]}")
-    page.set_size(390, 844, True, 2)
-    page.open(page.path)
-    look(page.run("document.documentElement.scrollWidth") == 390, "the page of a batch is wider than a phone")
+    open_on_phone(page)
 
 
 PARTS = {it.__name__: it for it in (burst, drive, names, sampled, empty, good, batch)}

@@ -1,7 +1,5 @@
 """Asks the program about a replay, and makes the page of it."""
-import os
 import shlex
-import shutil
 import subprocess
 
 from reporting.differences import compare
@@ -9,18 +7,9 @@ from reporting.fields import Describer
 from reporting.page import render, write_page
 from reporting.reading import parts_checked, parts_read, read_replay
 from reporting.view import OPTIONS, verdict_of, view_of
+from wiring import program_here
 
-TOP = os.path.dirname(os.path.dirname(os.path.dirname(os.path.abspath(__file__))))
-BUILT = os.path.join(TOP, "crates", "cyber", "out", "cyber")
 SCRIPTS = ["tables.js", "timeline_run.js", "timeline_drawing.js", "timeline_marks.js", "timeline_hands.js"]
-
-
-def program_of(words):
-    """The program that is asked: the one that is named, the one that was built here, or the one that is installed.
-
-    The launcher `cyber` of the repository isn't called, since it would build a program that is missing, which takes half an hour.
-    """
-    return words.program or (BUILT if os.access(BUILT, os.X_OK) else shutil.which("cyber"))
 
 
 class Question:
@@ -35,7 +24,7 @@ class Question:
                     [program, *command], stdin=subprocess.DEVNULL, stdout=subprocess.PIPE, stderr=subprocess.PIPE
                 )
             except OSError as error:
-                self.fault = str(error)
+                self.fault = f"{program}: {error.strerror}"
 
     def answer(self):
         """Its status, None where it couldn't be asked, and what it printed in bytes, or why it couldn't."""
@@ -74,7 +63,7 @@ def wiring_of(words, question):
 
 def make_page(words):
     """Writes the page of a replay, and gives its verdict. A ValueError or an OSError tells of files that make no replay."""
-    program, describer = program_of(words), Describer(words.types)
+    program, describer = words.program or program_here(), Describer(words.types)
     verify, check = Question(program, verify_command(words)), Question(program, check_command(words))
     try:
         parts, wiring = wiring_of(words, check)

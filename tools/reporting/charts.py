@@ -1,10 +1,12 @@
 """Charts as numbers: bars of histograms and points of plots, which the page draws."""
+import math
 from array import array
 from itertools import compress
 from typing import NamedTuple
 
 BARS = 24  # at most, of a histogram
 MOST_POINTS, ALL_POINTS = 2_000, 60_000  # of a plot, and of all plots of a page
+FEW_POINTS = 80  # so few are also drawn as dots
 
 
 class Bar(NamedTuple):
@@ -74,9 +76,17 @@ def plot(times, values, begin, span, most=MOST_POINTS):
     """The plot of numbers over a time, by at most so many points."""
     low, high = min(values), max(values)
     indexes = indexes_of(values, most)
-    # A number that never changes is drawn in the middle.
-    points = [((times[it] - begin) / span, 0.5 if low == high else (high - values[it]) / (high - low)) for it in indexes]
+    points = [((times[it] - begin) / span, share_below(values[it], low, high)) for it in indexes]
     return Plot(points, low, high, len(values), len(indexes) < len(values))
+
+
+def share_below(value, low, high):
+    """How far a number is below the greatest one, as a share of the range. A number that never changes is in the middle."""
+    if low == high:
+        return 0.5
+    if math.isinf(high - low):  # a range of floating-point numbers that is none itself
+        value, low, high = value / 2, low / 2, high / 2
+    return (high - value) / (high - low)
 
 
 def whole_numbers(channel):

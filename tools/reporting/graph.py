@@ -9,7 +9,8 @@ from typing import NamedTuple
 MOST_NODES = 300  # a graph with more is no picture any more
 PATIENCE = 20  # seconds
 INCH = 72  # units of the picture
-LETTER, HEIGHT, PADDING = 7.3, 44, 26  # of a node's text, in units
+LETTER, LINE, PADDING = 7.3, 16, 26  # of a node's text, in units; the padding is beside it
+ABOVE = 12  # the room above and below it together
 LONGEST_LABEL = 30
 
 
@@ -19,11 +20,11 @@ class Node(NamedTuple):
     kind: str  # channel, component or timer
     name: str
     label: str
-    note: str  # the line below its label
+    notes: list  # the lines below its label
     x: float = 0
     y: float = 0
     width: float = 0
-    height: float = HEIGHT
+    height: float = 0
 
 
 class Edge(NamedTuple):
@@ -43,13 +44,14 @@ class Graph(NamedTuple):
 
 
 def shortened(text, most=LONGEST_LABEL):
-    """A text of at most so many characters, without its middle where it is longer."""
-    return text if len(text) <= most else f"{text[: most // 2]}…{text[len(text) - most // 2 + 1 :]}"
+    """A text of at most so many characters. Where it is longer its end is kept, by which names of channels are told apart."""
+    return text if len(text) <= most else f"{text[: most // 3]}…{text[len(text) - most + most // 3 + 1 :]}"
 
 
-def node_of(kind, name, note):
+def node_of(kind, name, *notes):
     label = shortened(name)
-    return Node(kind, name, label, note, width=max(len(label), len(note)) * LETTER + PADDING)
+    width = max(map(len, (label, *notes))) * LETTER + PADDING
+    return Node(kind, name, label, notes, width=width, height=(1 + len(notes)) * LINE + ABOVE)
 
 
 def picture_text(nodes, edges):

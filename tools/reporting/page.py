@@ -3,16 +3,24 @@ import base64
 import hashlib
 import json
 import os
+import re
 
 from jinja2 import Environment, FileSystemLoader, StrictUndefined
 from markupsafe import Markup
 
 from reporting import text
 
+SHORT_NAME = 16  # letters
 FOLDER = os.path.dirname(os.path.abspath(__file__))
 FUNCTION = '(() => {{\n"use strict";\n\n{}}})();\n'  # all scripts of a page are in one function, and see each other's names
 # What could end the element that the data is in, or what older scripts take for the end of a line.
 ESCAPES = {ord(it): f"\\u{ord(it):04x}" for it in "<>&\u2028\u2029"}
+
+
+def breakable(name):
+    """A name that may go on in a new line behind each of its parts, where it is long."""
+    parts = re.split(r"(?<=[/._-])(?=[^/._-])", text.shown(name))
+    return Markup("<wbr>").join(parts if len(name) > SHORT_NAME else ["".join(parts)])
 
 
 def json_text(data):
@@ -44,8 +52,8 @@ def render(template, scripts, view):
     environment = Environment(
         loader=FileSystemLoader(FOLDER), autoescape=True, undefined=StrictUndefined, trim_blocks=True, lstrip_blocks=True
     )
-    names = ("shown", "number", "duration", "exact", "rounded", "size", "date")
-    environment.filters |= {name: getattr(text, name) for name in names}
+    names = ("shown", "number", "plural", "duration", "exact", "rounded", "size", "date")
+    environment.filters |= {name: getattr(text, name) for name in names} | {"breakable": breakable}
     style, script = source_of(["page.css"]), FUNCTION.format(source_of(scripts))
     assets = {"style": Markup(style), "script": Markup(script), "policy": policy_of(style, script)}
     return environment.get_template(template).render(**view, **assets)

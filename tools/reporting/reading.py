@@ -5,8 +5,9 @@ from collections import Counter
 from dataclasses import dataclass, field
 
 from dag import read_entries
-from record import each_message, forms_of, header_of, opened, whole_of
-from trace import Component, read_trace, unquoted
+from record import forms_of, header_of, opened, whole_of
+from tape import taped_messages
+from trace import read_trace, unquoted
 
 LONGEST_WHOLE = 11  # bytes of a content that is nothing but a whole number: a tag and a varint
 KNOWN_CONTENTS = 50_000  # contents whose number is remembered
@@ -126,29 +127,21 @@ def channels_of(trace, data, describer):
 
 def read_channels(trace, path, describer, has_digests=False):
     """The channels of the record at a path, which has to be that of a trace's tape, in the order of the tape."""
-    names = [it.encode("utf-8", "surrogateescape") for it in trace.channels]
-    tape, value_of = zip(trace.tape_channels, trace.tape_sequences), Values().of
+    value_of = Values().of
     with opened(path) as data:
         header_of(data)
         channels = channels_of(trace, data, describer)
-        for name, time, content in each_message(data):
-            number, sequence = next(tape, (None, 0))
-            if number is None or names[number] != name:
-                raise ValueError("not the record of this trace")
-            channel = channels[number]
+        for place, number, time, content in taped_messages(trace, data):
+            channel = channels[place]
             channel.times.append(time)
-            if len(channel.times) != sequence:
-                raise ValueError("not the record of this trace, whose tape has other numbers")
             value = value_of(content)
             channel.values.append(value or 0)
             channel.valued.append(value is not None)
             channel.size += len(content)
             if has_digests:
                 channel.digests.append(hash(content))
-            if value is None and channel.step and (sequence - 1) % channel.step == 0 and len(content) <= LARGEST_SAMPLE:
+            if value is None and channel.step and (number - 1) % channel.step == 0 and len(content) <= LARGEST_SAMPLE:
                 channel.samples.append((time, content))
-        if next(tape, None) is not None:
-            raise ValueError("fewer messages than the trace's tape has")
     return channels
 
 
@@ -174,42 +167,25 @@ class Replay:
         known = [self.channels.get(name) for name in part.readers]
         return (known + [None] * component.readers)[: max(component.readers, len(known))]
 
+    def triggers_of(self, component, part):
+        """The times of the messages that trigger a component, None where they aren't known."""
+        return next((it and it.times for it in self.readers_of(component, part)), None)
+
     def begins_of(self, component, part):
         """The time of each call's trigger; where its channel isn't known the time of the output, or else of the call before."""
-        readers = self.readers_of(component, part)
-        if component.width and readers[0] is not None:
-            times = readers[0].times
-            return array("Q", [times[it - 1] for it in component.sequences[:: component.width]])
-        found, last = array("Q"), self.first
-        for output, time in zip(component.outputs, component.times):
-            last = time if output else last
-            found.append(last)
-        return found
+        return component.begins(self.triggers_of(component, part), self.first)
 
     def skips_of(self, component, part):
         """The times of the triggers of the tuples that calls jumped over, where the trigger's channel is known."""
-        readers = self.readers_of(component, part)
-        if not component.skipped or readers[0] is None:
-            return array("Q")
-        times, before = readers[0].times, component.sequences[0] - component.positions[0]
-        found, last = array("Q"), 0
-        for position in component.positions:
-            if position != last + 1:
-                found.extend(times[last + before : position - 1 + before])
-            last = position
-        return found
+        return component.skips(self.triggers_of(component, part))
 
 
 def check_tuples(replay):
     """Raises a ValueError where a call is on messages that their channels don't have."""
     for component, part in replay.components:
         for role, channel in enumerate(replay.readers_of(component, part)[: component.width]):
-            if channel is None:
-                continue
-            numbers, last = component.sequences[role :: component.width], len(channel.times)
-            before = numbers[0] - component.positions[0]  # how many messages came before the first tuple
-            if max(numbers) > last or role == 0 and not 0 <= before <= last - component.positions[-1]:
-                raise ValueError(f"component {component.name}: a call on a message that {channel.name} doesn't have")
+            if channel is not None:
+                component.check_messages(role, channel.name, len(channel.times))
 
 
 def read_replay(trace_path, record_path, parts, describer, has_digests=False):

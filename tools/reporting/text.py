@@ -2,6 +2,7 @@
 from datetime import datetime, timedelta, timezone
 
 LONGEST_NAME = 160
+PLACES = 12  # digits before or behind the point beyond which a number is written with an exponent
 SECOND = 10**9
 UNITS = [(86_400 * SECOND, "d"), (3_600 * SECOND, "h"), (60 * SECOND, "min"), (SECOND, "s"), (10**6, "ms"), (10**3, "µs")]
 EPOCH = datetime(1970, 1, 1, tzinfo=timezone.utc)
@@ -17,17 +18,24 @@ def shown(name):
 
 def number(value):
     """A whole number with commas."""
-    return f"{value:,}"
+    return f"{value:,}".replace("-", "−")
+
+
+def plural(count, word):
+    """So many of something."""
+    return f"{number(count)} {word}{'' if count == 1 else 's'}"
 
 
 def rounded(value, digits=3):
-    """A number with so many digits that count."""
+    """A number with at least so many digits that count."""
+    if value and not 10**-PLACES <= abs(value) < 10**PLACES:
+        return f"{value:.{digits}g}".replace("-", "−")
     if value == 0 or abs(value) >= 10 ** (digits - 1):
-        return f"{value:,.0f}"
+        return number(round(value))
     places = digits - 1
-    while abs(value) * 10 ** (places - digits + 1) < 1 and places < 12:
+    while abs(value) * 10 ** (places - digits + 1) < 1:
         places += 1
-    text = f"{value:.{places}f}"
+    text = f"{value:.{places}f}".replace("-", "−")
     return text.rstrip("0").rstrip(".") if "." in text else text
 
 

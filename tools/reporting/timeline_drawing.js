@@ -11,15 +11,39 @@ const readColours = () => {
   colours.font = getComputedStyle(document.body).fontFamily;
 };
 
+const setFont = (size, weight = 400) => {
+  context.font = `${weight} ${size}px ${colours.font}`;
+};
+
+const setNameFont = (lane) => setFont(13, lane.kind === "channel" ? 400 : 650);
+
+const setNoteFont = () => setFont(11);
+
+const noteOf = (lane) => {
+  const part = lane.begins.length < lane.total ? `, 1 in ${count(Math.round(lane.total / lane.begins.length))} drawn` : "";
+  if (lane.kind === "channel") return `${plural(lane.total, "message")}${part}`;
+  return `${plural(lane.total, "call")}${lane.skipped ? `, ${count(lane.skipped)} skipped` : ""}${part}`;
+};
+
+// How wide the names of all lanes are, and the notes below them.
+const widthOfLabels = () => lanes.reduce((most, lane) => {
+  setNameFont(lane);
+  const name = context.measureText(lane.name).width;
+  setNoteFont();
+  return Math.max(most, name, context.measureText(noteOf(lane)).width);
+}, 0);
+
 const measure = () => {
   place.width = frame.clientWidth;
   const isNarrow = place.width < NARROW;
-  place.left = isNarrow ? 6 : Math.round(Math.min(230, place.width * 0.24));
+  place.left = isNarrow ? 6 : Math.round(Math.min(Math.max(widthOfLabels() + 30, 180), place.width * 0.3));
   place.right = Math.max(place.left + 1, place.width - 10); // a window may be too narrow for anything
   place.label = isNarrow ? 16 : 0;
   place.lane = isNarrow ? 60 : 46;
   const all = place.top + lanes.length * place.lane + 4;
-  place.height = Math.min(all, Math.max(240, Math.floor(window.innerHeight * 0.74)));
+  const room = Math.max(240, Math.floor(window.innerHeight * 0.74));
+  place.height = all < room + 2 * place.lane ? all : room; // rather a little more room than a lane that is cut
+  frame.style.maxHeight = `${place.height + 2}px`; // with its border
   spacer.style.height = `${all - place.height}px`;
   const ratio = window.devicePixelRatio || 1;
   canvas.width = Math.round(place.width * ratio);
@@ -28,16 +52,20 @@ const measure = () => {
   context.setTransform(ratio, 0, 0, ratio, 0, 0);
 };
 
-const setFont = (size, weight = 400) => {
-  context.font = `${weight} ${size}px ${colours.font}`;
+// A text that is cut where it is too wide. Of what is left, so large a share is from its end.
+const fitted = (text, width, shareOfEnd = 0) => {
+  if (context.measureText(text).width <= width) return text;
+  const cut = (length) => {
+    const end = Math.floor(length * shareOfEnd);
+    return `${text.slice(0, length - end)}…${text.slice(text.length - end)}`;
+  };
+  let length = text.length - 1;
+  while (length > 1 && context.measureText(cut(length)).width > width) length -= 1;
+  return cut(length);
 };
 
-const fitted = (text, width) => {
-  if (context.measureText(text).width <= width) return text;
-  let length = text.length;
-  while (length > 1 && context.measureText(`${text.slice(0, length)}…`).width > width) length -= 1;
-  return `${text.slice(0, length)}…`;
-};
+// A name without its middle: names that begin alike are told apart by how they end.
+const fittedName = (name, width) => fitted(name, width, 0.6);
 
 const line = (x1, y1, x2, y2) => {
   context.beginPath();
@@ -124,11 +152,18 @@ const drawGaps = (lane, zone) => {
   }
 };
 
-const drawNumber = (text, x, y, colour = colours.soft) => {
+// The number of a mark behind it, where there is room up to the next one.
+const drawNumber = (lane, index, y, colour = colours.soft) => {
+  const x = xOf(lane.begins[index]) + 4;
+  const end = index + 1 < lane.begins.length ? xOf(lane.begins[index + 1]) : place.width;
+  const room = Math.min(end, place.width - 3) - x;
+  if (room < 8) return;
   setFont(10);
+  const text = count(numberOf(lane, index));
+  if (context.measureText(text).width > room) return;
   context.fillStyle = colour;
   context.textAlign = "left";
-  context.fillText(text, x + 4, y);
+  context.fillText(text, x, y);
 };
 
 const drawChannel = (lane) => {
@@ -145,7 +180,6 @@ const drawChannel = (lane) => {
   if (isShownByCounts(lane, from, to)) return;
   context.strokeStyle = colour;
   context.lineWidth = 1.5;
-  const hasNumbers = to - from < (place.right - place.left) / 52;
   for (let k = from; k < to; k += 1) {
     const x = xOf(lane.begins[k]);
     if (x < place.left - 1 || x > place.right + 1) continue;
@@ -154,7 +188,7 @@ const drawChannel = (lane) => {
       line(x - 3, zone.top + 3, x, zone.top);
       line(x + 3, zone.top + 3, x, zone.top);
     }
-    if (hasNumbers) drawNumber(count(numberOf(lane, k)), x, zone.bottom - 2);
+    drawNumber(lane, k, zone.bottom - 2);
   }
 };
 
@@ -191,7 +225,7 @@ const drawHeld = (lane, zone, index) => {
   line(to - 0.5, row.top, to - 0.5, row.top + row.height);
 };
 
-const drawCall = (lane, zone, index, hasNumbers) => {
+const drawCall = (lane, zone, index) => {
   const x = xOf(lane.begins[index]);
   if (x < place.left - 1 || x > place.right + 1) return;
   const isQuiet = !lane.outputs[index];
@@ -200,7 +234,7 @@ const drawCall = (lane, zone, index, hasNumbers) => {
   context.lineWidth = 2;
   line(x, isQuiet ? row.top + row.height / 2 : row.top, x, row.top + row.height);
   if (!isQuiet) context.fillRect(x - 2, row.top, 4, Math.min(4, row.height));
-  if (hasNumbers && row.height > 9) drawNumber(count(numberOf(lane, index)), x, row.top + row.height - 1, lane.lags[index] > 0 ? ON_HELD : colours.soft);
+  if (row.height > 9) drawNumber(lane, index, row.top + row.height - 1, lane.lags[index] > 0 ? ON_HELD : colours.soft);
 };
 
 const drawCallCounts = (lane, zone) => {
@@ -230,35 +264,31 @@ const drawComponent = (lane) => {
     context.globalAlpha = 1;
   }
   if (!isCrowded) {
-    const hasNumbers = to - from < (place.right - place.left) / 52;
     for (let k = from; k < to; k += 1) if (lane.lags[k] > 0) drawHeld(lane, zone, k);
-    for (let k = from; k < to; k += 1) drawCall(lane, zone, k, hasNumbers);
+    for (let k = from; k < to; k += 1) drawCall(lane, zone, k);
   }
   drawSkips(lane, zone);
-};
-
-const noteOf = (lane) => {
-  const part = lane.begins.length < lane.total ? `, 1 in ${count(Math.round(lane.total / lane.begins.length))} drawn` : "";
-  if (lane.kind === "channel") return `${plural(lane.total, "message")}${part}`;
-  return `${plural(lane.total, "call")}${lane.skipped ? `, ${count(lane.skipped)} skipped` : ""}${part}`;
 };
 
 const drawLabel = (lane) => {
   const y = yOf(lane.number);
   context.textAlign = "left";
   context.fillStyle = colours.ink;
-  setFont(13, lane.kind === "channel" ? 400 : 650);
   if (place.label) {
-    const name = fitted(lane.name, place.width * 0.55);
+    setNoteFont();
+    const note = context.measureText(noteOf(lane)).width;
+    setNameFont(lane);
+    const name = fittedName(lane.name, Math.max(place.width * 0.55, place.width - note - 30));
     context.fillText(name, 8, y + 13);
     const width = context.measureText(name).width;
-    setFont(11);
+    setNoteFont();
     context.fillStyle = colours.soft;
-    context.fillText(fitted(noteOf(lane), place.width - width - 30), 18 + width, y + 13);
+    context.fillText(fitted(noteOf(lane), place.width - width - 22), 18 + width, y + 13);
     return;
   }
-  context.fillText(fitted(lane.name, place.left - 20), 10, y + 19);
-  setFont(11);
+  setNameFont(lane);
+  context.fillText(fittedName(lane.name, place.left - 20), 10, y + 19);
+  setNoteFont();
   context.fillStyle = colours.soft;
   context.fillText(fitted(noteOf(lane), place.left - 20), 10, y + 35);
 };
@@ -285,6 +315,8 @@ const drawLane = (lane) => {
   context.fillRect(0, y + place.lane - 1, place.width, 1);
 };
 
+const FROM = "from the first message";
+
 const axisTicks = () => {
   setFont(11);
   for (const step of AXIS_STEPS) {
@@ -301,17 +333,19 @@ const drawAxis = ({ step, text }) => {
   context.fillStyle = colours.line;
   context.fillRect(0, place.top - 1, place.width, 1);
   setFont(11);
+  const free = place.label ? 0 : context.measureText(FROM).width + 14; // from where on there is room for times
   context.textAlign = "center";
   for (let time = Math.ceil(view.begin / step) * step; time <= view.end; time += step) {
     const x = xOf(time);
     context.fillStyle = colours.soft;
     context.fillRect(x, place.top - 6, 1, 6);
     const half = context.measureText(text(time)).width / 2;
-    if (x - half > place.left - 4 && x + half < place.width - 6) context.fillText(text(time), x, 18);
+    const middle = place.label ? Math.max(x, half + 2) : x; // where names are above their lanes, nothing is left of the plot
+    if (middle - half > free && middle + half < place.width - 6) context.fillText(text(time), middle, 18);
   }
   if (!place.label) {
     context.textAlign = "left";
-    context.fillText("from the first message", 10, 18);
+    context.fillText(FROM, 10, 18);
   }
 };
 

@@ -119,7 +119,7 @@ const clockText = (time) => {
   const seconds = Math.round(Math.abs(time) / 1e9);
   const parts = [Math.floor(seconds / 3600), Math.floor(seconds / 60) % 60, seconds % 60];
   const text = (parts[0] ? parts : parts.slice(1)).map((it, k) => (k ? String(it).padStart(2, "0") : String(it))).join(":");
-  return `${time < 0 ? "−" : ""}${text}`;
+  return `${time < 0 ? "−" : ""}${text} ${parts[0] ? "h" : "min"}`;
 };
 
 // How times are written on the axis where its marks are so far apart.

@@ -7,12 +7,13 @@ from reporting import charts, fields, graph
 from reporting.lanes import MARKS, Timeline
 from reporting.measures import GAP, clocks_of, measure_channel, measure_component
 from reporting.page import json_text
-from reporting.text import duration, exact, number, rounded, shown
+from reporting.text import duration, exact, number, plural, rounded, shown
 
 MOST_DATA = 2_800_000  # bytes of the timeline, so that a page has less than 5,000,000
-GAPS_SHOWN = 8
+GAPS_SHOWN = 4
 CALLS_SHOWN = 10
 PLOTS = 120
+LONGEST_SCALE = 13  # letters of a number beside a plot
 OPTIONS = ("channels", "drop", "begin", "end", "stop")  # that choose what is played
 
 
@@ -56,12 +57,17 @@ def file_of(role, path):
 
 
 class Histogram(NamedTuple):
-    """A histogram with its title; each bar has a label and the share of its height."""
+    """A histogram with its title; each bar has a label, its count and the share of its height."""
 
     title: str
     unit: str
     bars: list
     summary: str
+
+    @property
+    def most(self):
+        """The count of its highest bar."""
+        return max(it["count"] for it in self.bars)
 
 
 def labelled(bars, text):
@@ -73,14 +79,14 @@ def labelled(bars, text):
     ]
 
 
-def lag_text(lags):
-    """Lags in a few words."""
+def lag_texts(lags):
+    """Lags in a few words, and in some further ones where they differ."""
     if not lags:
-        return "–"
+        return "–", ""
     least, greatest = min(lags), max(lags)
     if least == greatest:
-        return exact(least) if least else "none"
-    return f"{duration(charts.quantile(lags, 0.5))}, at most {duration(greatest)}"
+        return exact(least) if least else "none", ""
+    return duration(charts.quantile(lags, 0.5)), f"at most {duration(greatest)}"
 
 
 def lag_histogram(title, lags):
@@ -100,8 +106,7 @@ def skip_histogram(measures):
     if not measures.skips:
         return None
     times = sum(measures.skips.values())
-    how_often = f"{number(times)} {'time' if times == 1 else 'times'}"
-    summary = f"{number(measures.skipped)} skipped, {how_often}; at most {number(measures.longest_skip)} in a row."
+    summary = f"{number(measures.skipped)} skipped, {plural(times, 'time')}; at most {number(measures.longest_skip)} in a row."
     return Histogram("Tuples skipped in a row", "times", labelled(charts.histogram(measures.skips), number), summary)
 
 
@@ -136,7 +141,7 @@ def component_row(component, part, measures, command):
         "interval": part.interval,
         "overflow": component.overflow,
         "measures": measures,
-        "lag": lag_text(measures.lags), "delay": lag_text(measures.delays),
+        "lag": lag_texts(measures.lags), "delay": lag_texts(measures.delays),
         "most_lag": max(measures.lags, default=0), "most_delay": max(measures.delays, default=0),
         "untaken": max(measures.tuples - (component.positions[-1] if component.positions else 0), 0),
         "histograms": [it for it in histograms_of(measures) if it],
@@ -160,19 +165,17 @@ def channel_row(replay, channel, measures):
 
 
 def graph_of(replay):
-    """The graph of channels and components, None where it can't be drawn."""
-    names = dict.fromkeys(replay.channels)
-    for _, part in replay.components:
-        names |= dict.fromkeys(part.readers + ([part.out] if part.out is not None else []))
+    """The graph of channels and components, None where it can't be drawn. Channels that no component reads or writes aren't in it."""
+    names = dict.fromkeys(name for _, part in replay.components for name in [*part.readers, part.out] if name is not None)
     counts = {name: len(it.times) for name, it in replay.channels.items()}
-    nodes = [graph.node_of("channel", shown(it), f"{counts.get(it, 0):,} messages") for it in names]
+    nodes = [graph.node_of("channel", shown(it), plural(counts.get(it, 0), "message")) for it in names]
     places = {name: place for place, name in enumerate(names)}
     edges = []
     for component, part in replay.components:
         here = len(nodes)
         kind = "timer" if part.interval is not None else "component"
-        note = f"{shown(part.kind) or 'unknown class'}, {len(component.positions):,} calls"
-        nodes.append(graph.node_of(kind, shown(component.name), note))
+        notes = graph.shortened(shown(part.kind)) or "unknown class", plural(len(component.positions), "call")
+        nodes.append(graph.node_of(kind, shown(component.name), *notes))
         edges += [graph.Edge(places[name], here, role == 0) for role, name in enumerate(part.readers)]
         edges += [graph.Edge(here, places[part.out], True)] if part.out is not None else []
     return graph.lay_out(nodes, edges)
@@ -207,9 +210,16 @@ def plots_of(replay):
         drawn = charts.plot(it.times, it.values, replay.first, replay.span, most)
         plots.append({
             "channel": it.channel, "field": it.field, "points": drawn.points, "count": drawn.count,
-            "low": number_text(drawn.low), "high": number_text(drawn.high), "is_sampled": drawn.is_sampled or it.is_part,
+            "low": number_text(drawn.low), "high": number_text(drawn.high), "scale": scale_of(drawn),
+            "is_sampled": drawn.is_sampled or it.is_part,
         })
     return plots, len(series) - len(plots)
+
+
+def scale_of(drawn):
+    """What is beside a plot, above and below. In place of long numbers, which its caption has, it is how far they are apart."""
+    high, low = number_text(drawn.high), number_text(drawn.low)
+    return (high, low) if max(len(high), len(low)) <= LONGEST_SCALE else (f"+{number_text(drawn.high - drawn.low)}", "least")
 
 
 def number_text(value):
@@ -224,6 +234,13 @@ def calls_shown(replay, name, numbers):
     return [(it, begins[it - 1] - replay.first) for it in numbers[:CALLS_SHOWN]]
 
 
+def difference_text(comparison):
+    """How much differs, in a sentence."""
+    counts = [("messages of", len(comparison.channels), "channel"), ("calls of", len(comparison.calls), "component")]
+    text = " and ".join(f"{what} {plural(count, word)}" for what, count, word in counts if count)
+    return f"{text.capitalize()} differ." if text else ""
+
+
 def comparison_view(replay, comparison):
     """What differs from a good run, as the page shows it."""
     if comparison is None:
@@ -234,7 +251,7 @@ def comparison_view(replay, comparison):
         calls.append({"difference": it, "only_here": only_here, "changed": changed})
     return {
         "folder": comparison.folder, "is_same": comparison.is_same, "is_same_tape": comparison.is_same_tape,
-        "channels": comparison.channels, "calls": calls, "missing": comparison.missing,
+        "channels": comparison.channels, "calls": calls, "missing": comparison.missing, "summary": difference_text(comparison),
     }
 
 
@@ -259,11 +276,12 @@ def view_of(replay, words, verdict, wiring, comparison):
     for it, part in replay.components:
         measures = measure_component(it, timeline.begins[part.name], clocks.get(part.name, ()))
         components.append(component_row(it, part, measures, commands.get(it.name)))
+    channels = [channel_row(replay, it, channel_measures[it.name]) for it in replay.channels.values()]
     lanes = {item.name: place for place, (kind, item) in enumerate(timeline.lanes) if kind == "channel"}
     component_lanes = {item[0].name: place for place, (kind, item) in enumerate(timeline.lanes) if kind == "component"}
     trace, (plots, left) = replay.trace, plots_of(replay)
     return {
-        "title": f"Replay of {shown(os.path.basename(words.record))}",
+        "title": shown(words.title or f"Replay of {os.path.basename(words.record)}"),
         "verdict": verdict,
         "replay": replay,
         "files": [file_of(*it) for it in files_of(words)],
@@ -275,10 +293,10 @@ def view_of(replay, words, verdict, wiring, comparison):
             ("Tuples skipped", sum(it["measures"].skipped for it in components)), ("Messages written", len(trace.tape_channels)),
         ],
         "components": components,
-        "channels": [channel_row(replay, it, channel_measures[it.name]) for it in replay.channels.values()],
+        "channels": channels,
         "lanes": lanes, "component_lanes": component_lanes,
-        "graph": graph_of(replay),
-        "plots": plots, "plots_left": left,
+        "graph": graph_of(replay), "unwired": sum(not it["readers"] and it["maker"] is None for it in channels),
+        "plots": plots, "plots_left": left, "few": charts.FEW_POINTS,
         "comparison": comparison_view(replay, comparison),
         "timeline": text, "is_sampled": any("counts" in lane for lane in data["lanes"]), "piece": duration(replay.span // data["pieces"]),
         "gap": GAP,
