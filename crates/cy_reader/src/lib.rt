@@ -4,8 +4,8 @@
 //! `specs/Tiling` says into which sections a file falls, `specs/Sections` computes them, and
 //! `specs/Record` says what they hold together, `specs/Salvage` what is salvaged of those before a
 //! fault. `specs/Joined` says what several records come to that are joined to one. `specs/Play`
-//! says which messages are played, and in which order, and `specs/Info` has the text that tells what
-//! a record is, `specs/FaultText` the one that tells why a file is none.
+//! says which messages are played, and in which order, and `specs/Info` has the text that tells
+//! what a record is, `specs/FaultText` the one that tells why a file is none.
 #![tactic(auto)]
 
 mod channel_set;

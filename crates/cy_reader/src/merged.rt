@@ -1,6 +1,6 @@
 // The records that are joined to one.
-ghost use Rattle.std.specs.Prelude.{◌≡◌, ◌≢◌, ◌≤◌, ◌+◌, ◌^◌, nat_lt, length, option_map, IfErr, IfOk};
-ghost use Rattle.std.specs.Prelude.{IsOkUnless};
+ghost use Rattle.std.specs.Prelude.{◌≡◌, ◌≢◌, ◌≤◌, ◌+◌, ◌^◌, nat_lt, length, option_map, IfErr};
+ghost use Rattle.std.specs.Prelude.{IfOk, IsOkUnless};
 ghost use Rattle.cy_msg.specs.Answer.{AnswersOr};
 ghost use Rattle.cy_reader.specs.Joined.{IsOrdered, first_differing, no_records, record_joined};
 ghost use Rattle.cy_reader.specs.Joined.{size_joined};

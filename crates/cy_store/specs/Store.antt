@@ -121,8 +121,8 @@ pub record PutAnswer {T : Type 0} (old new : StoreView) (name : List ℕ) (at : 
   pub memory : IsErrOf result store_error.Memory → new.files ≡ old.files
   pub cause : HasCause old new name result
 
--- What `same` answers: of a store that tells its files, whether the names are equal. The store stays
--- as it was.
+-- What `same` answers: of a store that tells its files, whether the names are equal. The store
+-- stays as it was.
 pub record SameAnswer (old new : StoreView) (name other : List ℕ) (result : Bool) : Type 0 where
   pub same : new ≡ old
   pub told : IfSome old.files (λ _. result ≡ bytes_eq name other)

@@ -8,8 +8,8 @@ use cy_store::Store;
 use cy_writer::WriteError;
 use std::alloc::Global;
 
-/// Writes the record of all messages of records that are joined, as they stand, on the channels that
-/// have one, and answers how many messages it has. It takes its own memory before it makes the
+/// Writes the record of all messages of records that are joined, as they stand, on the channels
+/// that have one, and answers how many messages it has. It takes its own memory before it makes the
 /// file.
 pub fn write_merged<S: Store>(
     alloc: Global,

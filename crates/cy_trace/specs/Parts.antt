@@ -1,6 +1,6 @@
 -- A trace in parts.
-use Rattle.std.specs.Prelude.{ℕ, ◌+◌, ◌^◌, ◌≡◌, ◌≤◌, ◌<◌, ⊤, true, List, [], ◌++◌, length, map, take}
-use Rattle.std.specs.Prelude.{drop, All, slice_get, Option, None, Some, codes}
+use Rattle.std.specs.Prelude.{ℕ, ◌+◌, ◌^◌, ◌≡◌, ◌≤◌, ◌<◌, ⊤, true, List, [], ◌++◌, length, map}
+use Rattle.std.specs.Prelude.{take, drop, All, slice_get, Option, None, Some, codes}
 use Rattle.std.specs.List.{flat_map}
 use Rattle.cy_msg.specs.Quoted.{quoted}
 use Rattle.cy_fuse.specs.Fusion.{Arrival}

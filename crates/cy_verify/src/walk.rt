@@ -89,8 +89,8 @@ impl Walk {
             closing: _,
             raised: _,
         } = world.apart();
-        // Calls are counted and not kept, so the room for them is given back. The tape gets the room
-        // of the text that was read before, where it has enough.
+        // Calls are counted and not kept, so the room for them is given back. The tape gets the
+        // room of the text that was read before, where it has enough.
         let most = tape.capacity();
         drop(tape);
         drop(routines);

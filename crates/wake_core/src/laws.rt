@@ -1,8 +1,8 @@
 //! Laws over plain worlds: what each event keeps.
 //!
 //! A function here does nothing: its contract is a law of `specs/Laws`, `specs/Way`,
-//! `specs/TapeLaws` or `specs/Bounds`, over the worlds of `specs/Plain`, the events of `specs/Events` and what
-//! `specs/Sound` says of a world.
+//! `specs/TapeLaws` or `specs/Bounds`, over the worlds of `specs/Plain`, the events of
+//! `specs/Events` and what `specs/Sound` says of a world.
 ghost use Rattle.wake_core.specs.Laws.{AcquireLaws, SpendLaws, ReadyLaws, CheckLaws, StopLaws};
 ghost use Rattle.wake_core.specs.Laws.{AskLaws, FetchLaws};
 ghost use Rattle.wake_core.specs.Laws.{TapeLaws, SendLaws, FillLaws, LookLaws, ClearLaws};

@@ -8,8 +8,7 @@
 //! events between two of them; `specs/Sound` what holds of every one that events reach;
 //! `specs/Way` how events lead from one to another; `specs/LawfulRun` how a run ends. The laws of
 //! `specs/Laws`, of the events, `specs/Way`, `specs/TapeLaws` and `specs/Bounds` are the contracts
-//! of [`laws`]. `specs/Parts` says what the parts show into
-//! which a world is taken apart.
+//! of [`laws`]. `specs/Parts` says what the parts show into which a world is taken apart.
 #![tactic(auto)]
 
 mod entries;

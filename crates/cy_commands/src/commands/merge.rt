@@ -105,8 +105,8 @@ fn write_in_time<'a, S: Store>(
     }
 }
 
-// What is due for `merge` of records, where another file is named for what is written. It takes room
-// for the line before it reads.
+// What is due for `merge` of records, where another file is named for what is written. It takes
+// room for the line before it reads.
 fn merge_apart<'a, S: Store, R: Threads + Sync>(
     rt: &R,
     alloc: Global,
