@@ -51,6 +51,8 @@ fn kind_of(fault: &Fault) -> &'static str {
         Fault::Unlawful => "Unlawful",
         Fault::Also { .. } => "Also",
         Fault::Differs { .. } => "Differs",
+        Fault::TypesDiffer { .. } => "TypesDiffer",
+        Fault::DescriptionsDiffer { .. } => "DescriptionsDiffer",
     }
 }
 
