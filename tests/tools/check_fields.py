@@ -66,11 +66,11 @@ def odd_description():
 
 
 def deep_description():
-    """The description of deep.T1, whose messages hold others of twenty types, one within the other."""
+    """The description of deep.Level1, whose messages hold others of twenty types, one within the other."""
     file = descriptor_pb2.FileDescriptorProto(name="deep.proto", package="deep", syntax="proto2")
     for place in range(1, 21):
-        inner = [("next", FIELD.TYPE_MESSAGE, FIELD.LABEL_OPTIONAL, f".deep.T{place + 1}")] if place < 20 else []
-        add_fields(file.message_type.add(name=f"T{place}"), [("n", FIELD.TYPE_SINT32, FIELD.LABEL_OPTIONAL, None), *inner])
+        inner = [("next", FIELD.TYPE_MESSAGE, FIELD.LABEL_OPTIONAL, f".deep.Level{place + 1}")] if place < 20 else []
+        add_fields(file.message_type.add(name=f"Level{place}"), [("n", FIELD.TYPE_SINT32, FIELD.LABEL_OPTIONAL, None), *inner])
     return block(1, file.SerializeToString())
 
 
@@ -135,9 +135,9 @@ def main():
     write("odd.rec", [(b'/o\n"dd', 1, b"")], {b'/o\n"dd': (b"odd.Odd", odd_description())})
     if printed("odd.rec", "--scale", "100") != WANTED:
         fail(f"odd.rec: {printed('odd.rec', '--scale', '100')}")
-    write("deep.rec", [(b"/deep", 1, b"")], {b"/deep": (b"deep.T1", deep_description())})
+    write("deep.rec", [(b"/deep", 1, b"")], {b"/deep": (b"deep.Level1", deep_description())})
     deep = [f"value {{ channel: \"/deep\" path: [{'2, ' * k}1] kind: SINT32 }}  # {'next.' * k}n" for k in range(16)]
-    if printed("deep.rec").splitlines() != ["# /deep: deep.T1", *deep, f"# {'next.' * 15}next: a path has at most 16 numbers"]:
+    if printed("deep.rec").splitlines() != ["# /deep: deep.Level1", *deep, f"# {'next.' * 15}next: a path has at most 16 numbers"]:
         fail(f"deep.rec: {printed('deep.rec')}")
     for _ in range(count):
         tape, forms, classes = [], {}, {}
