@@ -4,4 +4,9 @@ use Rattle.cy_comp.specs.declared.options.Options.{Options}
 
 -- The options of a file that has none but the type of the messages.
 abbrev pub options_with : (out_type : List ℕ) → Options
-options_with out_type = record { out_type = out_type; description = []; answers = [] }
+options_with out_type = record {
+  out_type = out_type;
+  description = [];
+  answers = [];
+  values = [];
+}

@@ -2,7 +2,8 @@
 ghost use Rattle.std.specs.Prelude.{◌≡◌, IfOk, IfErr};
 ghost use Rattle.cy_comp.specs.Options.{options_with};
 
-use cy_msg::{Bytes, NamesError, Text};
+use cy_msg::{Bytes, Items, NamesError, Text};
+use cy_value::{ChannelValue, copy_values};
 use std::alloc::Global;
 
 /// What the file of a component may say beside its class, its channel and its overflow. It goes
@@ -15,6 +16,9 @@ pub struct Options {
     pub description: Bytes,
     /// The name of the record that has the answers of the calls; empty where there is none.
     pub answers: Text,
+    /// Where the values of messages are, on the channels that it names. It holds for the whole run,
+    /// whichever component's file says it.
+    pub values: Items<ChannelValue>,
 }
 
 impl Options {
@@ -28,6 +32,7 @@ impl Options {
             out_type: Text::new(alloc, out_type)?,
             description: Bytes::new(alloc, &[])?,
             answers: Text::new(alloc, "")?,
+            values: Items::new(Vec::new(alloc)),
         })
     }
 
@@ -40,6 +45,7 @@ impl Options {
             out_type: Text::new(alloc, self.out_type.as_str())?,
             description: Bytes::new(alloc, self.description.as_slice())?,
             answers: Text::new(alloc, self.answers.as_str())?,
+            values: copy_values(alloc, self.values.as_slice())?,
         })
     }
 }
