@@ -9,6 +9,8 @@ use Rattle.cy_fuse.specs.declared.overflow.Overflow.{Overflow}
 use Rattle.cy_fuse.specs.declared.overflow.Overflow.TheVariants.{Newest, Oldest}
 use Rattle.cy_comp.specs.declared.kind.Kind.{Kind}
 use Rattle.cy_comp.specs.declared.kind.Kind.TheVariants.{External}
+use Rattle.cy_value.specs.Names.{kind_name}
+use Rattle.cy_value.specs.declared.values.ChannelValue.{ChannelValue}
 use Rattle.cy_dag.specs.Wiring.{queue_of_first}
 use Rattle.cy_dag.specs.declared.config.Config.{Config}
 use Rattle.cy_dag.specs.declared.dag.DagComponent.{DagComponent}
@@ -63,6 +65,22 @@ abbrev pub line_by : Option ℕ → DagComponent → Config → List ℕ
 line_by None c config = component_line c config
 line_by (Some interval) c config = timer_line interval c config
 
+-- The numbers of a path, each behind a space.
+abbrev pub path_text : List ℕ → List ℕ
+path_text path = flat_map (λ number. codes " " ++ decimal number) path
+
+-- Where the values of a channel's messages are: the path to their field, its kind, and by what
+-- numbers with a point are multiplied.
+abbrev pub value_line : ChannelValue → List ℕ
+value_line value =
+    codes "value " ++ quoted true value.channel ++ codes " path" ++ path_text value.form.path
+    ++ codes " kind " ++ kind_name value.form.kind ++ codes " scale " ++ decimal value.form.scale
+    ++ codes "\n"
+
+-- The line of a component, and then those of the values that its file gives.
+abbrev pub lines_of : DagComponent → Config → List ℕ
+lines_of c config = line_by c.interval c config ++ flat_map value_line config.options.values
+
 -- The name of the component with a number.
 abbrev pub name_in : List DagComponent → ℕ → List ℕ
 name_in components c = unwrap_or (option_map (λ d. d.name) (slice_get components c)) []
@@ -89,11 +107,11 @@ unknown_line file path = codes "unknown " ++ file ++ codes " " ++ path ++ codes 
 abbrev pub unknown_lines : List ℕ → List (List ℕ) → List ℕ
 unknown_lines file paths = flat_map (unknown_line file) paths
 
--- The lines of all components, those of all contexts, and those of the unknown fields of each
--- component file.
+-- The lines of all components and their values, those of all contexts, and those of the unknown
+-- fields of each component file.
 abbrev pub component_lines : List DagComponent → List Config → List ℕ
 component_lines components configs =
-    flat_map (λ p. line_by p.0.interval p.0 p.1) (zip components configs)
+    flat_map (λ p. lines_of p.0 p.1) (zip components configs)
 
 abbrev pub context_lines : List DagComponent → List ContextPlan → List ℕ
 context_lines components contexts = flat_map (context_line components) contexts

@@ -1,5 +1,5 @@
-//! The text that tells what the configuration files of a run say: its components, where they run,
-//! and which fields are not known.
+//! The text that tells what the configuration files of a run say: its components, where the values
+//! of messages are, where the components run, and which fields are not known.
 //!
 //! `specs/CheckText` has the text.
 #![tactic(auto)]

@@ -5,14 +5,16 @@ ghost use Rattle.cy_msg.specs.Quoted.{quoted};
 ghost use Rattle.cy_check.specs.CheckText.{answer_count, answers_of, component_line};
 ghost use Rattle.cy_check.specs.CheckText.{component_lines, config_lines};
 ghost use Rattle.cy_check.specs.CheckText.{context_head, context_line, context_lines, name_in};
-ghost use Rattle.cy_check.specs.CheckText.{interval_text, line_by, order_text, overflow_text};
-ghost use Rattle.cy_check.specs.CheckText.{spaced, timer_line, unknown_lines};
+ghost use Rattle.cy_check.specs.CheckText.{interval_text, line_by, lines_of, order_text};
+ghost use Rattle.cy_check.specs.CheckText.{overflow_text, path_text, spaced, timer_line};
+ghost use Rattle.cy_check.specs.CheckText.{unknown_lines, value_line};
 ghost use Rattle.cy_dag.specs.Wiring.{queue_of_first};
 
 use cy_comp::Kind;
 use cy_dag::{Config, DagComponent, DagReader};
 use cy_fuse::Overflow;
 use cy_msg::{ContextPlan, Text, push_quoted};
+use cy_value::ChannelValue;
 use std::io;
 use std::io::Write;
 
@@ -27,9 +29,17 @@ pub(crate) fn push_components(
         ≡ to.old.items ++ component_lines components.now configs.now) }
 {
     for (place, component) in components.iter().enumerate() {
-        push_line(to, component, &configs[place])?;
+        push_lines(to, component, &configs[place])?;
     }
     Ok(())
+}
+
+// A component, and what its file says of the values of channels.
+fn push_lines(to: &mut Vec<u8>, component: &DagComponent, config: &Config) -> io::Result<()>
+    ensures { OnOk result (to.new.items ≡ to.old.items ++ lines_of component.now config.now) }
+{
+    push_line(to, component, config)?;
+    push_values(to, config.options.values.as_slice())
 }
 
 // A component of either kind.
@@ -85,6 +95,42 @@ fn push_component(to: &mut Vec<u8>, component: &DagComponent, config: &Config) -
     push_overflow(to, config.overflow)?;
     push_answers(to, config)?;
     writeln!(to, "")
+}
+
+// Where the values of messages are, on channels.
+fn push_values(to: &mut Vec<u8>, values: &[ChannelValue]) -> io::Result<()>
+    ensures { OnOk result (to.new.items ≡ to.old.items ++ flat_map value_line values.now) }
+{
+    for value in values {
+        push_value(to, value)?;
+    }
+    Ok(())
+}
+
+// Where the values of a channel's messages are.
+fn push_value(to: &mut Vec<u8>, value: &ChannelValue) -> io::Result<()>
+    ensures { OnOk result (to.new.items ≡ to.old.items ++ value_line value.now) }
+{
+    write!(to, "value ")?;
+    push_name(to, value.channel.as_str())?;
+    write!(to, " path")?;
+    push_path(to, value.form.path.as_slice())?;
+    writeln!(
+        to,
+        " kind {} scale {}",
+        value.form.kind.name(),
+        value.form.scale
+    )
+}
+
+// The numbers of a path, each behind a space.
+fn push_path(to: &mut Vec<u8>, path: &[u32]) -> io::Result<()>
+    ensures { OnOk result (to.new.items ≡ to.old.items ++ path_text path.now) }
+{
+    for number in path {
+        write!(to, " {number}")?;
+    }
+    Ok(())
 }
 
 // What is done where a tuple isn't kept any more.

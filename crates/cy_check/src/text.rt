@@ -19,9 +19,10 @@ pub struct SchedulerFile<'a> {
     pub unknown: &'a [Text],
 }
 
-/// What the configuration files of a run say, in lines: each component of a DAG with its file,
-/// each context of a placement, each field that is not known in the DAG file, the component files
-/// and the scheduler file, and `ok`. The names of files stand as they were given.
+/// What the configuration files of a run say, in lines: each component of a DAG with its file and
+/// behind it the values that this file gives, each context of a placement, each field that is not
+/// known in the DAG file, the component files and the scheduler file, and `ok`. The names of files
+/// stand as they were given.
 pub fn check_text(
     alloc: Global,
     dag_file: &str,

@@ -17,5 +17,6 @@ pub use checks::check;
 pub use error::ConfigError;
 pub use field::{Described, Field, Kind};
 pub use lookup::{
-    i32_under, last_under, message_under, messages_under, text_under, u32_under, whole_under,
+    i32_under, last_under, message_under, messages_under, text_under, u32_under, values_under,
+    whole_under,
 };

@@ -3,8 +3,8 @@ ghost use Rattle.std.specs.Prelude.{◌≡◌, ◌≤◌, IfOk, IfSome, map, opt
 ghost use Rattle.cy_text.specs.Entries.{held_of};
 ghost use Rattle.cy_text.specs.Fields.{size_of};
 ghost use Rattle.cy_config.specs.Kinds.{message_of};
-ghost use Rattle.cy_config.specs.Lookups.{i32_under, last_under, message_under, messages_under};
-ghost use Rattle.cy_config.specs.Lookups.{text_under, u32_under, whole_under};
+ghost use Rattle.cy_config.specs.Lookups.{all_under, i32_under, last_under, message_under};
+ghost use Rattle.cy_config.specs.Lookups.{messages_under, text_under, u32_under, whole_under};
 
 use cy_text::{Tree, Value};
 use std::alloc::{AllocError, Global};
@@ -20,6 +20,24 @@ pub fn last_under<'a>(tree: &'a Tree, name: &str) -> Option<&'a Value>
         }
     }
     last
+}
+
+/// The values under a name, in their order. Its only error is want of memory.
+pub fn values_under<'a>(
+    alloc: Global,
+    tree: &'a Tree,
+    name: &str,
+) -> Result<Vec<&'a Value>, AllocError>
+    ensures { IfOk result (λ found. map (λ v. held_of v.now) found.items
+        ≡ all_under name.now tree.now) }
+{
+    let mut found = Vec::new(alloc);
+    for entry in tree.entries() {
+        if entry.name.as_str() == name {
+            found.push(&entry.value)?;
+        }
+    }
+    Ok(found)
 }
 
 /// The text under a name: none where there is no value, or where the last one isn't a string in

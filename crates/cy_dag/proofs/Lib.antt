@@ -1,8 +1,11 @@
 pub mod ClassSteps
 pub mod DagSteps
 pub mod Found
+pub mod GivenSteps
+pub mod LoopSteps
 pub mod NameSteps
 pub mod PairSteps
+pub mod Powers
 pub mod Queues
 pub mod ReadFacts
 pub mod Repeats
@@ -11,5 +14,6 @@ pub mod TimerFacts
 pub mod TimersTested
 pub mod TriggerCycles
 pub mod TriggerSteps
+pub mod ValueSteps
 pub mod WireSteps
 pub mod WiringFacts

@@ -7,7 +7,7 @@ use Rattle.cy_config.specs.Kinds.{whole_of, is_within}
 use Rattle.cy_config.specs.Lookups.{last_under, text_under, whole_under}
 use Rattle.cy_config.specs.Checks.{first_misfit, unknown_paths}
 use Rattle.cy_config.specs.Refusals.{first_of}
-use Rattle.cy_config.specs.Tables.{single}
+use Rattle.cy_config.specs.Tables.{Rows, single, repeated, field_in}
 use Rattle.cy_config.specs.declared.field.Field.{Field}
 use Rattle.cy_config.specs.declared.field.Kind.TheVariants as field_kind
 use Rattle.cy_fuse.specs.declared.overflow.Overflow.{Overflow}
@@ -21,6 +21,8 @@ use Rattle.cy_dag.specs.declared.config.Config.{Config}
 use Rattle.cy_dag.specs.declared.error.DagError.{DagError}
 use Rattle.cy_dag.specs.declared.error.DagError.TheVariants.{Shape, Missing, UnknownClass, NotWhole}
 use Rattle.cy_dag.specs.declared.error.DagError.TheVariants.{NotOverflow}
+use Rattle.cy_dag.specs.declared.format.ConfigMessage.{ConfigMessage}
+use Rattle.cy_dag.specs.declared.format.ConfigMessage.TheVariants as message
 
 -- The overflow that a word names, and that a value does: nothing with a sign does.
 abbrev pub overflow_word : List ℕ → Option Overflow
@@ -94,8 +96,19 @@ parameter_rows c = map parameter_row (parameters_of c)
 abbrev pub tables_of : Class → List (List Row)
 tables_of c = file_rows ∷ parameter_rows c ∷ option_rows c ∷ []
 
-abbrev pub config_field : Class → List ℕ → Option (Field Class)
-config_field c name = first_of (map (λ rows. field_among rows name) (tables_of c))
+-- The fields of a `value`.
+abbrev pub value_rows : Rows ConfigMessage
+value_rows =
+    (codes "channel", single field_kind.Text)
+    ∷ (codes "path", repeated field_kind.Anything)
+    ∷ (codes "kind", single field_kind.Anything)
+    ∷ (codes "scale", single field_kind.Anything)
+    ∷ []
+
+-- The fields of each message.
+abbrev pub config_field : ConfigMessage → List ℕ → Option (Field ConfigMessage)
+config_field (message.File c) name = first_of (map (λ rows. field_among rows name) (tables_of c))
+config_field message.Value name = field_in value_rows name
 
 -- Why the parameters of a class are refused.
 abbrev pub kind_refusal : ℕ → Class → Fields → Option DagError
@@ -113,7 +126,7 @@ values_refusal component c file =
 -- The first cause for which the file of a component is refused.
 abbrev pub class_refusal : ℕ → Class → Fields → Option DagError
 class_refusal component c file = first_of (
-    option_map (λ path. Shape path) (first_misfit config_field c [] file)
+    option_map (λ path. Shape path) (first_misfit config_field (message.File c) [] file)
     ∷ values_refusal component c file
     ∷ [])
 
@@ -128,7 +141,7 @@ config_of c file = record {
   overflow = unwrap_or (overflow_of file) Newest;
   out = text_in (codes "out") file;
   options = options_in c file;
-  unknown = unknown_paths config_field c [] file;
+  unknown = unknown_paths config_field (message.File c) [] file;
 }
 
 abbrev pub IsConfig : Option Class → Fields → Config → Type 0

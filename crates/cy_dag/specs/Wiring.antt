@@ -12,6 +12,7 @@ use Rattle.cy_comp.specs.declared.wiring.Wiring.{Wiring}
 use Rattle.cy_config.specs.Refusals.{first_of}
 use Rattle.cy_dag.specs.Classes.{class_named, class_of}
 use Rattle.cy_dag.specs.DagFile.{count_of, refuse_if}
+use Rattle.cy_dag.specs.Given.{all_given_refusal}
 use Rattle.cy_dag.specs.Triggers.{writers_refusal, ticks_refusal, triggers_of, cycle_refusal}
 use Rattle.cy_dag.specs.declared.class.Class.{Class}
 use Rattle.cy_dag.specs.declared.config.Config.{Config}
@@ -98,6 +99,7 @@ abbrev pub wire_refusal : List (List ℕ) → List DagComponent → List Config 
 wire_refusal record_channels components configs = first_of (
     outs_refusal components configs
     ∷ cycle_refusal (triggers_of components configs)
+    ∷ all_given_refusal components configs
     ∷ channels_refusal (length (names_of record_channels (zip components configs)))
     ∷ [])
 

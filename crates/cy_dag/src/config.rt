@@ -14,6 +14,7 @@ ghost use Rattle.cy_dag.specs.declared.error.DagError.TheVariants as dag_error;
 use crate::DagError;
 use crate::class::Class;
 use crate::component::{missing, text};
+use crate::format::ConfigMessage;
 use cy_comp::{Kind, Options};
 use cy_config::{check, last_under, text_under};
 use cy_fuse::Overflow;
@@ -37,8 +38,10 @@ pub struct Config {
 }
 
 /// What the file of the component with this number says, whose class has this name. Its errors are
-/// tested in an order: `UnknownClass`, `Shape`, `Missing` of `out`, `NotOverflow`, and then of each
-/// parameter `Missing` or `NotWhole`, and the first one that is due is answered.
+/// tested in an order: `UnknownClass`, `Shape`, `Missing` of `out`, `NotOverflow`, of each
+/// parameter `Missing` or `NotWhole`, `TooManyValues`, and then of each value `Missing` of
+/// `channel` and of `kind`, `PathLength`, `PathNumber`, `NotKind` and `NotScale`; and the first one
+/// that is due is answered.
 pub fn read_component_config(
     alloc: Global,
     tree: &Tree,
@@ -65,7 +68,7 @@ fn read_config(alloc: Global, tree: &Tree, component: u32, class: Class) -> Resu
     ensures of_class { IfOk result (λ config. IsKindOf class config.kind) }
     ensures refused { IfErr result (IsDue (class_refusal component class tree.now)) }
 {
-    let unknown = check(alloc, class, tree)?;
+    let unknown = check(alloc, ConfigMessage::File(class), tree)?;
     match values(alloc, tree, component, class) {
         Ok((kind, overflow, out, options)) => Ok(Config {
             kind,

@@ -84,6 +84,42 @@ pub enum DagError {
         /// The parameter's name.
         field: Text,
     },
+    /// A component file has more than 256 values.
+    TooManyValues {
+        /// How many.
+        count: u32,
+    },
+    /// The path of a value has no number, or more than 16.
+    PathLength {
+        /// The component.
+        component: u32,
+        /// The value's place among those of its file, from 0.
+        value: u32,
+        /// How many.
+        count: u32,
+    },
+    /// In the path of a value, one isn't a whole number from 1 to 536,870,911.
+    PathNumber {
+        /// The component.
+        component: u32,
+        /// The value's place among those of its file, from 0.
+        value: u32,
+    },
+    /// The kind of a value isn't the name of one.
+    NotKind {
+        /// The component.
+        component: u32,
+        /// The value's place among those of its file, from 0.
+        value: u32,
+    },
+    /// The scale of a value isn't a power of ten from 1 to 10 ^ 19; or it isn't 1, and the value's
+    /// kind is neither `FLOAT` nor `DOUBLE`.
+    NotScale {
+        /// The component.
+        component: u32,
+        /// The value's place among those of its file, from 0.
+        value: u32,
+    },
     /// A timer component's interval is 0.
     ZeroInterval {
         /// The component.
@@ -107,6 +143,21 @@ pub enum DagError {
     TriggerCycle {
         /// The components, from the least one that is on a circle, each before its trigger.
         components: Cycle,
+    },
+    /// Two values of one channel differ.
+    ValueDiffers {
+        /// The component whose file gives the first value of that channel.
+        first: u32,
+        /// The least component whose file gives a value that differs from an earlier one.
+        second: u32,
+    },
+    /// A value is of a channel that a component of a built-in class writes, or on which a timer
+    /// component's ticks stand.
+    ValueWritten {
+        /// The least component whose file gives such a value.
+        component: u32,
+        /// The component that writes the channel, or the timer component.
+        writer: u32,
     },
     /// The record, the readers and the components have more than 1,024 different channels.
     TooManyChannels {
@@ -141,6 +192,17 @@ impl DagError {
             }
             Self::NotOverflow { component } => push_one(to, "NotOverflow", *component),
             Self::NotWhole { component, field } => push_of(to, "NotWhole", *component, field),
+            Self::TooManyValues { count } => push_limit(to, "TooManyValues", u64::from(*count)),
+            Self::PathLength {
+                component,
+                value,
+                count,
+            } => push_numbers(to, "PathLength", &[*component, *value, *count]),
+            Self::PathNumber { component, value } => {
+                push_two(to, "PathNumber", *component, *value)
+            }
+            Self::NotKind { component, value } => push_two(to, "NotKind", *component, *value),
+            Self::NotScale { component, value } => push_two(to, "NotScale", *component, *value),
             Self::ZeroInterval { component } => push_one(to, "ZeroInterval", *component),
             Self::TwoWriters { first, second } => push_two(to, "TwoWriters", *first, *second),
             Self::TimerWritten { component, timer } => {
@@ -148,6 +210,10 @@ impl DagError {
             }
             Self::TriggerCycle { components } => {
                 push_numbers(to, "TriggerCycle", components.as_slice())
+            }
+            Self::ValueDiffers { first, second } => push_two(to, "ValueDiffers", *first, *second),
+            Self::ValueWritten { component, writer } => {
+                push_two(to, "ValueWritten", *component, *writer)
             }
             Self::TooManyChannels { count } => {
                 push_limit(to, "TooManyChannels", u64::from(*count))
@@ -162,7 +228,9 @@ impl DagError {
     {
         matches!(
             self,
-            DagError::TooMany { .. } | DagError::TooManyChannels { .. }
+            DagError::TooMany { .. }
+                | DagError::TooManyValues { .. }
+                | DagError::TooManyChannels { .. }
         )
     }
 }

@@ -6,6 +6,7 @@ ghost use Rattle.cy_dag.specs.declared.format.DagMessage.TheVariants.{Component,
 ghost use Rattle.cy_dag.specs.declared.format.DagMessage.TheVariants.{Reader, Settings};
 ghost use Rattle.cy_dag.specs.declared.format.DagMessage.TheVariants.{TimerComponent};
 ghost use Rattle.cy_dag.specs.declared.format.DagMessage.TheVariants.{TimerSettings};
+ghost use Rattle.cy_dag.specs.declared.format.ConfigMessage.TheVariants as config_message;
 
 use crate::class::Class;
 use cy_config::{Described, Field, Kind};
@@ -120,15 +121,45 @@ fn timer_settings_field(name: &str) -> Option<Field<DagMessage>>
     }
 }
 
-impl Described for Class {
+// The messages of a component file: the file of a class, and in it values of channels.
+#[derive(Clone, Copy)]
+pub enum ConfigMessage {
+    File(Class),
+    Value,
+}
+
+impl Described for ConfigMessage {
     ghost field = { config_field };
 
-    fn field(self, name: &str) -> Option<Field<Class>> {
-        match name {
-            "out" => Some(Field::single(Kind::Text)),
-            "on_overflow" => Some(Field::single(Kind::Anything)),
-            _ if self.has_parameter(name) => Some(Field::single(Kind::Anything)),
-            _ => self.option(name),
+    fn field(self, name: &str) -> Option<Field<ConfigMessage>> {
+        match self {
+            ConfigMessage::File(class) => class_field(class, name),
+            ConfigMessage::Value => value_field(name),
         }
+    }
+}
+
+// The file of a class.
+fn class_field(class: Class, name: &str) -> Option<Field<ConfigMessage>>
+    ensures { result ≡ config_field (config_message.File class) name.now }
+{
+    match name {
+        "out" => Some(Field::single(Kind::Text)),
+        "on_overflow" => Some(Field::single(Kind::Anything)),
+        _ if class.has_parameter(name) => Some(Field::single(Kind::Anything)),
+        _ => class.option(name),
+    }
+}
+
+// One of `value`.
+fn value_field(name: &str) -> Option<Field<ConfigMessage>>
+    ensures { result ≡ config_field config_message.Value name.now }
+{
+    match name {
+        "channel" => Some(Field::single(Kind::Text)),
+        "path" => Some(Field::repeated(Kind::Anything)),
+        "kind" => Some(Field::single(Kind::Anything)),
+        "scale" => Some(Field::single(Kind::Anything)),
+        _ => None,
     }
 }

@@ -3,8 +3,9 @@
 //!
 //! `specs/Format` has the fields of a DAG file, `specs/DagFile` what it says and the first cause of
 //! a refusal, `specs/ConfigFile` the same of a component file, but for `specs/Options`, where each
-//! optional field is a row. `specs/Classes` has the classes by their names,
-//! `specs/Triggers` which components write one channel or trigger one another in a circle, and
+//! optional field is a row, and `specs/Values`, where the values of messages are. `specs/Classes`
+//! has the classes by their names, `specs/Triggers` which components write one channel or trigger
+//! one another in a circle, `specs/Given` which values of all files don't go together, and
 //! `specs/Wiring` the wiring of all. `specs/FaultText` says how a refusal is told.
 #![tactic(auto)]
 
@@ -16,11 +17,13 @@ mod cycle;
 mod dag;
 mod error;
 mod format;
+mod given;
 mod options;
 mod plan;
 mod read;
 mod timer;
 mod triggers;
+mod values;
 mod wiring;
 
 pub use config::{Config, read_component_config};
@@ -28,4 +31,5 @@ pub use cycle::Cycle;
 pub use dag::{Dag, DagComponent, DagReader, MOST_COMPONENTS, MOST_READERS};
 pub use error::DagError;
 pub use read::read_dag;
+pub use values::MOST_VALUES;
 pub use wiring::wire;

@@ -7,6 +7,8 @@ ghost use Rattle.cy_dag.specs.Refusals.{IsDue};
 use crate::DagError;
 use crate::class::Class;
 use crate::component::text;
+use crate::format::ConfigMessage;
+use crate::values::values;
 use cy_comp::Options;
 use cy_config::{Field, Kind};
 use cy_msg::{Bytes, NamesError, Text};
@@ -15,12 +17,13 @@ use std::alloc::Global;
 
 impl Class {
     // The option of a name, where a file of this class may have one.
-    pub(crate) fn option(self, name: &str) -> Option<Field<Class>>
+    pub(crate) fn option(self, name: &str) -> Option<Field<ConfigMessage>>
         ensures { result ≡ field_among (option_rows self) name.now }
     {
         match name {
             "out_type" => Some(Field::single(Kind::Text)),
             "answers" if self.has_answers() => Some(Field::single(Kind::Text)),
+            "value" => Some(Field::repeated(Kind::Message(ConfigMessage::Value))),
             _ => None,
         }
     }
@@ -60,6 +63,7 @@ impl Class {
             out_type: text(alloc, tree, "out_type")?,
             description: Bytes::new(alloc, &[])?,
             answers: self.answers(alloc, tree)?,
+            values: values(alloc, tree, component)?,
         })
     }
 }

@@ -84,7 +84,7 @@ fn timer_written(components: &[DagComponent], configs: &[Config], component: usi
 }
 
 // The first timer component whose ticks stand on a channel.
-fn timer_named(components: &[DagComponent], channel: &str) -> Option<usize>
+pub(crate) fn timer_named(components: &[DagComponent], channel: &str) -> Option<usize>
     ensures { result ≡ timer_named components.now channel.now }
 {
     components.iter().position(|c| ticks_on(c, channel))

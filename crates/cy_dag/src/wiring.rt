@@ -7,6 +7,7 @@ ghost use Rattle.cy_dag.specs.Wiring.{wire_refusal};
 ghost use Rattle.cy_msg.specs.Once.{IsOnce};
 
 use crate::channels::{count_different, mentions, names};
+use crate::given::test_given;
 use crate::plan::plans;
 use crate::read::count_of;
 use crate::triggers::{test_cycles, test_outs};
@@ -18,8 +19,8 @@ use std::alloc::Global;
 /// The wiring of a DAG's components, with the file of each, over the channels of a record. The
 /// channels are numbered in the order in which they are first mentioned: those of the record, and
 /// then of each component those that it reads and the one that it writes. Its errors are tested in
-/// an order: `TwoWriters`, `TimerWritten`, `TriggerCycle` and `TooManyChannels`, and the first one
-/// that is due is answered.
+/// an order: `TwoWriters`, `TimerWritten`, `TriggerCycle`, `ValueDiffers`, `ValueWritten` and
+/// `TooManyChannels`, and the first one that is due is answered.
 pub fn wire(
     alloc: Global,
     dag: &Dag,
@@ -36,6 +37,7 @@ pub fn wire(
     let components = dag.components.as_slice();
     test_outs(components, configs)?;
     test_cycles(alloc, components, configs)?;
+    test_given(alloc, components, configs)?;
     let names = channel_names(alloc, record_channels, components, configs)?;
     match plans(alloc, &names, components, configs) {
         Ok(plans) => Ok(Wiring::new(names, Items::new(plans))),

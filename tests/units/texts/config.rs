@@ -8,4 +8,5 @@ mod placements;
 mod scheds;
 mod shapes;
 mod texts;
+mod values;
 mod wirings;

@@ -88,6 +88,25 @@ fn tells_components_contexts_and_unknown_fields(rt: HostRuntime) -> Result<(), F
             context \"default_grp\" processors 2 order \"e\" \"t\"\n\
             unknown s.conf scheduler_conf.depth\nok\n",
         ),
+        (
+            "module_config { components { class_name: \"PassComponent\" \
+            config { name: \"p\" config_file_path: \"p\" readers { channel: \"/a\" } } } \
+            timer_components { class_name: \"CountComponent\" \
+            config { name: \"t\" config_file_path: \"t\" interval: 20 } } }",
+            &[
+                "value { channel: \"/\\n\" path: [1, 536870911, 3] kind: DOUBLE \
+                scale: 10000000000000000000 } out: \"/o\" \
+                value { channel: \"/a\" path: 7 kind: SFIXED32 }",
+                "out: \"/q\" value { channel: \"/b\" path: 2 path: 4 kind: FLOAT scale: 1 }",
+            ],
+            "component \"p\" class PassComponent reads \"/a\" queue 1 writes \"/o\"\n\
+            value \"/\\n\" path 1 536870911 3 kind DOUBLE scale 10000000000000000000\n\
+            value \"/a\" path 7 kind SFIXED32 scale 1\n\
+            timer \"t\" class CountComponent every 20 ms writes \"/q\"\n\
+            value \"/b\" path 2 4 kind FLOAT scale 1\n\
+            context \"default_grp\" processors 2 order \"p\" \"t\"\n\
+            unknown s.conf scheduler_conf.depth\nok\n",
+        ),
     ] {
         let text = told(&rt, dag, files)?;
         assert_eq!(rt; text.as_str(), want);

@@ -20,10 +20,17 @@ fn name_of(error: &DagError) -> &'static str {
         DagError::TooFewReaders { .. } => "TooFewReaders",
         DagError::NotOverflow { .. } => "NotOverflow",
         DagError::NotWhole { .. } => "NotWhole",
+        DagError::TooManyValues { .. } => "TooManyValues",
+        DagError::PathLength { .. } => "PathLength",
+        DagError::PathNumber { .. } => "PathNumber",
+        DagError::NotKind { .. } => "NotKind",
+        DagError::NotScale { .. } => "NotScale",
         DagError::ZeroInterval { .. } => "ZeroInterval",
         DagError::TwoWriters { .. } => "TwoWriters",
         DagError::TimerWritten { .. } => "TimerWritten",
         DagError::TriggerCycle { .. } => "TriggerCycle",
+        DagError::ValueDiffers { .. } => "ValueDiffers",
+        DagError::ValueWritten { .. } => "ValueWritten",
         DagError::TooManyChannels { .. } => "TooManyChannels",
         DagError::Memory => "Memory",
     }
@@ -32,7 +39,9 @@ fn name_of(error: &DagError) -> &'static str {
 // Its first number and its second.
 fn numbers_of(error: &DagError) -> (Option<u32>, Option<u32>) {
     match error {
-        DagError::TooMany { count } | DagError::TooManyChannels { count } => (Some(*count), None),
+        DagError::TooMany { count }
+        | DagError::TooManyChannels { count }
+        | DagError::TooManyValues { count } => (Some(*count), None),
         DagError::Missing { component, .. }
         | DagError::UnknownClass { component }
         | DagError::NoReader { component }
@@ -42,9 +51,16 @@ fn numbers_of(error: &DagError) -> (Option<u32>, Option<u32>) {
         | DagError::NotWhole { component, .. } => (Some(*component), None),
         DagError::TooManyReaders { component, count }
         | DagError::TooFewReaders { component, count } => (Some(*component), Some(*count)),
-        DagError::NameTwice { first, second } | DagError::TwoWriters { first, second } => {
-            (Some(*first), Some(*second))
+        DagError::NameTwice { first, second }
+        | DagError::TwoWriters { first, second }
+        | DagError::ValueDiffers { first, second } => (Some(*first), Some(*second)),
+        DagError::PathLength {
+            component, value, ..
         }
+        | DagError::PathNumber { component, value }
+        | DagError::NotKind { component, value }
+        | DagError::NotScale { component, value } => (Some(*component), Some(*value)),
+        DagError::ValueWritten { component, writer } => (Some(*component), Some(*writer)),
         DagError::TimerWritten { component, timer } => (Some(*component), Some(*timer)),
         _ => (None, None),
     }
@@ -78,6 +94,9 @@ pub(crate) fn refusal(rt: &HostRuntime, error: &DagError) -> Result<String, Fail
     if let Some(text) = text_of(error) {
         line.push_str(" ")?;
         line.push_str(text)?;
+    }
+    if let DagError::PathLength { count, .. } = error {
+        push_number(rt, &mut line, *count)?;
     }
     if let DagError::TriggerCycle { components } = error {
         for component in components.as_slice() {

@@ -62,7 +62,7 @@ fn line_of(rt: &HostRuntime, wiring: &Wiring) -> Result<String, Fail> {
 }
 
 // The wiring of components with these files, or why there is none, in one line.
-fn wired(
+pub(crate) fn wired(
     rt: &HostRuntime,
     components: &str,
     files: &[&str],
@@ -79,7 +79,7 @@ fn wired(
 }
 
 // A component of a name that sums these channels.
-fn sums(rt: &HostRuntime, name: &str, channels: &[&str]) -> Result<String, Fail> {
+pub(crate) fn sums(rt: &HostRuntime, name: &str, channels: &[&str]) -> Result<String, Fail> {
     let mut text = format!(in rt.alloc();
         "components {{ class_name: \"SumComponent\" config {{ name: \"{name}\" \
         config_file_path: \"f\""
@@ -115,7 +115,7 @@ fn numbers_channels_as_they_are_mentioned(rt: HostRuntime) -> Result<(), Fail> {
 }
 
 // A timer component of a name that counts its ticks.
-fn counts(rt: &HostRuntime, name: &str) -> Result<String, Fail> {
+pub(crate) fn counts(rt: &HostRuntime, name: &str) -> Result<String, Fail> {
     Ok(format!(in rt.alloc();
         "timer_components {{ class_name: \"CountComponent\" config {{ name: \"{name}\" \
         config_file_path: \"f\" interval: 7 }} }} "

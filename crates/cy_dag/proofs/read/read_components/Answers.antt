@@ -1,6 +1,5 @@
-use Rattle.std.proofs.Common.{List, Bor, ◌≡◌, ap, ◌∙◌, codes, map}
+use Rattle.std.proofs.Common.{List, Bor, ap, ◌∙◌, codes, map}
 use Rattle.cy_text.specs.Fields.{Fields}
-use Rattle.cy_dag.specs.DagFile.{in_modules}
 use Rattle.cy_dag.proofs.DagSteps.{all_components, fields_accepted, fields_refused, found_is}
 use Rattle.cy_dag.proofs.read.read_components.Goals as goal
 

@@ -33,6 +33,21 @@ returns-in-NotOverflow c = rw c.in-NotOverflow.is c.push_one-in-NotOverflow.ensu
 pub returns-in-NotWhole : goal.returns-in-NotWhole
 returns-in-NotWhole c = rw c.in-NotWhole.is c.push_of-in-NotWhole.ensures
 
+pub returns-in-TooManyValues : goal.returns-in-TooManyValues
+returns-in-TooManyValues c = rw c.in-TooManyValues.is (rw c.from-in-TooManyValues.ensures at c.push_limit-in-TooManyValues.ensures)
+
+pub returns-in-PathLength : goal.returns-in-PathLength
+returns-in-PathLength c = rw c.in-PathLength.is c.push_numbers.ensures
+
+pub returns-in-PathNumber : goal.returns-in-PathNumber
+returns-in-PathNumber c = rw c.in-PathNumber.is c.push_two-in-PathNumber.ensures
+
+pub returns-in-NotKind : goal.returns-in-NotKind
+returns-in-NotKind c = rw c.in-NotKind.is c.push_two-in-NotKind.ensures
+
+pub returns-in-NotScale : goal.returns-in-NotScale
+returns-in-NotScale c = rw c.in-NotScale.is c.push_two-in-NotScale.ensures
+
 pub returns-in-ZeroInterval : goal.returns-in-ZeroInterval
 returns-in-ZeroInterval c = rw c.in-ZeroInterval.is c.push_one-in-ZeroInterval.ensures
 
@@ -43,7 +58,13 @@ pub returns-in-TimerWritten : goal.returns-in-TimerWritten
 returns-in-TimerWritten c = rw c.in-TimerWritten.is c.push_two-in-TimerWritten.ensures
 
 pub returns-in-TriggerCycle : goal.returns-in-TriggerCycle
-returns-in-TriggerCycle c = rw c.in-TriggerCycle.is (rw c.as_slice.ensures at c.push_numbers.ensures)
+returns-in-TriggerCycle c = rw c.in-TriggerCycle.is (rw c.as_slice.ensures at c.push_numbers-in-TriggerCycle.ensures)
+
+pub returns-in-ValueDiffers : goal.returns-in-ValueDiffers
+returns-in-ValueDiffers c = rw c.in-ValueDiffers.is c.push_two-in-ValueDiffers.ensures
+
+pub returns-in-ValueWritten : goal.returns-in-ValueWritten
+returns-in-ValueWritten c = rw c.in-ValueWritten.is c.push_two-in-ValueWritten.ensures
 
 pub returns-in-TooManyChannels : goal.returns-in-TooManyChannels
 returns-in-TooManyChannels c = rw c.in-TooManyChannels.is (rw c.from-in-TooManyChannels.ensures at c.push_limit-in-TooManyChannels.ensures)
