@@ -15,7 +15,7 @@ use Rattle.cy_timer.specs.Timers.{timers_of}
 use Rattle.cy_replay.specs.Listing.{IsListed, choice_of}
 use Rattle.cy_replay.specs.Wiring.{Wired}
 use Rattle.cy_reader.specs.Record.{Contents}
-use Rattle.cy_reader.specs.Play.{Choice, IsPlayList, number_at, time_at, tokens_behind}
+use Rattle.cy_reader.specs.Play.{Choice, IsPlayList, number_at, time_at, tokens_behind, value_at}
 
 less : (a b : ℕ) → a < b → is_lt (nat_cmp a b) ≡ true
 less a b l = sym (ap is_lt (nat_cmp_is a b ordering.Less l))
@@ -111,7 +111,7 @@ one_list whole choice a b p q =
     let places = one_order (time_at whole) a.places b.places p.order.by_time q.order.by_time (λ z. p.order.stable z ∙ sym (q.order.stable z)) in
     record {
       places = places;
-      tokens = p.tokens ∙ ap (tokens_behind (number_at whole choice) whole []) places ∙ sym q.tokens;
+      tokens = p.tokens ∙ ap (tokens_behind (number_at whole choice) (value_at whole choice) whole []) places ∙ sym q.tokens;
       shadowed = p.shadowed ∙ sym q.shadowed;
     }
 

@@ -11,6 +11,7 @@ use Rattle.cy_fuse.specs.declared.overflow.Overflow.TheVariants.{Newest}
 use Rattle.cy_comp.specs.Options.{options_with}
 use Rattle.cy_comp.specs.declared.kind.Kind.{Kind}
 use Rattle.cy_comp.specs.declared.kind.Kind.TheVariants as kind
+use Rattle.cy_dag.specs.Values.{each_refusal}
 use Rattle.cy_dag.specs.Classes.{class_named}
 use Rattle.cy_dag.specs.declared.config.Config as dag
 use Rattle.cy_replay.specs.Configuration.{config_by}
@@ -38,17 +39,17 @@ abbrev pub IsTaken : (component : ℕ) (class text : List ℕ) → dag.Config �
 IsTaken component class text config = (fields : Fields) × (fields_of_text text ≡ Ok fields) × (config_by component (class_named class) fields ≡ Ok config)
 
 pub adder_taken : (prefix : List ℕ) → IsTaken 0 (codes "SumComponent") (text_of prefix Adder) sums
-unfolding is_utf8 chars lib.Utf8.encode read_text read after_token at_field after_name after_colon at_value placed after_value after_string after_sign finish ends_value all_closed mark_of word_at token_at tokens_from string_from string_at number_at decimal_at zero_at whole_at pointed_at value_of exponent_len tail_len
+unfolding each_refusal is_utf8 chars lib.Utf8.encode read_text read after_token at_field after_name after_colon at_value placed after_value after_string after_sign finish ends_value all_closed mark_of word_at token_at tokens_from string_from string_at number_at decimal_at zero_at whole_at pointed_at value_of exponent_len tail_len
 adder_taken prefix = (_, refl, refl)
 
 pub band_taken : (prefix : List ℕ) → IsTaken 1 (codes "FilterComponent") (text_of prefix Band) filters
-unfolding is_utf8 chars lib.Utf8.encode read_text read after_token at_field after_name after_colon at_value placed after_value after_string after_sign finish ends_value all_closed mark_of word_at token_at tokens_from string_from string_at number_at decimal_at zero_at whole_at pointed_at value_of exponent_len tail_len
+unfolding each_refusal is_utf8 chars lib.Utf8.encode read_text read after_token at_field after_name after_colon at_value placed after_value after_string after_sign finish ends_value all_closed mark_of word_at token_at tokens_from string_from string_at number_at decimal_at zero_at whole_at pointed_at value_of exponent_len tail_len
 band_taken prefix = (_, refl, refl)
 
 pub last8_taken : (prefix : List ℕ) → IsTaken 2 (codes "WindowComponent") (text_of prefix Last8) averages
-unfolding is_utf8 chars lib.Utf8.encode read_text read after_token at_field after_name after_colon at_value placed after_value after_string after_sign finish ends_value all_closed mark_of word_at token_at tokens_from string_from string_at number_at decimal_at zero_at whole_at pointed_at value_of exponent_len tail_len
+unfolding each_refusal is_utf8 chars lib.Utf8.encode read_text read after_token at_field after_name after_colon at_value placed after_value after_string after_sign finish ends_value all_closed mark_of word_at token_at tokens_from string_from string_at number_at decimal_at zero_at whole_at pointed_at value_of exponent_len tail_len
 last8_taken prefix = (_, refl, refl)
 
 pub late_taken : (prefix : List ℕ) → IsTaken 3 (codes "HoldComponent") (text_of prefix Late) holds_back
-unfolding is_utf8 chars lib.Utf8.encode read_text read after_token at_field after_name after_colon at_value placed after_value after_string after_sign finish ends_value all_closed mark_of word_at token_at tokens_from string_from string_at number_at decimal_at zero_at whole_at pointed_at value_of exponent_len tail_len
+unfolding each_refusal is_utf8 chars lib.Utf8.encode read_text read after_token at_field after_name after_colon at_value placed after_value after_string after_sign finish ends_value all_closed mark_of word_at token_at tokens_from string_from string_at number_at decimal_at zero_at whole_at pointed_at value_of exponent_len tail_len
 late_taken prefix = (_, refl, refl)

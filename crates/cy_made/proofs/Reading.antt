@@ -13,6 +13,7 @@ use Rattle.cy_dag.specs.DagFile.{components_of, dag_refusal, unknown_in_dag}
 use Rattle.cy_dag.specs.declared.config.Config as dag
 use Rattle.cy_dag.specs.declared.dag.DagComponent.{DagComponent}
 use Rattle.cy_sched.specs.SchedFile.{default_sched}
+use Rattle.cy_replay.specs.Values.{valued_configs}
 use Rattle.cy_replay.specs.declared.error.Fault.TheVariants as fault
 use Rattle.cy_replay.specs.declared.error.Refusal.{Refusal}
 use Rattle.cy_replay.specs.AnswersFile.{answered_by, answered_in, answers_file}
@@ -133,5 +134,5 @@ module _ (n : ℕ) (prefix : List ℕ) (files : Files) (small : length prefix �
   pub configuration_there : configuration_in (prefix ++ suffix_of Dag) None all ≡ Accepts configured
   configuration_there =
       follow (dag_in (prefix ++ suffix_of Dag) all) says
-      (λ (d : DagSays). configs_in d.components all >>= λ cs. sched_in None all >>= λ sched. Accepts record { dag = d; configs = cs; sched = sched }) dag_there
-      ∙ follow (configs_in (made prefix) all) configs (λ (cs : List dag.Config). Accepts record { dag = says; configs = cs; sched = default_sched }) configs_there
+      (λ (d : DagSays). configs_in d.components all >>= λ cs. sched_in None all >>= λ sched. Accepts record { dag = d; configs = valued_configs cs; sched = sched }) dag_there
+      ∙ follow (configs_in (made prefix) all) configs (λ (cs : List dag.Config). Accepts record { dag = says; configs = valued_configs cs; sched = default_sched }) configs_there

@@ -2,6 +2,7 @@
 -- entries are planned.
 use Rattle.std.proofs.Common.{◌≡◌, ◌≤◌, ℕ, List, [], ◌∷◌, Bool, true, false, if◌then◌else◌, None, codes, refl, arith, zip}
 use Rattle.cy_comp.specs.declared.plan.Plan.{Plan}
+use Rattle.cy_dag.specs.Given.{differs_refusal, written_refusal}
 use Rattle.cy_dag.specs.Triggers.{writers_refusal, ticks_refusal, cycle_refusal, way_back}
 use Rattle.cy_dag.specs.Wiring.{names_of, plans_of, wire_refusal}
 use Rattle.cy_dag.specs.declared.config.Config as dag
@@ -24,7 +25,7 @@ abbrev pub plans : List Plan
 plans = plans_of names (zip (four [] [] [] []) configs)
 
 pub wired : (one : Bool) (a b c d : List ℕ) → wire_refusal (channels one) (four a b c d) configs ≡ None
-unfolding writers_refusal ticks_refusal cycle_refusal way_back
+unfolding writers_refusal ticks_refusal cycle_refusal way_back differs_refusal written_refusal
 wired true a b c d = refl
 wired false a b c d = refl
 

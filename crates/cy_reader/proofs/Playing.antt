@@ -1,5 +1,5 @@
 -- Messages that are played: their places, and their numbers.
-use Rattle.std.proofs.Common.{◌≡◌, ◌≤◌, ◌<◌, ℕ, zero, suc, ◌+◌, List, [], ◌∷◌, ◌++◌, length, take, get_or, refl, ap, sym, ◌∙◌, subst, arith, Some, None, Option, Bool, true, false, not, cond, length-append, length-take, All, slice_get, IfSome, set, inl, inr, Ok, append_assoc, append-nil, ltb-false}
+use Rattle.std.proofs.Common.{◌≡◌, ◌≤◌, ◌<◌, ℕ, ℤ, zero, suc, ◌+◌, List, [], ◌∷◌, ◌++◌, length, take, get_or, refl, ap, sym, ◌∙◌, subst, arith, Some, None, Option, Bool, true, false, not, cond, length-append, length-take, All, slice_get, IfSome, set, inl, inr, Ok, append_assoc, append-nil, ltb-false}
 use Rattle.std.specs.Prelude.{filter, ◌==◌, unwrap_or, ◌&&◌, ◌⊎◌}
 use Rattle.std.specs.List.{position, Contains}
 use Rattle.std.specs.List.Sorted.{IsPermutation, IsSortedByKey, IsStableByKey}
@@ -15,7 +15,9 @@ use Rattle.std.proofs.lemmas.Bool.{eqb-true, eqb-false}
 use Rattle.std.proofs.lemmas.List.Quantifiers.{position-Some}
 use Rattle.std.proofs.lemmas.List.Sums.{prefix_len_passes}
 use Rattle.std.proofs.lemmas.Slice.Eq.{bytes_eq-Decides}
-use Rattle.cy_wire.specs.Whole.{whole_value}
+use Rattle.cy_value.specs.Values.{form_at, value_by}
+use Rattle.cy_value.specs.declared.form.ValueForm.{ValueForm}
+use Rattle.cy_value.proofs.Places.{form-at_place}
 use Rattle.cy_msg.specs.Once.{IsOnce}
 use Rattle.cy_msg.specs.Tokens.{on_channel, AreOf, IsNumbered, IsTimed}
 use Rattle.cy_msg.specs.declared.token.Token.{Token}
@@ -26,9 +28,9 @@ use Rattle.cy_reader.specs.Record.{Contents, Message, named_only}
 use Rattle.cy_reader.proofs.Sums.{none_found}
 use Rattle.cy_request.specs.declared.filter.Filter.{Filter}
 use Rattle.cy_reader.specs.declared.play.ChannelUse.{ChannelUse}
-use Rattle.cy_reader.specs.private.Uses.{AreUses, no_use, use_of, number_by, use_at, passes_by, is_played_by, is_shadowed_by, played_by, shadowed_by}
+use Rattle.cy_reader.specs.private.Uses.{AreUses, no_use, use_of, number_by, use_at, value_from, passes_by, is_played_by, is_shadowed_by, played_by, shadowed_by}
 use Rattle.cy_request.specs.Filter.{lets_time}
-use Rattle.cy_reader.specs.Play.{Choice, PlayAnswer, IsOrder, most_played, all_places, chosen, is_played, is_shadowed, number_at, places_below, time_at, message_at, token_behind, tokens_behind, number_in, name_of, AreNamed}
+use Rattle.cy_reader.specs.Play.{Choice, PlayAnswer, IsOrder, most_played, all_places, chosen, is_played, is_shadowed, number_at, places_below, time_at, message_at, token_behind, tokens_behind, number_in, name_of, value_at, AreNamed}
 
 -- tests that agree on each element
 pub filter_alike : {X : Type 0} (p q : X → Bool) (xs : List X) → All (λ x. p x ≡ q x) xs → filter p xs ≡ filter q xs
@@ -48,37 +50,37 @@ one true t place ts ps e = ap suc e
 one false t place ts ps e = e
 
 -- the messages on a channel, among places and among their tokens
-module _ (number : ℕ → ℕ) (whole : Contents) where
-  pub length-tokens : (before places : List ℕ) → length (tokens_behind number whole before places) ≡ length places
+module _ (number : ℕ → ℕ) (value : ℕ → Option ℤ) (whole : Contents) where
+  pub length-tokens : (before places : List ℕ) → length (tokens_behind number value whole before places) ≡ length places
   length-tokens before [] = refl
   length-tokens before (place ∷ rest) = ap suc (length-tokens (before ++ place ∷ []) rest)
 
-  pub tokens-push : (before places : List ℕ) (place : ℕ) → tokens_behind number whole before (places ++ place ∷ []) ≡ tokens_behind number whole before places ++ token_behind number whole (before ++ places) place ∷ []
-  tokens-push before [] place = ap (λ (b : List ℕ). token_behind number whole b place ∷ []) (sym (append-nil before))
+  pub tokens-push : (before places : List ℕ) (place : ℕ) → tokens_behind number value whole before (places ++ place ∷ []) ≡ tokens_behind number value whole before places ++ token_behind number value whole (before ++ places) place ∷ []
+  tokens-push before [] place = ap (λ (b : List ℕ). token_behind number value whole b place ∷ []) (sym (append-nil before))
   tokens-push before (first ∷ rest) place =
-      ap (λ (ts : List Token). token_behind number whole before first ∷ ts)
+      ap (λ (ts : List Token). token_behind number value whole before first ∷ ts)
       (tokens-push (before ++ first ∷ []) rest place
-      ∙ ap (λ (b : List ℕ). tokens_behind number whole (before ++ first ∷ []) rest ++ token_behind number whole b place ∷ []) (append_assoc before (first ∷ []) rest))
+      ∙ ap (λ (b : List ℕ). tokens_behind number value whole (before ++ first ∷ []) rest ++ token_behind number value whole b place ∷ []) (append_assoc before (first ∷ []) rest))
 
-  token-at : (before places : List ℕ) (n d : ℕ) (t : Token) → slice_get (tokens_behind number whole before places) n ≡ Some t → t ≡ token_behind number whole (before ++ take n places) (get_or places n d)
+  token-at : (before places : List ℕ) (n d : ℕ) (t : Token) → slice_get (tokens_behind number value whole before places) n ≡ Some t → t ≡ token_behind number value whole (before ++ take n places) (get_or places n d)
   token-at before [] n d t e = absurd (none-some t e)
   token-at before (place ∷ rest) zero d t e =
-      sym (same_Some (token_behind number whole before place) t e) ∙ ap (λ (b : List ℕ). token_behind number whole b place) (sym (append-nil before))
+      sym (same_Some (token_behind number value whole before place) t e) ∙ ap (λ (b : List ℕ). token_behind number value whole b place) (sym (append-nil before))
   token-at before (place ∷ rest) (suc n) d t e =
-      token-at (before ++ place ∷ []) rest n d t e ∙ ap (λ (b : List ℕ). token_behind number whole b (get_or rest n d)) (append_assoc before (place ∷ []) (take n rest))
+      token-at (before ++ place ∷ []) rest n d t e ∙ ap (λ (b : List ℕ). token_behind number value whole b (get_or rest n d)) (append_assoc before (place ∷ []) (take n rest))
 
-  take-tokens : (n : ℕ) (before places : List ℕ) → take n (tokens_behind number whole before places) ≡ tokens_behind number whole before (take n places)
+  take-tokens : (n : ℕ) (before places : List ℕ) → take n (tokens_behind number value whole before places) ≡ tokens_behind number value whole before (take n places)
   take-tokens zero before places = refl
   take-tokens (suc n) before [] = refl
-  take-tokens (suc n) before (place ∷ rest) = ap (λ (ts : List Token). token_behind number whole before place ∷ ts) (take-tokens n (before ++ place ∷ []) rest)
+  take-tokens (suc n) before (place ∷ rest) = ap (λ (ts : List Token). token_behind number value whole before place ∷ ts) (take-tokens n (before ++ place ∷ []) rest)
 
-  on-tokens : (channel : ℕ) (before places : List ℕ) → length (on_channel channel (tokens_behind number whole before places)) ≡ length (filter (λ place. number place == channel) places)
+  on-tokens : (channel : ℕ) (before places : List ℕ) → length (on_channel channel (tokens_behind number value whole before places)) ≡ length (filter (λ place. number place == channel) places)
   on-tokens channel before [] = refl
   on-tokens channel before (place ∷ rest) =
-      one (number place == channel) (token_behind number whole before place) place (on_channel channel (tokens_behind number whole (before ++ place ∷ []) rest)) (filter (λ p. number p == channel) rest)
+      one (number place == channel) (token_behind number value whole before place) place (on_channel channel (tokens_behind number value whole (before ++ place ∷ []) rest)) (filter (λ p. number p == channel) rest)
       (on-tokens channel (before ++ place ∷ []) rest)
 
-  pub numbered : (places : List ℕ) (tokens : List Token) → tokens ≡ tokens_behind number whole [] places → IsNumbered tokens
+  pub numbered : (places : List ℕ) (tokens : List Token) → tokens ≡ tokens_behind number value whole [] places → IsNumbered tokens
   numbered places tokens is n t e =
       let at = token-at [] places n 0 t (subst (λ (ts : List Token). slice_get ts n ≡ Some t) is e) in
       let channel : number (get_or places n 0) ≡ t.channel = sym (ap (λ (u : Token). u.channel) at) in
@@ -88,12 +90,12 @@ module _ (number : ℕ → ℕ) (whole : Contents) where
       (sym (on-tokens t.channel [] (take n places))
       ∙ ap (λ (ts : List Token). length (on_channel t.channel ts)) (sym (take-tokens n [] places) ∙ ap (take n) (sym is)))
 
-  token_below : (places : List ℕ) (tokens : List Token) (n : ℕ) (t : Token) → tokens ≡ tokens_behind number whole [] places → slice_get tokens n ≡ Some t → n < length places
+  token_below : (places : List ℕ) (tokens : List Token) (n : ℕ) (t : Token) → tokens ≡ tokens_behind number value whole [] places → slice_get tokens n ≡ Some t → n < length places
   token_below places tokens n t is e =
       let long : length tokens ≡ length places = ap length is ∙ length-tokens [] places in
       omega (arith, slice_get_within tokens n t e)
 
-  pub origins : (places : List ℕ) (tokens : List Token) → tokens ≡ tokens_behind number whole [] places → AreOf (length places) tokens
+  pub origins : (places : List ℕ) (tokens : List Token) → tokens ≡ tokens_behind number value whole [] places → AreOf (length places) tokens
   origins places tokens is n o t e from =
       let at = token-at [] places n 0 t (subst (λ (ts : List Token). slice_get ts n ≡ Some t) is e) in
       let count : length (take n places) ≡ o = same_Some (length (take n places)) o (sym (ap (λ (u : Token). u.origin) at) ∙ from) in
@@ -101,26 +103,28 @@ module _ (number : ℕ → ℕ) (whole : Contents) where
       let less = token_below places tokens n t is e in
       omega (arith, count, long, less)
 
-  pub timed : (places : List ℕ) (tokens : List Token) → IsSortedByKey (time_at whole) nat_cmp places → tokens ≡ tokens_behind number whole [] places → IsTimed tokens
+  pub timed : (places : List ℕ) (tokens : List Token) → IsSortedByKey (time_at whole) nat_cmp places → tokens ≡ tokens_behind number value whole [] places → IsTimed tokens
   timed places tokens sorted is n s t first second =
       let rises = IsNonDecreasingBy-from_sort (time_at whole) places sorted in
       let a = ap (λ (u : Token). u.time) (token-at [] places n 0 s (subst (λ (ts : List Token). slice_get ts n ≡ Some s) is first)) in
       let b = ap (λ (u : Token). u.time) (token-at [] places (n + 1) 0 t (subst (λ (ts : List Token). slice_get ts (n + 1) ≡ Some t) is second)) in
       omega (arith, a, b, rises n (n + 1) 0 (omega arith) (token_below places tokens (n + 1) t is second))
 
--- numbers that agree at each place
-pub tokens_alike : (number other : ℕ → ℕ) (whole : Contents) (before places : List ℕ) → All (λ place. number place ≡ other place) before → All (λ place. number place ≡ other place) places
-    → tokens_behind number whole before places ≡ tokens_behind other whole before places
-tokens_alike number other whole before [] same_before same = refl
-tokens_alike number other whole before (place ∷ rest) same_before same =
+-- numbers and values that agree at each place
+pub tokens_alike : (number other : ℕ → ℕ) (value seen : ℕ → Option ℤ) (whole : Contents) (before places : List ℕ) → All (λ place. number place ≡ other place) before → All (λ place. number place ≡ other place) places
+    → All (λ place. value place ≡ seen place) places → tokens_behind number value whole before places ≡ tokens_behind other seen whole before places
+tokens_alike number other value seen whole before [] same_before same read = refl
+tokens_alike number other value seen whole before (place ∷ rest) same_before same read =
     let P : ℕ → Type 0 = λ p. number p ≡ other p in
+    let Q : ℕ → Type 0 = λ p. value p ≡ seen p in
     let here = All-head P place rest same in
+    let found = All-head Q place rest read in
     let counted : filter (λ p. number p == number place) before ≡ filter (λ p. other p == other place) before
     = filter_alike (λ p. number p == number place) (λ p. other p == other place) before
     (All-weaker P (λ p. (number p == number place) ≡ (other p == other place)) (λ p e. rw (e, here) refl) before same_before) in
-    let first : token_behind number whole before place ≡ token_behind other whole before place
-    = (λ i. record { channel = here i; seq = length (counted i) + 1; time = time_at whole place; whole = whole_value (message_at whole place).content; origin = Some (length before) }) in
-    (λ i. first i ∷ tokens_alike number other whole (before ++ place ∷ []) rest (All-push P before place same_before here) (All-tail P place rest same) i)
+    let first : token_behind number value whole before place ≡ token_behind other seen whole before place
+    = (λ i. record { channel = here i; seq = length (counted i) + 1; time = time_at whole place; whole = found i; origin = Some (length before) }) in
+    (λ i. first i ∷ tokens_alike number other value seen whole (before ++ place ∷ []) rest (All-push P before place same_before here) (All-tail P place rest same) (All-tail Q place rest read) i)
 
 none_there : (names : List (List ℕ)) (name : List ℕ) (n : ℕ) → position (λ kept. bytes_eq kept name) names ≡ None → slice_get names n ≡ Some name → ⊥
 none_there names name n e there =
@@ -212,10 +216,10 @@ counts-more number places i names counts inside all below so_far channel few =
     counted number places i channel counts (number (get_or places i 0) == channel) refl inside (omega arith) (so_far channel few)
     ∙ sym (length-filter_more (λ p. number p == channel) places i 0 inside)
 
-pub tokens-more : (number : ℕ → ℕ) (whole : Contents) (places : List ℕ) (i : ℕ) → i < length places
-    → tokens_behind number whole [] (take (i + 1) places) ≡ tokens_behind number whole [] (take i places) ++ token_behind number whole (take i places) (get_or places i 0) ∷ []
-tokens-more number whole places i inside =
-    ap (tokens_behind number whole []) (take_more places i 0 inside) ∙ tokens-push number whole [] (take i places) (get_or places i 0)
+pub tokens-more : (number : ℕ → ℕ) (value : ℕ → Option ℤ) (whole : Contents) (places : List ℕ) (i : ℕ) → i < length places
+    → tokens_behind number value whole [] (take (i + 1) places) ≡ tokens_behind number value whole [] (take i places) ++ token_behind number value whole (take i places) (get_or places i 0) ∷ []
+tokens-more number value whole places i inside =
+    ap (tokens_behind number value whole []) (take_more places i 0 inside) ∙ tokens-push number value whole [] (take i places) (get_or places i 0)
 
 pub below-more : (whole : Contents) (n : ℕ) → ((k : ℕ) → k < n → (message_at whole k).channel < length whole.channels) → (message_at whole n).channel < length whole.channels
     → (k : ℕ) → k < n + 1 → (message_at whole k).channel < length whole.channels
@@ -269,11 +273,19 @@ module _ (whole : Contents) (choice : Choice) (uses : List ChannelUse) (are : Ar
   places-inside places moved =
       All-permutation (λ place. place < length whole.messages) (chosen whole choice) places moved (All-filter (is_played whole choice) (λ place. place < length whole.messages) (all_places whole) (places-below (length whole.messages)))
 
-  pub tokens-are : (places : List ℕ) → All (λ place. place < length whole.messages) places → tokens_behind (number_by uses whole) whole [] places ≡ tokens_behind (number_at whole choice) whole [] places
+  pub value-is : (place : ℕ) → place < length whole.messages → value_from uses choice.values whole place ≡ value_at whole choice place
+  value-is place less =
+      let m = message_at whole place in
+      ap (λ (u : ChannelUse). value_by (form_at choice.values u.form) m.content) (uses-agree whole choice uses are place (below place less))
+      ∙ ap (λ (form : Option ValueForm). value_by form m.content) (form-at_place choice.values (name_of whole m.channel))
+
+  pub tokens-are : (places : List ℕ) → All (λ place. place < length whole.messages) places
+      → tokens_behind (number_by uses whole) (value_from uses choice.values whole) whole [] places ≡ tokens_behind (number_at whole choice) (value_at whole choice) whole [] places
   tokens-are places inside =
-      tokens_alike (number_by uses whole) (number_at whole choice) whole [] places (All-nil (λ place. number_by uses whole place ≡ number_at whole choice place))
+      tokens_alike (number_by uses whole) (number_at whole choice) (value_from uses choice.values whole) (value_at whole choice) whole [] places (All-nil (λ place. number_by uses whole place ≡ number_at whole choice place))
       (All-weaker (λ place. place < length whole.messages) (λ place. number_by uses whole place ≡ number_at whole choice place)
       (λ place less. ap (λ (u : ChannelUse). u.number) (uses-agree whole choice uses are place (below place less))) places inside)
+      (All-weaker (λ place. place < length whole.messages) (λ place. value_from uses choice.values whole place ≡ value_at whole choice place) value-is places inside)
 
 -- the content of a message
 pub content-is : (whole : Contents) (place : ℕ) (bytes : List ℕ) → place < length whole.messages → IfSome (slice_get whole.messages place) (λ (m : Message). bytes ≡ m.content) → bytes ≡ (message_at whole place).content
@@ -299,7 +311,7 @@ numbers-below whole choice uses are named once =
 -- the play list is what is asked
 pub answered : (whole : Contents) (choice : Choice) (uses : List ChannelUse) (places sorted : List ℕ) (list : PlayList) → AreUses whole choice uses
     → ((n : ℕ) → n < length whole.messages → (message_at whole n).channel < length whole.channels) → places ≡ chosen whole choice → IsPermutation places sorted
-    → IsSortedByKey (time_at whole) nat_cmp sorted → IsStableByKey (time_at whole) nat_cmp places sorted → list.places ≡ sorted → list.tokens ≡ tokens_behind (number_by uses whole) whole [] sorted
+    → IsSortedByKey (time_at whole) nat_cmp sorted → IsStableByKey (time_at whole) nat_cmp places sorted → list.places ≡ sorted → list.tokens ≡ tokens_behind (number_by uses whole) (value_from uses choice.values whole) whole [] sorted
     → list.shadowed ≡ shadowed_by uses choice.filter whole (all_places whole) → length places ≤ most_played → PlayAnswer whole choice (Ok list)
 answered whole choice uses places sorted list are below is moved by_time stable placed tokens shadowed few =
     let same = subst (λ (ps : List ℕ). IsPermutation ps sorted) is moved in
@@ -310,7 +322,7 @@ answered whole choice uses places sorted list are below is moved by_time stable 
     record {
       list = record {
         order = subst (IsOrder whole choice) (sym placed) order;
-        tokens = read ∙ ap (tokens_behind (number_at whole choice) whole []) (sym placed);
+        tokens = read ∙ ap (tokens_behind (number_at whole choice) (value_at whole choice) whole []) (sym placed);
         shadowed = shadowed ∙ shadowed-is whole choice uses are below;
       };
       few = subst (λ (ps : List ℕ). length ps ≤ most_played) is few;

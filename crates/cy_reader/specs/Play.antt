@@ -1,12 +1,13 @@
 -- Which messages of a record are played, and in which order.
-use Rattle.std.specs.Prelude.{◌≡◌, ◌⊎◌, ℕ, ◌+◌, ◌<◌, ◌≤◌, ◌==◌, Bool, not, ◌&&◌}
+use Rattle.std.specs.Prelude.{◌≡◌, ◌⊎◌, ℕ, ℤ, ◌+◌, ◌<◌, ◌≤◌, ◌==◌, Bool, not, ◌&&◌}
 use Rattle.std.specs.Prelude.{List, [], ◌∷◌, ◌++◌, length, filter, slice_index_or, zero, suc, All}
-use Rattle.std.specs.Prelude.{Some, unwrap_or, Result, IfOk, OnOk, IfErr}
+use Rattle.std.specs.Prelude.{Option, Some, unwrap_or, Result, IfOk, OnOk, IfErr}
 use Rattle.std.specs.List.{Contains, position, list_any}
 use Rattle.std.specs.List.Sorted.{IsPermutation, IsSortedByKey, IsStableByKey}
 use Rattle.std.specs.Ordering.{nat_cmp}
 use Rattle.std.specs.Str.{bytes_eq}
-use Rattle.cy_wire.specs.Whole.{whole_value}
+use Rattle.cy_value.specs.Values.{form_of, value_by}
+use Rattle.cy_value.specs.declared.values.ChannelValue.{ChannelValue}
 pub use Rattle.cy_msg.specs.Tokens.{most_played}
 use Rattle.cy_msg.specs.declared.token.Token.{Token}
 use Rattle.cy_msg.specs.declared.play_list.PlayList.{PlayList}
@@ -17,11 +18,13 @@ use Rattle.cy_reader.specs.declared.error.LoadError.TheVariants.{TooManyPlayed, 
 use Rattle.cy_reader.specs.Record.{Contents, Message, named_only}
 
 -- What a record is played by: the names of the channels in the order of their numbers, the filter,
--- and the numbers of the channels that components write and of the tick channels.
+-- the numbers of the channels that components write and of the tick channels, and where the values
+-- of messages are.
 pub record Choice : Type 0 where
   pub names : List (List ℕ)
   pub filter : Filter
   pub written : List ℕ
+  pub values : List ChannelValue
 
 -- The number of a name.
 abbrev pub number_in : List (List ℕ) → List ℕ → ℕ
@@ -43,6 +46,11 @@ time_at whole place = (message_at whole place).time
 abbrev pub number_at : Contents → Choice → ℕ → ℕ
 number_at whole choice place = number_in choice.names
     (name_of whole (message_at whole place).channel)
+
+-- The value of the message at a place: its channel says where that is in the content.
+abbrev pub value_at : Contents → Choice → ℕ → Option ℤ
+value_at whole choice place = let m = message_at whole place in
+    value_by (form_of choice.values (name_of whole m.channel)) m.content
 
 -- The message at a place passes the filter. Then it is shadowed where a component or a timer writes
 -- its channel, and played where none does.
@@ -76,20 +84,21 @@ abbrev pub chosen : Contents → Choice → List ℕ
 chosen whole choice = filter (is_played whole choice) (all_places whole)
 
 -- The message of a place as it is played behind others, where each place has the number of its
--- channel: it has the next number on that, and its own content.
-abbrev pub token_behind : (ℕ → ℕ) → Contents → List ℕ → ℕ → Token
-token_behind number whole before place = record {
+-- channel and the value of its message: it has the next number on that channel.
+abbrev pub token_behind : (ℕ → ℕ) → (ℕ → Option ℤ) → Contents → List ℕ → ℕ → Token
+token_behind number value whole before place = record {
   channel = number place;
   seq = length (filter (λ other. number other == number place) before) + 1;
   time = time_at whole place;
-  whole = whole_value (message_at whole place).content;
+  whole = value place;
   origin = Some (length before);
 }
 
-abbrev pub tokens_behind : (ℕ → ℕ) → Contents → List ℕ → List ℕ → List Token
-tokens_behind number whole before [] = []
-tokens_behind number whole before (place ∷ rest) = token_behind number whole before place
-    ∷ tokens_behind number whole (before ++ place ∷ []) rest
+abbrev pub tokens_behind : (ℕ → ℕ) → (ℕ → Option ℤ) → Contents → List ℕ → List ℕ → List Token
+tokens_behind number value whole before [] = []
+tokens_behind number value whole before (place ∷ rest) =
+    token_behind number value whole before place
+    ∷ tokens_behind number value whole (before ++ place ∷ []) rest
 
 -- The places in the order of play: those of the messages that are played, by time, and equal times
 -- in file order.
@@ -101,7 +110,8 @@ pub record IsOrder (whole : Contents) (choice : Choice) (places : List ℕ) : Ty
 -- The play list of a record.
 pub record IsPlayList (whole : Contents) (choice : Choice) (list : PlayList) : Type 0 where
   pub order : IsOrder whole choice list.places
-  pub tokens : list.tokens ≡ tokens_behind (number_at whole choice) whole [] list.places
+  pub tokens : list.tokens
+      ≡ tokens_behind (number_at whole choice) (value_at whole choice) whole [] list.places
   pub shadowed : list.shadowed
       ≡ length (filter (is_shadowed whole choice) (all_places whole))
 

@@ -6,13 +6,13 @@ ghost use Rattle.std.specs.List.Sorted.{IsPermutation};
 ghost use Rattle.cy_msg.specs.Once.{IsOnce};
 ghost use Rattle.cy_reader.specs.Play.{AreNamed, PlayAnswer, all_places, time_at, number_in};
 ghost use Rattle.cy_reader.specs.Play.{message_at, tokens_behind};
-ghost use Rattle.cy_reader.specs.private.Uses.{AreUses, use_of, use_at, number_by};
+ghost use Rattle.cy_reader.specs.private.Uses.{AreUses, use_of, use_at, number_by, value_from};
 ghost use Rattle.cy_reader.specs.private.Uses.{ArePassed, LooksAt, AreInOrder};
 
 use crate::{ChannelSet, LoadError, Record};
 use cy_msg::{Items, MOST_PLAYED, Names, PlayList, Token};
 use cy_request::Filter;
-use cy_wire::whole_of;
+use cy_value::{ChannelValue, form_at, place_of, value_by};
 use std::alloc::Global;
 
 // What becomes of the messages of one channel.
@@ -24,6 +24,8 @@ pub(crate) struct ChannelUse {
     pub is_let: bool,
     // Whether a component writes it.
     pub is_written: bool,
+    // The place of the form of its values.
+    pub form: Option<usize>,
 }
 
 // The messages that pass the filter: the places of those that are played, in file order, and how
@@ -47,17 +49,28 @@ fn number_of(names: &Names, name: &str) -> u32
 }
 
 // The use of a channel.
-fn use_of(names: &Names, filter: &Filter, written: &ChannelSet, name: &str) -> ChannelUse
+fn use_of(
+    names: &Names,
+    filter: &Filter,
+    written: &ChannelSet,
+    values: &[ChannelValue],
+    name: &str,
+) -> ChannelUse
     requires once { IsOnce names.now }
     requires kept { Contains names.now name.now }
-    ensures { result ≡ use_of
-        (record { names = names.now; filter = filter.now; written = written.now }) name.now }
+    ensures { result ≡ use_of (record {
+      names = names.now;
+      filter = filter.now;
+      written = written.now;
+      values = values.now;
+    }) name.now }
 {
     let number = number_of(names, name);
     ChannelUse {
         number,
         is_let: filter.lets_channel(name),
         is_written: written.has(number),
+        form: place_of(values, name),
     }
 }
 
@@ -68,17 +81,22 @@ fn uses_of(
     names: &Names,
     filter: &Filter,
     written: &ChannelSet,
+    values: &[ChannelValue],
 ) -> Result<Vec<ChannelUse>, LoadError>
     requires once { IsOnce names.now }
     requires named { AreNamed whole.now names.now }
-    ensures uses { IfOk result (λ u. AreUses whole.now
-        (record { names = names.now; filter = filter.now; written = written.now }) u.items) }
+    ensures uses { IfOk result (λ u. AreUses whole.now (record {
+      names = names.now;
+      filter = filter.now;
+      written = written.now;
+      values = values.now;
+    }) u.items) }
     ensures only_memory { IsOkUnless result LoadError.Memory }
 {
     let mut uses = Vec::with_capacity(alloc, whole.channels() as usize)?;
     for channel in 0..whole.channels() {
         let name = whole.channel(channel).name.as_str();
-        uses.push(use_of(names, filter, written, name))?;
+        uses.push(use_of(names, filter, written, values, name))?;
     }
     Ok(uses)
 }
@@ -163,11 +181,13 @@ fn sort(whole: &Record, places: &mut Vec<u32>) -> Result<(), LoadError>
     Ok(())
 }
 
-// The messages at these places, numbered on each channel. There are so many names.
+// The messages at these places, numbered on each channel, with their values. There are so many
+// names.
 fn tokens_of(
     alloc: Global,
     whole: &Record,
     uses: &[ChannelUse],
+    values: &[ChannelValue],
     names: u32,
     places: &[u32],
 ) -> Result<Vec<Token>, LoadError>
@@ -176,20 +196,20 @@ fn tokens_of(
     requires there { All (λ place. place < length whole.now.messages) places.now }
     requires few { length places.now + 1 < 2 ^ 32 }
     ensures tokens { IfOk result (λ t. t.items ≡ tokens_behind (number_by uses.now whole.now)
-        whole.now [] places.now) }
+        (value_from uses.now values.now whole.now) whole.now [] places.now) }
     ensures only_memory { IsOkUnless result LoadError.Memory }
 {
     let mut tokens = Vec::with_capacity(alloc, places.len())?;
     let mut counts = vec![in alloc; 0u32; names as usize]?;
     for place in places {
-        let number = use_at(whole, uses, *place).number;
-        let count = &mut counts[number as usize];
+        let found = use_at(whole, uses, *place);
+        let count = &mut counts[found.number as usize];
         *count += 1;
         tokens.push(Token {
-            channel: number,
+            channel: found.number,
             seq: *count,
             time: whole.time_at(*place),
-            whole: whole_of(whole.content(*place)),
+            whole: value_by(form_at(values, found.form), whole.content(*place)),
             origin: Some(tokens.len() as u32),
         })?;
     }
@@ -202,20 +222,26 @@ impl Record {
     /// that components write and the tick channels: a message on one of them that passes the
     /// filter is not played, and counted as shadowed. More than 4,194,304 to be played are
     /// `TooManyPlayed`; there is no other error but `Memory`. Every channel of the record stands in
-    /// `names`.
+    /// `names`. `values` says where the values of messages are: those of a channel that it does not
+    /// name are read as the message Whole.
     pub fn play_list(
         &self,
         alloc: Global,
         names: &Names,
         filter: &Filter,
         written: &ChannelSet,
+        values: &[ChannelValue],
     ) -> Result<PlayList, LoadError>
         requires { AreNamed self.now names.now }
-        ensures { PlayAnswer self.now
-            (record { names = names.now; filter = filter.now; written = written.now }) result }
+        ensures { PlayAnswer self.now (record {
+          names = names.now;
+          filter = filter.now;
+          written = written.now;
+          values = values.now;
+        }) result }
     {
         let count = names.count();
-        let uses = uses_of(alloc, self, names, filter, written)?;
+        let uses = uses_of(alloc, self, names, filter, written, values)?;
         let Passed {
             mut places,
             shadowed,
@@ -226,7 +252,7 @@ impl Record {
             });
         }
         sort(self, &mut places)?;
-        let tokens = tokens_of(alloc, self, &uses, count, &places)?;
+        let tokens = tokens_of(alloc, self, &uses, values, count, &places)?;
         Ok(PlayList {
             tokens: Items::new(tokens),
             places: Items::new(places),

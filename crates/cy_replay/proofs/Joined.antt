@@ -11,6 +11,7 @@ use Rattle.cy_replay.specs.declared.error.Refusal.{Refusal}
 use Rattle.cy_replay.specs.declared.error.SetupError.{SetupError}
 use Rattle.cy_replay.specs.Configuration.{DagSays, Configured, dag_in, configs_in, sched_in, configuration_in, IsAsked, IsAskedOf}
 use Rattle.cy_replay.specs.Steps.{dag_says, configured, scheduled_in}
+use Rattle.cy_replay.specs.Values.{valued_configs}
 use Rattle.cy_replay.specs.Comes.{ComesTo}
 use Rattle.cy_replay.proofs.Coming.{then, told_map, comes_err, comes_ok, comes_then}
 
@@ -19,7 +20,7 @@ abbrev pub with_sched : DagSays → List Config → Sched → Files → Reads Re
 with_sched dag configs sched m = Accepts record { dag = dag; configs = configs; sched = sched }
 
 abbrev pub with_configs : Option (List ℕ) → DagSays → List Config → Files → Reads Refusal Configured
-with_configs sched_name dag configs = scheduled_in dag configs sched_name
+with_configs sched_name dag configs = scheduled_in dag (valued_configs configs) sched_name
 
 abbrev pub with_dag : Option (List ℕ) → DagSays → Files → Reads Refusal Configured
 with_dag sched_name dag = then (configs_in dag.components) (with_configs sched_name dag)

@@ -18,4 +18,5 @@ pub mod Setting
 pub mod Texts
 pub mod TickCounts
 pub mod TraceTexts
+pub mod ValuesFound
 pub mod Wirings

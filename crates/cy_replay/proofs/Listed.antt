@@ -20,7 +20,7 @@ use Rattle.cy_sched.specs.Placing.{numbers_below}
 use Rattle.cy_request.specs.Request.{StopAt}
 use Rattle.cy_request.specs.declared.filter.Filter.{Filter}
 use Rattle.cy_reader.specs.Record.{Contents}
-use Rattle.cy_reader.specs.Play.{Choice, IsPlayList, chosen, most_played, number_at, places_below}
+use Rattle.cy_reader.specs.Play.{Choice, IsPlayList, chosen, most_played, number_at, places_below, value_at}
 use Rattle.cy_reader.specs.declared.error.LoadError.TheVariants.{TooManyPlayed}
 use Rattle.cy_reader.proofs.Playing.{length-tokens}
 use Rattle.cy_timer.specs.Merged.{IsMerged, by_time, merged, with_ticks}
@@ -189,7 +189,7 @@ few_messages file whole choice list is listed =
     let fits = limited_fits file most_played (λ n. fault.Record (TooManyPlayed n)) (length (chosen whole choice)) (length list.places) listed.accepted in
     let few = fits.0 in
     let same = fits.1 in
-    let placed : length list.tokens ≡ length list.places = ap length is.tokens ∙ length-tokens (number_at whole choice) whole [] list.places in
+    let placed : length list.tokens ≡ length list.places = ap length is.tokens ∙ length-tokens (number_at whole choice) (value_at whole choice) whole [] list.places in
     omega (arith, few, same, placed)
 
 -- what is listed

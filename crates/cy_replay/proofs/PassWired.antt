@@ -4,6 +4,7 @@ use Rattle.std.specs.Option.{option_or}
 use Rattle.std.specs.Str.{bytes_eq}
 use Rattle.std.proofs.lemmas.Slice.Eq.{bytes_eq-Decides}
 use Rattle.cy_store.specs.Reads.{Reads, Accepts, Refuses}
+use Rattle.cy_dag.specs.Given.{differs_refusal, written_refusal}
 use Rattle.cy_dag.specs.DagFile.{count_of, refuse_if}
 use Rattle.cy_dag.specs.Triggers.{writers_refusal, ticks_refusal, cycle_refusal, way_back, writer_named}
 use Rattle.cy_dag.specs.Wiring.{named, wire_refusal, channels_refusal}
@@ -39,6 +40,7 @@ last_stands (Some e) = refl
 
 refused_alone : (from to message_type : List ℕ) (channels : List (List ℕ)) → from ≢ to
     → wire_refusal channels (pass_component from ∷ []) (pass_config to message_type ∷ []) ≡ channels_refusal (length (named (channels ++ from ∷ to ∷ [])))
+unfolding differs_refusal written_refusal
 refused_alone from to message_type channels differ =
     let found = channels_refusal (length (named (channels ++ from ∷ to ∷ []))) in
     let cycle = no_cycle (writer_named (pass_config to message_type ∷ []) from) (no_writer (bytes_eq to from) from to message_type refl differ) in

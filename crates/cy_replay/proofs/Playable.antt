@@ -1,5 +1,5 @@
 -- What is listed may be played in the opening world of its wiring.
-use Rattle.std.proofs.Common.{ℕ, zero, suc, ◌+◌, ◌≡◌, ◌≤◌, ◌<◌, ◌==◌, not, ◌&&◌, ◌||◌, if◌then◌else◌, cond, Bool, true, false, List, [], ◌∷◌, ◌++◌, length, map, get_or, slice_get, Option, Some, None, option_map, unwrap_or, nat_le, refl, sym, ap, subst, ◌∙◌, inl, inr, arith, All, length-append}
+use Rattle.std.proofs.Common.{ℕ, ℤ, zero, suc, ◌+◌, ◌≡◌, ◌≤◌, ◌<◌, ◌==◌, not, ◌&&◌, ◌||◌, if◌then◌else◌, cond, Bool, true, false, List, [], ◌∷◌, ◌++◌, length, map, get_or, slice_get, Option, Some, None, option_map, unwrap_or, nat_le, refl, sym, ap, subst, ◌∙◌, inl, inr, arith, All, length-append}
 use Rattle.std.specs.Prelude.{filter}
 use Rattle.std.specs.List.{Contains, list_any, position, zip}
 use Rattle.std.specs.List.Sorted.{IsPermutation}
@@ -28,7 +28,7 @@ use Rattle.cy_dag.proofs.NameSteps.{has_contains, contains_has, behind_has}
 use Rattle.cy_request.specs.Request.{StopAt}
 use Rattle.cy_reader.specs.declared.known.Known.{Known}
 use Rattle.cy_reader.specs.Record.{Contents, named_only}
-use Rattle.cy_reader.specs.Play.{Choice, IsPlayList, AreNamed, chosen, is_played, is_written, passes, all_places, number_at, number_in, name_of, message_at, places_below, token_behind, tokens_behind}
+use Rattle.cy_reader.specs.Play.{Choice, IsPlayList, AreNamed, chosen, is_played, is_written, passes, all_places, number_at, number_in, name_of, message_at, places_below, token_behind, tokens_behind, value_at}
 use Rattle.wake_core.specs.Run.{route_of, routes_of, writes_from}
 use Rattle.wake_core.specs.TapeLaws.{PutLaws}
 use Rattle.wake_core.specs.Plain.{lists, opening_world}
@@ -76,12 +76,12 @@ number-below names name some = by_place (position (λ kept. bytes_eq kept name) 
     by_place None e = some
 
 -- what holds of each place's message holds of each message
-pub tokens_all : (number : ℕ → ℕ) (whole : Contents) (P : ℕ → Type 0) (Q : Token → Type 0) → ((before : List ℕ) (place : ℕ) → P place → Q (token_behind number whole before place)) → (before places : List ℕ) → All P places
-    → All Q (tokens_behind number whole before places)
-tokens_all number whole P Q step before [] all = All-nil Q
-tokens_all number whole P Q step before (place ∷ rest) all =
-    All-cons Q (token_behind number whole before place) (tokens_behind number whole (before ++ place ∷ []) rest) (step before place (All-head P place rest all))
-    (tokens_all number whole P Q step (before ++ place ∷ []) rest (All-tail P place rest all))
+pub tokens_all : (number : ℕ → ℕ) (value : ℕ → Option ℤ) (whole : Contents) (P : ℕ → Type 0) (Q : Token → Type 0) → ((before : List ℕ) (place : ℕ) → P place → Q (token_behind number value whole before place)) → (before places : List ℕ) → All P places
+    → All Q (tokens_behind number value whole before places)
+tokens_all number value whole P Q step before [] all = All-nil Q
+tokens_all number value whole P Q step before (place ∷ rest) all =
+    All-cons Q (token_behind number value whole before place) (tokens_behind number value whole (before ++ place ∷ []) rest) (step before place (All-head P place rest all))
+    (tokens_all number value whole P Q step (before ++ place ∷ []) rest (All-tail P place rest all))
 
 pub all_at : {X : Type 0} (P : X → Type 0) (xs : List X) (n : ℕ) (x : X) → All P xs → slice_get xs n ≡ Some x → P x
 all_at P xs n x all at = subst P (get_or_from_slice_get xs n x x at) (all n x (slice_get_within xs n x at))
@@ -90,7 +90,7 @@ module _ (whole : Contents) (choice : Choice) (list : PlayList) (is : IsPlayList
   pub all_below : 0 < length choice.names → All (λ t. t.channel < length choice.names) list.tokens
   all_below some =
       subst (All (λ t. t.channel < length choice.names)) (sym is.tokens)
-      (tokens_all (number_at whole choice) whole (λ place. Unit {0}) (λ t. t.channel < length choice.names)
+      (tokens_all (number_at whole choice) (value_at whole choice) whole (λ place. Unit {0}) (λ t. t.channel < length choice.names)
       (λ before place any. number-below choice.names (name_of whole (message_at whole place).channel) some) [] list.places (λ k d less. tt))
 
   places_played : All (λ place. is_played whole choice place ≡ true) list.places
@@ -108,7 +108,7 @@ module _ (whole : Contents) (choice : Choice) (list : PlayList) (is : IsPlayList
   pub all_unwritten : All (λ t. list_any (λ n. n == t.channel) choice.written ≡ false) list.tokens
   all_unwritten =
       subst (All (λ t. list_any (λ n. n == t.channel) choice.written ≡ false)) (sym is.tokens)
-      (tokens_all (number_at whole choice) whole (λ place. is_played whole choice place ≡ true) (λ t. list_any (λ n. n == t.channel) choice.written ≡ false)
+      (tokens_all (number_at whole choice) (value_at whole choice) whole (λ place. is_played whole choice place ≡ true) (λ t. list_any (λ n. n == t.channel) choice.written ≡ false)
       (λ before place e. unwritten_place place e) [] list.places places_played)
 
 -- no component writes a channel that is none of theirs
@@ -138,18 +138,18 @@ one : (b : Bool) (t : Token) (place : ℕ) (ts : List Token) (ps : List ℕ) →
 one true t place ts ps e = ap suc e
 one false t place ts ps e = e
 
-on-tokens : (number : ℕ → ℕ) (whole : Contents) (channel : ℕ) (before places : List ℕ) → length (on_channel channel (tokens_behind number whole before places)) ≡ length (filter (λ place. number place == channel) places)
-on-tokens number whole channel before [] = refl
-on-tokens number whole channel before (place ∷ rest) =
-    one (number place == channel) (token_behind number whole before place) place (on_channel channel (tokens_behind number whole (before ++ place ∷ []) rest)) (filter (λ p. number p == channel) rest)
-    (on-tokens number whole channel (before ++ place ∷ []) rest)
+on-tokens : (number : ℕ → ℕ) (value : ℕ → Option ℤ) (whole : Contents) (channel : ℕ) (before places : List ℕ) → length (on_channel channel (tokens_behind number value whole before places)) ≡ length (filter (λ place. number place == channel) places)
+on-tokens number value whole channel before [] = refl
+on-tokens number value whole channel before (place ∷ rest) =
+    one (number place == channel) (token_behind number value whole before place) place (on_channel channel (tokens_behind number value whole (before ++ place ∷ []) rest)) (filter (λ p. number p == channel) rest)
+    (on-tokens number value whole channel (before ++ place ∷ []) rest)
 
 counted_alike : (p : ℕ → Bool) (xs ys : List ℕ) → IsPermutation xs ys → length (filter p ys) ≡ length (filter p xs)
 counted_alike p xs ys moved = length-filter p ys ∙ sum_by-IsPermutation (λ x. cond (p x) 1 0) xs ys moved ∙ sym (length-filter p xs)
 
 pub on-list : (whole : Contents) (choice : Choice) (list : PlayList) → IsPlayList whole choice list → (channel : ℕ) → length (on_channel channel list.tokens) ≡ played_on whole choice channel
 on-list whole choice list is channel =
-    ap (λ ts. length (on_channel channel ts)) is.tokens ∙ on-tokens (number_at whole choice) whole channel [] list.places
+    ap (λ ts. length (on_channel channel ts)) is.tokens ∙ on-tokens (number_at whole choice) (value_at whole choice) whole channel [] list.places
     ∙ counted_alike (λ place. number_at whole choice place == channel) (chosen whole choice) list.places is.order.same
 
 -- a placement's scan has each component

@@ -1,9 +1,9 @@
 -- A replay is set up: its files are read, and what they say is judged.
 use Rattle.std.specs.Prelude.{⊤}
-use Rattle.std.proofs.Common.{◌^◌, ℕ, ◌+◌, ◌≡◌, ◌≤◌, ◌<◌, ◌++◌, List, [], ◌∷◌, length, map, take, get_or, slice_get, Option, Some, None, IfSome, Result, Ok, Err, refl, sym, ap, subst, ◌∙◌, inl, inr, arith}
+use Rattle.std.proofs.Common.{◌^◌, ℕ, ◌+◌, ◌≡◌, ◌≤◌, ◌<◌, ◌⊎◌, ◌++◌, List, [], ◌∷◌, length, map, take, get_or, slice_get, Option, Some, None, IfSome, Result, Ok, Err, refl, sym, ap, subst, ◌∙◌, inl, inr, arith}
 use Rattle.std.specs.List.{zip}
 use Rattle.std.specs.List.Sorted.{IsPermutation}
-use Rattle.std.proofs.lemmas.Bool.{le-ltb}
+use Rattle.std.proofs.lemmas.Bool.{le-ltb, lt-ltb}
 use Rattle.std.proofs.lemmas.List.{length-map, take_more, map-append}
 use Rattle.std.proofs.lemmas.List.Sorted.{length_permutation}
 use Rattle.std.proofs.lemmas.Option.{slice_get-get_or}
@@ -25,15 +25,19 @@ use Rattle.cy_request.specs.declared.filter.Filter.{Filter}
 use Rattle.wake_core.specs.TapeLaws.{PutLaws}
 use Rattle.cy_reader.specs.declared.known.Known.{Known}
 use Rattle.cy_reader.specs.Record.{Contents, named_only}
-use Rattle.cy_reader.specs.Play.{Choice, PlayAnswer, AreNamed, chosen, most_played}
+use Rattle.cy_value.specs.declared.values.ChannelValue.{ChannelValue}
+use Rattle.cy_reader.specs.declared.error.LoadError.{LoadError}
+use Rattle.cy_reader.specs.declared.error.LoadError.TheVariants as load_error
+use Rattle.cy_reader.specs.Play.{Choice, PlayAnswer, AreNamed, IsTooMany, chosen, most_played}
 use Rattle.wake_core.specs.Run.{routes_of}
 use Rattle.wake_core.specs.Planned.{planned}
 use Rattle.wake_core.specs.declared.entries.TheConstants.{MOST_PLANNED}
 use Rattle.cy_replay.specs.declared.configuration.Configuration.{Configuration}
+use Rattle.cy_replay.specs.declared.error.Fault.{Fault}
 use Rattle.cy_replay.specs.declared.error.Fault.TheVariants as fault
 use Rattle.cy_replay.specs.declared.error.Refusal.{Refusal}
 use Rattle.cy_replay.specs.declared.error.SetupError.{SetupError}
-use Rattle.cy_replay.specs.declared.error.SetupError.TheVariants.{Memory}
+use Rattle.cy_replay.specs.declared.error.SetupError.TheVariants.{Memory, Refused}
 use Rattle.cy_replay.specs.declared.setup.Replay.{Replay}
 use Rattle.cy_replay.specs.Comes.{ComesTo, IsJudged}
 use Rattle.cy_replay.specs.Configuration as files
@@ -42,6 +46,7 @@ use Rattle.cy_replay.specs.Faults.{in_file, unless}
 use Rattle.cy_replay.specs.private.Judged.{judged_over}
 use Rattle.cy_replay.specs.Listing.{AreCounts, IsListed, record_in, channels_of, counts_of, messages_in, played_in, planned_in}
 use Rattle.cy_replay.specs.Passing.{passing, type_read}
+use Rattle.cy_replay.specs.Steps.{IsRecordFault}
 use Rattle.cy_request.specs.Request.{Components, Request, OfFiles, OfPass}
 use Rattle.cy_replay.specs.Setup.{Replayed, IsAsked, IsAskedBy, IsSetUp, judged_in, configured_in, passed_in, replay_through, replay_in, replayed}
 use Rattle.cy_replay.specs.Steps.{configured}
@@ -49,7 +54,7 @@ use Rattle.cy_replay.specs.Stops.{stop_in, stop_of}
 use Rattle.cy_replay.specs.Wiring.{Wired, wired_by, wired_of, wiring_in}
 use Rattle.cy_replay.proofs.Coming.{then, comes_err, comes_then}
 use Rattle.cy_replay.proofs.Limits.{limited_fits}
-use Rattle.cy_replay.proofs.Judging.{judges_err, judges_then, judges_ok, judges_memory, judged_comes}
+use Rattle.cy_replay.proofs.Judging.{judges_err, judges_then, judges_ok, judges_memory, judges_refused, judged_comes}
 use Rattle.cy_replay.proofs.Listed.{counts_are, listed_below, may_play}
 use Rattle.cy_replay.proofs.Playable.{all_named, some_name, some_plan}
 
@@ -68,12 +73,37 @@ judged_at file whole choice list a =
     (rw (le-ltb most_played (length (chosen whole choice)) a.few) (ap Accepts (sym (length_permutation (chosen whole choice) list.places a.list.order.same))))
 
 -- not too many are played
-pub listed_judged : (file : List ℕ) (whole : Contents) (names : List (List ℕ)) (filter : Filter) (written outs : List ℕ) (list : PlayList) → written ≡ outs
-    → (let choice : Choice = record { names = names; filter = filter; written = written } in let answer = Ok list in PlayAnswer whole choice answer)
-    → (let choice : Choice = record { names = names; filter = filter; written = outs } in let r : Result PlayList SetupError = Ok list in IsJudged (λ l. length l.places) (messages_in file whole choice) r)
-listed_judged file whole names filter written outs list is a =
-    let P : List ℕ → Type 0 = λ ws. let choice : Choice = record { names = names; filter = filter; written = ws } in let r : Result PlayList SetupError = Ok list in IsJudged (λ (l : PlayList). length l.places) (messages_in file whole choice) r in
-    subst P is (judged_at file whole record { names = names; filter = filter; written = written } list a)
+pub listed_judged : (file : List ℕ) (whole : Contents) (names : List (List ℕ)) (filter : Filter) (written outs : List ℕ) (values said : List ChannelValue) (list : PlayList) → written ≡ outs → values ≡ said
+    → (let choice : Choice = record { names = names; filter = filter; written = written; values = values } in let answer = Ok list in PlayAnswer whole choice answer)
+    → (let choice : Choice = record { names = names; filter = filter; written = outs; values = said } in let r : Result PlayList SetupError = Ok list in IsJudged (λ l. length l.places) (messages_in file whole choice) r)
+listed_judged file whole names filter written outs values said list is same a =
+    let P : List ℕ → Type 0 = λ ws. let choice : Choice = record { names = names; filter = filter; written = ws; values = said } in let r : Result PlayList SetupError = Ok list in IsJudged (λ (l : PlayList). length l.places) (messages_in file whole choice) r in
+    let Q : List ChannelValue → Type 0 = λ vs. let choice : Choice = record { names = names; filter = filter; written = written; values = vs } in let r : Result PlayList SetupError = Ok list in IsJudged (λ (l : PlayList). length l.places) (messages_in file whole choice) r in
+    subst P is (subst Q same (judged_at file whole record { names = names; filter = filter; written = written; values = values } list a))
+
+-- too many are played, and this is told; or there is no memory
+list_refused : (file : List ℕ) (whole : Contents) (choice : Choice) (e : LoadError) (answer : SetupError) → (e ≡ load_error.Memory) ⊎ IsTooMany whole choice e → IsRecordFault file e answer
+    → (let r : Result PlayList SetupError = Err answer in IsJudged (λ l. length l.places) (messages_in file whole choice) r)
+list_refused file whole choice e answer (inl none) is = judges_memory (λ (l : PlayList). length l.places) (messages_in file whole choice) answer (subst (λ (f : LoadError). IsRecordFault file f answer) none is)
+list_refused file whole choice e answer (inr many) is = told (subst (λ (f : LoadError). IsRecordFault file f answer) many.1 is)
+  where
+    many_fault : Fault
+    many_fault = fault.Record (load_error.TooManyPlayed (length (chosen whole choice)))
+
+    told : (answer ≡ Memory) ⊎ (answer ≡ Refused record { file = file; fault = many_fault })
+        → (let r : Result PlayList SetupError = Err answer in IsJudged (λ l. length l.places) (messages_in file whole choice) r)
+    told (inl none) = judges_memory (λ (l : PlayList). length l.places) (messages_in file whole choice) answer none
+    told (inr fits) =
+        subst (λ (a : SetupError). let r : Result PlayList SetupError = Err a in IsJudged (λ l. length l.places) (messages_in file whole choice) r) (sym fits)
+        (judges_refused (λ (l : PlayList). length l.places) (messages_in file whole choice) _ (rw (lt-ltb most_played (length (chosen whole choice)) many.0) refl))
+
+pub listed_refused : (file : List ℕ) (whole : Contents) (names : List (List ℕ)) (filter : Filter) (written outs : List ℕ) (values said : List ChannelValue) (e : LoadError) (answer : SetupError) → written ≡ outs → values ≡ said
+    → (let choice : Choice = record { names = names; filter = filter; written = written; values = values } in (e ≡ load_error.Memory) ⊎ IsTooMany whole choice e) → IsRecordFault file e answer
+    → (let choice : Choice = record { names = names; filter = filter; written = outs; values = said } in let r : Result PlayList SetupError = Err answer in IsJudged (λ l. length l.places) (messages_in file whole choice) r)
+listed_refused file whole names filter written outs values said e answer is same due told =
+    let P : List ℕ → Type 0 = λ ws. let choice : Choice = record { names = names; filter = filter; written = ws; values = said } in let r : Result PlayList SetupError = Err answer in IsJudged (λ (l : PlayList). length l.places) (messages_in file whole choice) r in
+    let Q : List ChannelValue → Type 0 = λ vs. let choice : Choice = record { names = names; filter = filter; written = written; values = vs } in let r : Result PlayList SetupError = Err answer in IsJudged (λ (l : PlayList). length l.places) (messages_in file whole choice) r in
+    subst P is (subst Q same (list_refused file whole record { names = names; filter = filter; written = written; values = values } e answer due told))
 
 -- a wiring is that of its functions of files
 wired_is : (dag : List ℕ) (refusal : Option DagError) (x y : Wired) → in_file dag fault.Dag (unless refusal x) ≡ Accepts y → x ≡ y

@@ -1,5 +1,5 @@
 -- How many ticks are given while messages are played: by the times of a record, and by those of its play list.
-use Rattle.std.proofs.Common.{ℕ, ◌+◌, ◌*◌, ◌≡◌, ◌≤◌, Bool, true, false, cond, List, [], ◌∷◌, ◌++◌, length, map, min, max, refl, sym, ap, subst, ◌∙◌, inl, inr, arith, All, length-append}
+use Rattle.std.proofs.Common.{ℕ, ℤ, Option, ◌+◌, ◌*◌, ◌≡◌, ◌≤◌, Bool, true, false, cond, List, [], ◌∷◌, ◌++◌, length, map, min, max, refl, sym, ap, subst, ◌∙◌, inl, inr, arith, All, length-append}
 use Rattle.std.specs.Prelude.{◌==◌, filter, if◌then◌else◌, sum_by}
 use Rattle.std.specs.List.{flat_map}
 use Rattle.std.specs.List.Sorted.{IsPermutation}
@@ -13,7 +13,7 @@ use Rattle.cy_msg.specs.declared.play_list.PlayList.{PlayList}
 use Rattle.cy_msg.specs.declared.token.Token.{Token}
 use Rattle.cy_reader.specs.Info.{greatest, least}
 use Rattle.cy_reader.specs.Record.{Contents}
-use Rattle.cy_reader.specs.Play.{Choice, IsPlayList, chosen, number_at, time_at, tokens_behind}
+use Rattle.cy_reader.specs.Play.{Choice, IsPlayList, chosen, number_at, time_at, tokens_behind, value_at}
 use Rattle.cy_reader.proofs.Playing.{length-tokens}
 use Rattle.cy_timer.specs.Merged.{merged, with_ticks}
 use Rattle.cy_timer.specs.Ticks.{last_time, multiples, ticks_at, ticks_between, ticks_of}
@@ -97,9 +97,9 @@ listed_number timer (t ∷ rest) rises =
     ap (λ (begin : ℕ). length (ticks_between begin (greatest (times (t ∷ rest))) timer)) (first_least t rest rises.0)
     ∙ ap (λ (end : ℕ). length (ticks_between t.time end timer)) (last_greatest t rest rises)
 
-times_behind : (number : ℕ → ℕ) (whole : Contents) (before places : List ℕ) → times (tokens_behind number whole before places) ≡ map (time_at whole) places
-times_behind number whole before [] = refl
-times_behind number whole before (place ∷ rest) = ap (λ (ts : List ℕ). time_at whole place ∷ ts) (times_behind number whole (before ++ place ∷ []) rest)
+times_behind : (number : ℕ → ℕ) (value : ℕ → Option ℤ) (whole : Contents) (before places : List ℕ) → times (tokens_behind number value whole before places) ≡ map (time_at whole) places
+times_behind number value whole before [] = refl
+times_behind number value whole before (place ∷ rest) = ap (λ (ts : List ℕ). time_at whole place ∷ ts) (times_behind number value whole (before ++ place ∷ []) rest)
 
 -- sums of what is alike
 sums_alike : {X : Type 0} (f g : X → ℕ) → ((x : X) → f x ≡ g x) → (xs : List X) → sum_by f xs ≡ sum_by g xs
@@ -152,14 +152,14 @@ module _ (whole : Contents) (choice : Choice) (list : PlayList) (is : IsPlayList
   number_is timer =
       sym (listed_number timer list.tokens (rises-from_timed list.tokens list.timed))
       ∙ ap (λ (ts : List Token). tick_number (times ts) timer) is.tokens
-      ∙ ap (λ (ts : List ℕ). tick_number ts timer) (times_behind (number_at whole choice) whole [] list.places)
+      ∙ ap (λ (ts : List ℕ). tick_number ts timer) (times_behind (number_at whole choice) (value_at whole choice) whole [] list.places)
       ∙ sym (same_number timer (times_of whole choice) (map (time_at whole) list.places) (IsPermutation-map (time_at whole) (chosen whole choice) list.places is.order.same))
 
   -- how many messages and ticks there are
   pub count_all : (timers : List Timer) → length (merged list.tokens timers) ≡ all_count whole choice timers
   count_all timers =
       let parts = length-merged list.tokens timers in
-      let messages = ap (λ (ts : List Token). length ts) is.tokens ∙ length-tokens (number_at whole choice) whole [] list.places in
+      let messages = ap (λ (ts : List Token). length ts) is.tokens ∙ length-tokens (number_at whole choice) (value_at whole choice) whole [] list.places in
       let moved = length_permutation (chosen whole choice) list.places is.order.same in
       let ticks = sums_alike (λ (t : Timer). length (ticks_of list.tokens t)) (tick_number (times_of whole choice)) number_is timers in
       omega (arith, parts, messages, moved, ticks)

@@ -24,6 +24,7 @@ use Rattle.cy_replay.specs.declared.error.Fault.TheVariants as fault
 use Rattle.cy_replay.specs.declared.error.Refusal.{Refusal}
 use Rattle.cy_replay.specs.AnswersFile.{answered_in, answers_file}
 use Rattle.cy_replay.specs.Faults.{unless, in_file}
+use Rattle.cy_replay.specs.Values.{valued_configs}
 
 -- The longest configuration file that is read, in bytes.
 abbrev pub longest_config : ℕ
@@ -89,7 +90,7 @@ sched_in None files = Accepts default_sched
 sched_in (Some name) files = text_in name files >>= λ file.
     in_file name fault.Sched (unless (sched_refusal file) (sched_of file))
 
--- All of it.
+-- All of it; answers have the values that the component files say.
 pub record Configured : Type 0 where
   pub dag : DagSays
   pub configs : List Config
@@ -101,7 +102,7 @@ configuration_in dag_name sched_name files = do
   dag ← dag_in dag_name files
   configs ← configs_in dag.components files
   sched ← sched_in sched_name files
-  Accepts record { dag = dag; configs = configs; sched = sched }
+  Accepts record { dag = dag; configs = valued_configs configs; sched = sched }
 
 -- The component files.
 abbrev pub files_of : List DagComponent → List (List ℕ)

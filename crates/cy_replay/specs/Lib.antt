@@ -13,4 +13,5 @@ pub mod Setup
 pub mod Steps
 pub mod Stops
 pub mod TraceFile
+pub mod Values
 pub mod Wiring

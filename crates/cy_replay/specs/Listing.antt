@@ -24,6 +24,7 @@ use Rattle.cy_replay.specs.declared.error.Fault.{Fault}
 use Rattle.cy_replay.specs.declared.error.Fault.TheVariants as fault
 use Rattle.cy_replay.specs.declared.error.Refusal.{Refusal}
 pub use Rattle.cy_replay.specs.RecordFile.{contents_or, record_in}
+use Rattle.cy_replay.specs.Values.{values_in}
 use Rattle.cy_replay.specs.Wiring.{Wired}
 
 -- The names of a record's channels.
@@ -37,8 +38,12 @@ written_in plans = map (λ p. p.out) plans ++ map (λ t. t.channel) (timers_of p
 
 -- What a record is played by where components are wired so.
 abbrev pub choice_of : Filter → Wired → Choice
-choice_of filter w =
-    record { names = w.names; filter = filter; written = written_in w.plans }
+choice_of filter w = record {
+  names = w.names;
+  filter = filter;
+  written = written_in w.plans;
+  values = values_in w.plans;
+}
 
 -- All that is played where components are wired so: the play list of some messages of a record,
 -- with the ticks of the wiring's timers among them.

@@ -142,6 +142,7 @@ fn with_answered(config: Config, answered: Answered) -> Config
             out_type: answered.out_type,
             description: answered.description,
             answers: options.answers,
+            values: options.values,
         },
         unknown,
     }

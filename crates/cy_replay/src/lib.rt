@@ -2,12 +2,13 @@
 //!
 //! `specs/Setup` says what all files of a replay come to, and what it is set up with:
 //! `specs/Configuration` what the configuration files come to, `specs/AnswersFile` what a component
-//! file comes to that names a record of answers, `specs/Passing` what stands in their place where
-//! one component passes messages on, `specs/Wiring` what wiring components does,
-//! `specs/Stops` what stop it has, `specs/Comes` what a call answers that reads files,
-//! `specs/FaultText` how a file that is refused is told. `specs/Apart` says that a file which is
-//! written is none of those that are read, `specs/TraceFile` which texts of traces are read,
-//! `specs/Merging` what several records come to that are joined to one.
+//! file comes to that names a record of answers, `specs/Values` which values the files say and what
+//! becomes of answers by them, `specs/Passing` what stands in their place where one component
+//! passes messages on, `specs/Wiring` what wiring components does, `specs/Stops` what stop it has,
+//! `specs/Comes` what a call answers that reads files, `specs/FaultText` how a file that is refused
+//! is told. `specs/Apart` says that a file which is written is none of those that are read,
+//! `specs/TraceFile` which texts of traces are read, `specs/Merging` what several records come to
+//! that are joined to one.
 #![tactic(auto)]
 
 mod answers;
@@ -23,6 +24,7 @@ mod setup;
 mod stops;
 mod text;
 mod trace_file;
+mod values;
 mod wiring;
 
 pub use apart::{STANDARD_OUTPUT, files_read, test_apart};

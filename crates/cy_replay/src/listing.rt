@@ -10,6 +10,7 @@ ghost use Rattle.cy_replay.specs.Listing.{messages_in, played_in, written_in};
 ghost use Rattle.cy_replay.specs.Wiring.{wired_by};
 
 use crate::error::{record_fault, refused};
+use crate::values::values_in;
 use crate::{Fault, SetupError};
 use cy_comp::Wiring;
 use cy_msg::{NamesError, PlayList, Text};
@@ -102,7 +103,8 @@ fn list_messages(
         (IsPlayList recorded.now (choice_of filter.now (wired_by wiring.now))) }
 {
     let written = written_by(alloc, wiring, timers)?;
-    match recorded.play_list(alloc, &wiring.names, filter, &written) {
+    let values = values_in(alloc, wiring.plans.as_slice())?;
+    match recorded.play_list(alloc, &wiring.names, filter, &written, &values) {
         Ok(list) => Ok(list),
         Err(fault) => Err(record_fault(alloc, name, fault)),
     }

@@ -6,10 +6,12 @@ ghost use Rattle.cy_replay.specs.Configuration.{configuration_in, IsAsked, IsAsk
 ghost use Rattle.cy_dag.specs.Wiring.{AreConfigs, IsOfClass};
 ghost use Rattle.cy_sched.specs.SchedFile.{IsPlaceable, default_sched};
 ghost use Rattle.cy_replay.specs.Steps.{dag_says, configured, scheduled_in};
+ghost use Rattle.cy_replay.specs.Values.{valued_configs};
 
 use crate::answers::with_answers;
 use crate::error::{dag_fault, sched_fault};
 use crate::text::read_text;
+use crate::values::valued_configs;
 use crate::{Configuration, SetupError};
 use cy_dag::{Config, Dag, DagComponent, read_component_config, read_dag};
 use cy_msg::Items;
@@ -159,9 +161,34 @@ fn with_scheduler<S: Store>(
     }
 }
 
+// The same, once the answers of the components have their values.
+fn with_values<S: Store>(
+    alloc: Global,
+    store: &mut S,
+    dag: Dag,
+    configs: Vec<Config>,
+    sched: Option<&str>,
+) -> Result<Configuration, SetupError>
+    requires { AreConfigs dag.components configs.items }
+    ensures comes { ComesTo configured (scheduled_in (dag_says dag) (valued_configs configs.items)
+        (option_map (λ n. n.now) sched.entry))
+        (λ file. option_map (λ n. n.now) sched.entry ≡ Some file) (S.shows store.old)
+        (S.shows store.new) result }
+    ensures placeable { IfOk result (λ c. IsPlaceable c.sched) }
+{
+    match valued_configs(alloc, configs) {
+        Ok(valued) => with_scheduler(alloc, store, dag, Items::new(valued), sched),
+        Err(_) => {
+            drop(dag);
+            Err(SetupError::Memory)
+        }
+    }
+}
+
 /// Reads the configuration files of a replay: a DAG file, the component files that it names, in the
 /// order of the DAG, each followed by the record of its answers, if it names one, and a scheduler
-/// file, if one is given. The first thing in the way is answered.
+/// file, if one is given. Answers have the values that the component files say. The first thing in
+/// the way is answered.
 pub fn read_configuration<S: Store, R: Threads + Sync>(
     rt: &R,
     alloc: Global,
@@ -177,7 +204,7 @@ pub fn read_configuration<S: Store, R: Threads + Sync>(
 {
     let dag = read_dag_file(alloc, store, dag)?;
     match read_configs(rt, alloc, store, dag.components.as_slice()) {
-        Ok(configs) => with_scheduler(alloc, store, dag, Items::new(configs), sched),
+        Ok(configs) => with_values(alloc, store, dag, configs, sched),
         Err(error) => {
             drop(dag);
             Err(error)

@@ -1,9 +1,11 @@
 -- What becomes of the messages of each channel, as it is found once for all of them.
-use Rattle.std.specs.Prelude.{◌≡◌, ℕ, ◌+◌, ◌<◌, ◌==◌, Bool, false, not, ◌&&◌, List, [], ◌∷◌, ◌++◌}
-use Rattle.std.specs.Prelude.{length, filter, slice_index_or}
+use Rattle.std.specs.Prelude.{◌≡◌, ℕ, ℤ, ◌+◌, ◌<◌, ◌==◌, Bool, false, not, ◌&&◌, List, [], ◌∷◌, ◌++◌}
+use Rattle.std.specs.Prelude.{length, filter, slice_index_or, Option, None}
 use Rattle.std.specs.List.{list_any}
 use Rattle.std.specs.List.Sorted.{IsSortedByKey, IsStableByKey}
 use Rattle.std.specs.Ordering.{nat_cmp}
+use Rattle.cy_value.specs.Values.{form_at, place_of, value_by}
+use Rattle.cy_value.specs.declared.values.ChannelValue.{ChannelValue}
 use Rattle.cy_request.specs.declared.filter.Filter.{Filter}
 use Rattle.cy_reader.specs.declared.play.ChannelUse.{ChannelUse}
 use Rattle.cy_reader.specs.Record.{Contents}
@@ -17,10 +19,11 @@ use_of choice name = record {
   number = number_in choice.names name;
   is_let = lets_channel choice.filter name;
   is_written = list_any (λ one. one == number_in choice.names name) choice.written;
+  form = place_of choice.values name;
 }
 
 abbrev pub no_use : ChannelUse
-no_use = record { number = 0; is_let = false; is_written = false }
+no_use = record { number = 0; is_let = false; is_written = false; form = None }
 
 pub record AreUses (whole : Contents) (choice : Choice) (uses : List ChannelUse) : Type 0 where
   pub all : length uses ≡ length whole.channels
@@ -33,6 +36,10 @@ use_at uses whole place = slice_index_or uses (message_at whole place).channel n
 
 abbrev pub number_by : List ChannelUse → Contents → ℕ → ℕ
 number_by uses whole place = (use_at uses whole place).number
+
+abbrev pub value_from : List ChannelUse → List ChannelValue → Contents → ℕ → Option ℤ
+value_from uses values whole place =
+    value_by (form_at values (use_at uses whole place).form) (message_at whole place).content
 
 abbrev pub passes_by : List ChannelUse → Filter → Contents → ℕ → Bool
 passes_by uses f whole place = (use_at uses whole place).is_let

@@ -3,6 +3,7 @@ use cy_msg::{Items, Names, NamesError, PlayList, Text, Token};
 use cy_reader::{ChannelSet, Record, load};
 use cy_request::Filter;
 use cy_store::{MemStore, Store};
+use cy_value::{ChannelValue, ScalarKind, ValueForm};
 use std::alloc::Global;
 use std::test::Fail;
 use std::thread::Threads;
@@ -93,12 +94,14 @@ fn filter_of(alloc: Global, choice: &Choice) -> Result<Filter, Fail> {
     })
 }
 
-// What is played of what follows a header. Of the two channels `b` has the number 0.
-fn played(
+// What is played of what follows a header, with these forms of values. Of the two channels `b` has
+// the number 0.
+fn played_by(
     rt: &(impl Threads + Sync),
     alloc: Global,
     rest: &[u8],
     choice: &Choice,
+    values: &[ChannelValue],
 ) -> Result<PlayList, Fail> {
     let record = record_of(rt, alloc, rest)?;
     let filter = filter_of(alloc, choice)?;
@@ -106,7 +109,31 @@ fn played(
     let mut names = Names::new(alloc);
     names.add(alloc, "b")?;
     add_channels(alloc, &record, &mut names)?;
-    Ok(record.play_list(alloc, &names, &filter, &written)?)
+    Ok(record.play_list(alloc, &names, &filter, &written, values)?)
+}
+
+// The same with no form.
+fn played(
+    rt: &(impl Threads + Sync),
+    alloc: Global,
+    rest: &[u8],
+    choice: &Choice,
+) -> Result<PlayList, Fail> {
+    played_by(rt, alloc, rest, choice, &[])
+}
+
+// The form of the values on a channel whose field 1 is of a kind.
+fn value(alloc: Global, channel: &str, kind: ScalarKind) -> Result<ChannelValue, Fail> {
+    let mut path = Vec::new(alloc);
+    path.push(1)?;
+    Ok(ChannelValue {
+        channel: Text::new(alloc, channel)?,
+        form: ValueForm {
+            path: Items::new(path),
+            kind,
+            scale: 1,
+        },
+    })
 }
 
 // A message that is played.
@@ -133,6 +160,29 @@ fn plays_by_time_and_then_in_file_order(rt: HostRuntime) -> Result<(), Fail> {
     assert_eq!(rt; list.tokens.as_slice(), want.as_slice());
     assert_eq!(rt; list.places.as_slice(), [1, 2, 3, 0, 4].as_slice());
     assert_eq!(rt; list.shadowed, 0);
+    Ok(())
+}
+
+#[test]
+fn reads_values_by_the_first_form_of_a_channel(rt: HostRuntime) -> Result<(), Fail> {
+    let alloc = rt.alloc();
+    let mut values = Vec::new(alloc);
+    for (channel, kind) in [
+        ("c", ScalarKind::Double),
+        ("a", ScalarKind::Uint64),
+        ("a", ScalarKind::Double),
+    ] {
+        values.push(value(alloc, channel, kind)?)?;
+    }
+    let list = played_by(&rt, alloc, FIVE, &ALL, &values)?;
+    let want = [
+        token(0, 0, 1, 3, Some(2)),
+        token(1, 1, 1, 3, None),
+        token(2, 0, 2, 3, Some(3)),
+        token(3, 1, 2, 5, Some(2)),
+        token(4, 1, 3, 7, Some(1)),
+    ];
+    assert_eq!(rt; list.tokens.as_slice(), want.as_slice());
     Ok(())
 }
 

@@ -12,7 +12,7 @@ use_of-requires-clause-kept c =
 pub loop-channel-preserved : goal.loop-channel-preserved
 loop-channel-preserved c =
     let less : c.loop-channel.channel < length c.args.whole.now.channels = search rules in
-    let choice : Choice = record { names = c.args.names.now; filter = c.args.filter.now; written = c.args.written.now } in
+    let choice : Choice = record { names = c.args.names.now; filter = c.args.filter.now; written = c.args.written.now; values = c.args.values.now } in
     let name = (named-at c.args.names.now c.args.whole.now c.loop-channel.channel c.channel.result.now c.requires.named less c.channel.ensures).1 in
     let inv = c.loop-channel.invariant in
     let all = inv.all in
