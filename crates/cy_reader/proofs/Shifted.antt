@@ -1,5 +1,5 @@
 -- The messages of a later record, behind those that are kept.
-use Rattle.std.proofs.Common.{◌≡◌, ◌<◌, ◌≤◌, ◌+◌, ◌^◌, ℕ, zero, suc, List, [], ◌∷◌, ◌++◌, length, length-append, refl, sym, ap, subst, ◌∙◌, All, arith, Result, Ok, Err, Some, inl, inr, slice_get}
+use Rattle.std.proofs.Common.{◌≡◌, ◌<◌, ◌≤◌, ◌+◌, ◌^◌, ℕ, zero, suc, List, [], ◌∷◌, ◌++◌, length, length-append, refl, sym, ap, subst, ◌∙◌, All, arith, Result, Ok, Err, Some, inl, inr, slice_get, take, drop, set, get_or}
 use Rattle.std.specs.Prelude.{map, slice_index_or, OnOk, IsOkUnless, ◌⊎◌}
 use Rattle.std.proofs.lemmas.List.{length-map}
 use Rattle.std.proofs.lemmas.List.Elements.{All-append, All-cons, All-nil}
@@ -20,6 +20,18 @@ use Rattle.cy_reader.specs.private.Uniting.{shifted}
 use Rattle.cy_reader.proofs.JoinedChannels.{joined_once}
 use Rattle.cy_reader.proofs.Moved.{map-joined}
 use Rattle.cy_reader.proofs.Told.{bind_ok}
+
+-- ---- one more message is shifted in its place
+
+pub shift_more : (f : Message → Message) (ms : List Message) (i : ℕ) (d : Message) → i < length ms → set (map f (take i ms) ++ drop i ms) i (f (get_or ms i d)) ≡ map f (take (suc i) ms) ++ drop (suc i) ms
+shift_more f [] i d few = absurd (omega (arith, few))
+shift_more f (m ∷ ms) zero d few = refl
+shift_more f (m ∷ ms) (suc i) d few = ap (λ (l : List Message). f m ∷ l) (shift_more f ms i d (omega (arith, few)))
+
+pub not_yet : (f : Message → Message) (ms : List Message) (i : ℕ) (d : Message) → i < length ms → get_or (map f (take i ms) ++ drop i ms) i d ≡ get_or ms i d
+not_yet f [] i d few = absurd (omega (arith, few))
+not_yet f (m ∷ ms) zero d few = refl
+not_yet f (m ∷ ms) (suc i) d few = not_yet f ms i d (omega (arith, few))
 
 -- ---- the bodies
 

@@ -110,8 +110,7 @@ impl Merged {
             return Err(LoadError::Memory);
         }
         let (many, further) = (bodies.len() as u32, more.len() as u32);
-        join_loading(alloc, many, &mut loading, further, &later)?;
-        drop(later);
+        join_loading(alloc, many, &mut loading, further, later)?;
         bodies.append(&mut more)?;
         Ok(Merged {
             size,

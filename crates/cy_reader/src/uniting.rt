@@ -200,29 +200,28 @@ fn join_channels(
     Ok(numbers)
 }
 
-// Keeps messages whose bodies stand behind so many others, and whose channels have these numbers.
-fn shift_messages(
-    messages: &mut Vec<Message>,
-    later: &[Message],
-    bodies: u32,
-    numbers: &[u32],
-) -> Result<(), LoadError>
-    requires numbered { All (λ m. m.channel < length numbers.now) later.now }
-    requires placed { All (λ m. bodies + m.body < 2 ^ 32) later.now }
-    ensures shifted { OnOk result (messages.new.items
-        ≡ messages.old.items ++ map (shifted bodies numbers.now) later.now) }
+// Puts messages on the channels of these numbers, and their bodies behind so many others.
+fn shift_messages(later: &mut Vec<Message>, bodies: u32, numbers: &[u32])
+    requires numbered { All (λ m. m.channel < length numbers.now) later.old.items }
+    requires placed { All (λ m. bodies + m.body < 2 ^ 32) later.old.items }
+    ensures { later.new.items ≡ map (shifted bodies numbers.now) later.old.items }
+{
+    for message in later.iter_mut() {
+        message.channel = numbers[message.channel as usize];
+        message.body = bodies + message.body;
+    }
+}
+
+// Keeps messages behind those that are kept. The first ones keep their memory.
+fn keep_messages(messages: &mut Vec<Message>, mut later: Vec<Message>) -> Result<(), LoadError>
+    ensures kept { OnOk result (messages.new.items ≡ messages.old.items ++ later.items) }
     ensures only_memory { IsOkUnless result LoadError.Memory }
 {
-    messages.reserve(later.len())?;
-    for message in later {
-        messages.push(Message {
-            channel: numbers[message.channel as usize],
-            body: bodies + message.body,
-            time: message.time,
-            start: message.start,
-            length: message.length,
-        })?;
+    if messages.is_empty() {
+        *messages = later;
+        return Ok(());
     }
+    messages.append(&mut later)?;
     Ok(())
 }
 
@@ -232,18 +231,22 @@ pub(crate) fn join_loading(
     bodies: u32,
     loading: &mut Loading,
     more: u32,
-    later: &Loading,
+    later: Loading,
 ) -> Result<(), LoadError>
-    requires sound { IsSound bodies loading.old × IsSound more later.now }
+    requires sound { IsSound bodies loading.old × IsSound more later }
     requires room { bodies + more < 2 ^ 32 }
-    requires few { length loading.old.messages.items + length later.now.messages.items < 2 ^ 32 }
+    requires few { length loading.old.messages.items + length later.messages.items < 2 ^ 32 }
     ensures met { (before behind : List (List ℕ)) → length before ≡ bodies → length behind ≡ more
         → Leads result (met_of (before ++ behind) loading.new)
-        (met_joined (met_of behind later.now) (met_of before loading.old)) }
+        (met_joined (met_of behind later) (met_of before loading.old)) }
     ensures still_sound { OnOk result (IsSound (bodies + more) loading.new) }
     ensures not_store { IfErr result (λ e. e ≢ LoadError.Store) }
 {
-    let numbers = join_channels(alloc, &mut loading.channels, later.channels.list.as_slice())?;
-    let messages = later.messages.as_slice();
-    shift_messages(&mut loading.messages, messages, bodies, numbers.as_slice())
+    let Loading {
+        channels,
+        mut messages,
+    } = later;
+    let numbers = join_channels(alloc, &mut loading.channels, channels.list.as_slice())?;
+    shift_messages(&mut messages, bodies, numbers.as_slice());
+    keep_messages(&mut loading.messages, messages)
 }
