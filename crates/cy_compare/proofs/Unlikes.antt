@@ -1,6 +1,7 @@
 -- Where a file first differs from a text, part by part.
 use Rattle.std.proofs.Common.{◌≡◌, ℕ, ◌+◌, ◌-◌, ◌<◌, ◌≤◌, suc, Bool, true, false, List, [], ◌∷◌, ◌++◌, length, take, drop, min, Option, Some, None, refl, sym, ap, ◌∙◌, subst, inl, inr, arith, length-append, append_assoc, if◌then◌else◌}
 use Rattle.std.specs.Prelude.{◌==◌, ◌⊎◌, IsSomeAnd}
+use Rattle.std.proofs.lemmas.Bool.{eq-eqb}
 use Rattle.std.specs.FinMap.{get}
 use Rattle.cy_store.specs.Files.{Files, Holds}
 use Rattle.std.specs.Option.{option_or, option_map}
@@ -37,7 +38,11 @@ unlike-front at n file text within =
     (sym (unlike-take at file (take n text)))
     ∙ ap (λ (k : ℕ). option_or (unlike at (take k file) (take n text)) (unlike (at + k) (drop k file) (drop n text))) size
 
--- the whole text
+-- a text that is the same
+pub unlike-same : (at : ℕ) (text : List ℕ) → unlike at text text ≡ None
+unlike-same at [] = refl
+unlike-same at (b ∷ text) =
+    ap (λ (t : Bool). if t then unlike (at + 1) text text else Some at) (eq-eqb b b refl) ∙ unlike-same (at + 1) text
 
 -- where the file goes on behind the text
 abbrev pub longer : (at : ℕ) → (file text : List ℕ) → Option ℕ

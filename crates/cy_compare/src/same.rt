@@ -102,7 +102,7 @@ fn compared_at<S: Store>(
 /// none where it holds just that record.
 ///
 /// The record is written section by section, and each is compared and dropped. The file is read in
-/// pieces of at most 1,048,576 bytes, behind its header as far as it is the same, and its header
+/// pieces of at most 262,144 bytes, behind its header as far as it is the same, and its header
 /// last.
 pub fn same_record<S: Store>(
     alloc: Global,

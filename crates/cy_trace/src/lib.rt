@@ -12,6 +12,7 @@ mod error;
 mod fault;
 mod front;
 mod front_call;
+mod hints;
 mod kept_call;
 mod laws;
 mod line;
@@ -29,6 +30,7 @@ mod tape;
 mod tape_lines;
 mod text;
 mod trace;
+mod turn;
 mod typed;
 mod word;
 

@@ -3,6 +3,7 @@ ghost use Rattle.std.specs.Prelude.{◌≡◌, ◌<◌, [], length, slice_get, S
 ghost use Rattle.cy_trace.specs.Tapes.{entry_of};
 
 use crate::added::with_room;
+use crate::hints::Hints;
 use crate::named::{NamedSeq, TapeName};
 use cy_msg::Text;
 use std::alloc::Global;
@@ -16,6 +17,8 @@ pub struct Tape {
     // The number of each of the first names, by the name in quotes. It is a guess: a line is of the
     // name only where it begins as the name's lines do.
     pub(crate) numbers: HashMap<Vec<u8>, u32>,
+    // Guesses that take less time.
+    pub(crate) hints: Hints,
     pub(crate) messages: Vec<NamedSeq>,
 }
 
@@ -39,6 +42,7 @@ impl Tape {
         Tape {
             names: Vec::new(alloc),
             numbers: HashMap::new(alloc),
+            hints: Hints::none(alloc),
             messages: Vec::new(alloc),
         }
     }
@@ -50,6 +54,7 @@ impl Tape {
         Tape {
             names: Vec::new(alloc),
             numbers: HashMap::new(alloc),
+            hints: Hints::with_room(alloc),
             messages: with_room(alloc, most),
         }
     }

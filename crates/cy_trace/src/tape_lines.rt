@@ -7,7 +7,9 @@ ghost use Rattle.cy_trace.specs.declared.line.Line.TheVariants as line;
 use crate::added::is_added;
 use crate::fault::Fault;
 use crate::front::{front_byte, front_short, front_word};
+use crate::hints::{Hints, place_of};
 use crate::named::TapeName;
+use crate::turn::Turn;
 use crate::word::{cut, cut_last};
 use crate::{NamedSeq, Tape, TapeEntry};
 use cy_msg::{Bytes, Text, push_quoted};
@@ -31,6 +33,7 @@ impl Tape {
         let Tape {
             mut names,
             mut numbers,
+            hints,
             mut messages,
         } = self;
         let TapeEntry { name, seq } = entry;
@@ -41,6 +44,7 @@ impl Tape {
         Ok(Tape {
             names,
             numbers,
+            hints,
             messages,
         })
     }
@@ -53,6 +57,7 @@ impl Tape {
         take_messages(
             self.names.as_slice(),
             &self.numbers,
+            &mut self.hints,
             &mut self.messages,
             bytes,
             line,
@@ -76,30 +81,19 @@ fn keep_number(
     Ok(())
 }
 
-// The number of the name whose line the bytes may begin with.
-#[inline(always)]
-fn guess_of(numbers: &HashMap<Vec<u8>, u32>, bytes: &[u8]) -> Option<u32> {
+// The number of the name whose line the bytes may begin with, found by the whole name.
+fn number_of(numbers: &HashMap<Vec<u8>, u32>, bytes: &[u8]) -> Option<u32> {
     let rest = front_word(bytes, b"tape ")?;
     let (line, _) = cut(rest, b'\n')?;
     let (quoted, _) = cut_last(line, b' ')?;
     numbers.get(quoted).copied()
 }
 
-// The number behind a name's: behind the last one comes the first.
-#[inline(always)]
-fn next_of(names: &[TapeName], number: u32) -> u32 {
-    let next = number.wrapping_add(1);
-    if (next as usize) < names.len() {
-        next
-    } else {
-        0
-    }
-}
-
 // Takes the messages of these names whose lines come next.
 fn take_messages<'a>(
     names: &[TapeName],
     numbers: &HashMap<Vec<u8>, u32>,
+    hints: &mut Hints,
     messages: &mut Vec<NamedSeq>,
     bytes: &'a [u8],
     line: u32,
@@ -112,12 +106,12 @@ fn take_messages<'a>(
 {
     let mut rest = bytes;
     let mut next = line;
-    let mut tried = 0;
-    while let Some((message, more)) = front_message(names, numbers, tried, rest) {
+    let mut turn = Turn::first();
+    while let Some((message, more)) = front_message(names, numbers, hints, turn, rest) {
         if !is_added(messages, message) {
             return (rest, next);
         }
-        tried = next_of(names, message.name);
+        turn = turn.after(message.name, names.len());
         rest = more;
         next += 1;
     }
@@ -155,21 +149,31 @@ fn front_of<'a>(names: &[TapeName], number: u32, bytes: &'a [u8]) -> Option<(Nam
     Some((NamedSeq { name: number, seq }, rest))
 }
 
-// The message whose line the bytes begin with, where its name is among these. The name that comes
-// next in turns is tried first, which takes less time than to find one.
+// The message whose line the bytes begin with, where its name is among these: the name that comes
+// next in turns, or that of a hint, or else the one that is found by the map, which takes longest.
 #[inline(always)]
 fn front_message<'a>(
     names: &[TapeName],
     numbers: &HashMap<Vec<u8>, u32>,
-    tried: u32,
+    hints: &mut Hints,
+    turn: Turn,
     bytes: &'a [u8],
 ) -> Option<(NamedSeq, &'a [u8])>
     ensures { IfSome result (λ p. (p.0.name < length names.now)
         × BeginsWith bytes.now (line.Tape (entry_by names.now p.0)) p.1.now) }
 {
-    let found = front_of(names, tried, bytes);
+    if turn.is_kept {
+        let found = front_of(names, turn.number, bytes);
+        if found.is_some() {
+            return found;
+        }
+    }
+    let place = place_of(bytes);
+    let found = front_of(names, hints.at(place), bytes);
     if found.is_some() {
         return found;
     }
-    front_of(names, guess_of(numbers, bytes)?, bytes)
+    let number = number_of(numbers, bytes)?;
+    hints.note(place, number);
+    front_of(names, number, bytes)
 }

@@ -9,7 +9,7 @@ use cy_store::{MemStore, Store, StoreError};
 use std::test::Fail;
 
 // The most bytes that one read may ask for.
-const PIECE: usize = 1_048_576;
+const PIECE: usize = 262_144;
 
 // A store that notes how its files are read, and lends no more than so many bytes at once.
 #[derive(Drop)]

@@ -22,7 +22,7 @@ use crate::play::read_files;
 use crate::status::Status;
 use crate::unset::due_unset;
 use cy_compare::{SameError, same_record};
-use cy_msg::{Bytes, PlayList};
+use cy_msg::{Bytes, PlayList, Token};
 use cy_recording::{Played, played_places_are_there};
 use cy_replay::{Fault, Replay, SetupError, failed, read_trace_file, refused};
 use cy_store::Store;
@@ -33,8 +33,9 @@ use cy_trace::{
 use cy_verify::{Told, Verdict, VerifyError, verify};
 use cy_words::Play;
 use std::alloc::Global;
+use std::mem::size_of;
 use std::thread::Threads;
-use wake_core::laws;
+use wake_core::{laws, planned};
 
 // What holds of all files of a play that are accepted. Nothing runs.
 fn is_set_out(play: &Play, replay: &Replay)
@@ -45,15 +46,41 @@ fn is_set_out(play: &Play, replay: &Replay)
     traces_of_runs_fit(&replay.wiring, list.tokens.as_slice(), list.shadowed);
 }
 
-// Reads the trace.
-fn trace_of<S: Store>(alloc: Global, play: &Play, store: &mut S) -> Result<Trace, SetupError>
+// How many bytes the tape of a run takes at most.
+fn tape_size(play: &Play, replay: &Replay) -> usize
+    requires { IsSetUp (play_words_of play.now).request replay.now }
+{
+    let most = planned(&replay.wiring, replay.counts.as_slice()) as usize;
+    most.saturating_mul(size_of::<Token>())
+}
+
+// Takes room for a text until it has so many bytes, where there is memory: what isn't used of it is
+// never touched.
+fn take_room(text: &mut Vec<u8>, size: usize)
+    ensures { text.new.items ≡ text.old.items }
+{
+    let more = size.saturating_sub(text.len());
+    match text.reserve_exact(more) {
+        Ok(()) | Err(_) => {}
+    }
+}
+
+// Reads the trace. Its text takes as much room as the tape of the run, which gets that room once
+// the text is given back; else it would need more beside it.
+fn trace_of<S: Store>(
+    alloc: Global,
+    play: &Play,
+    store: &mut S,
+    tape_size: usize,
+) -> Result<Trace, SetupError>
     ensures { (read : Replayed) (list : PlayList) → Finds
         (IsTraceIn (play_words_of play.now) (S.shows store.old))
         (Judged (play_words_of play.now) read list (S.shows store.old).files)
         (λ file. file ≡ (play_words_of play.now).trace)
         (S.shows store.old) (S.shows store.new) result }
 {
-    let text = read_trace_file(alloc, store, play.trace)?;
+    let mut text = read_trace_file(alloc, store, play.trace)?;
+    take_room(&mut text, tape_size);
     let trace = read_trace(alloc, text.as_slice());
     drop(text);
     match trace {
@@ -100,7 +127,7 @@ fn judged_run<S: Store>(
 {
     texts_tell_traces();
     runs_are_traces();
-    let trace = trace_of(alloc, play, store)?;
+    let trace = trace_of(alloc, play, store, tape_size(play, replay))?;
     let told = run_of(alloc, play, replay, &trace);
     drop(trace);
     told

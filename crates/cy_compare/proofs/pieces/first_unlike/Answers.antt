@@ -1,6 +1,10 @@
-use Rattle.std.proofs.Common.{◌+◌, sym, ◌∙◌}
-use Rattle.cy_compare.proofs.Unlikes.{unlike-ended}
+use Rattle.std.proofs.Common.{sym, ap, ◌∙◌, List, ℕ}
+use Rattle.std.specs.Cmp.Lexicographic.{same_text}
+use Rattle.cy_compare.specs.private.Unlike.{unlike}
+use Rattle.cy_compare.proofs.Unlikes.{unlike-same}
 use Rattle.cy_compare.proofs.pieces.first_unlike.Goals as goal
 
-pub returns-then-n-file : goal.returns-then-n-file
-returns-then-n-file c = sym (c.loop-n.invariant ∙ unlike-ended (c.args.at + c.loop-n.n) c.loop-n.n c.args.file.now c.args.text.now c.if-n-file.true c.loop-n-test.true)
+pub returns-then-eq : goal.returns-then-eq
+returns-then-eq c =
+    let same = same_text c.args.file.now c.args.text.now (sym c.if-eq.true ∙ c.eq.ensures) in
+    sym (ap (λ (file : List ℕ). unlike c.args.at file c.args.text.now) same ∙ unlike-same c.args.at c.args.text.now)
