@@ -80,6 +80,7 @@ module _ {A T : Type 0} (c : Command) (reads : List ℕ → Result A LoadError) 
         work = work_of done.was;
         accepted = accepted old.files done.was by done.read;
         written = done.written;
+        counts = done.counts;
         told = says.1 ∙ ap text done.tells;
       }
 

@@ -31,11 +31,13 @@ use Rattle.cy_commands.specs.Lines.{store_line, memory_line}
 use Rattle.cy_commands.specs.private.MakeEnds.{IsMade, IsDueUnmade, IsDueUnplayed, result_suffix}
 use Rattle.cy_words.specs.MakeWords.{MakeWords}
 use Rattle.cy_commands.specs.Commands.MakeWork.{IsMakeWork, made_files, play_made}
-use Rattle.cy_commands.specs.PlayEnds.{HasRun, IsLine, WritesPlay, name_of_play, source_by, writes_by}
+use Rattle.cy_commands.specs.PlayEnds.{HasRun, source_by}
+use Rattle.cy_commands.specs.private.PlayWrites.{IsLine, WritesPlay, name_of_play, writes_by}
 use Rattle.cy_words.specs.PlayWords.{PlayWords}
 use Rattle.cy_commands.specs.Commands.PlayWork.{play_line, replayed_in, run_trace}
 use Rattle.cy_commands.proofs.PiecesPut.{whole}
 use Rattle.cy_commands.proofs.PlayExits as play
+use Rattle.cy_commands.proofs.Refusing.{same_since}
 
 -- what `make` makes, its trace in these pieces
 abbrev pub work_of : MakeWords → Replay → (pieces : List (List ℕ)) → Plain → Work
@@ -102,15 +104,16 @@ unmade w x world old new make_error.Memory due line some made run stopped is =
 
 -- they were, and so was what `play` writes
 pub done : (w : MakeWords) (p : PlayWords) (x : Replay) (world : Plain) (old mid new : StoreView) (line : List ℕ) → p ≡ play_made w → 0 < w.count → IsMade w x → HasRun true x world
-    → mid.files ≡ option_map (after_writes (input_writes w.count w.prefix)) old.files → WritesPlay p x world mid new (Ok line)
+    → mid.files ≡ option_map (after_writes (input_writes w.count w.prefix)) old.files → SameCounts old mid → WritesPlay p x world mid new (Ok line)
     → IsLine x world line → IsDueFor (Make w) old new Done line
-done w p x world old mid new line same some made run first second told =
+done w p x world old mid new line same some made run first counts second told =
     let play : WritesPlay (play_made w) x world mid new (Ok line) = subst (λ (q : PlayWords). WritesPlay q x world mid new (Ok line)) same second in
     let more = writes_by (play_made w) x play.pieces world in
     record {
       work = work_of w x play.pieces world;
       accepted = makes w x play.pieces world play.cut some made run;
       written = play.done ∙ ap (option_map (after_writes more)) first ∙ map-after_writes (input_writes w.count w.prefix) more old.files;
+      counts = same_since old mid new counts play.counts;
       told = told;
     }
 

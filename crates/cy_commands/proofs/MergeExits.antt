@@ -36,7 +36,7 @@ use Rattle.cy_commands.specs.private.Unset.{IsDueUnset, IsStarved}
 use Rattle.cy_commands.proofs.KeptExits.{writes_kept}
 use Rattle.cy_commands.proofs.NamesApart.{first_also, made_onward, not_apart, onward, refused_onward, second_tested}
 use Rattle.cy_commands.proofs.PlayWriting.{file_named}
-use Rattle.cy_commands.proofs.Refusing.{ReadsBy, starved, unset, view_same}
+use Rattle.cy_commands.proofs.Refusing.{ReadsBy, same_since, starved, unset, view_same}
 
 -- ---- the names
 
@@ -125,6 +125,7 @@ merged w before mid new g s told records due line is ordered answer many says =
       work = work_of w s;
       accepted = accepted w before mid g s is ordered answer.text;
       written = answer.makes.done ∙ ap (option_map (after_writes (work_of w s).writes)) is.1.same;
+      counts = same_since before mid new is.1.accepted.0 (answer.causes.quiet (λ e. cc));
       told = says.1 ∙ ap (λ (n : ℕ). messages_line n (codes ", records ") records) answer.counts ∙ ap (messages_line (length s.met.messages) (codes ", records ")) many;
     }
 

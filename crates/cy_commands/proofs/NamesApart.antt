@@ -11,7 +11,8 @@ use Rattle.cy_replay.specs.declared.setup.Replay.{Replay}
 use Rattle.cy_replay.proofs.Coming.{comes_err, comes_then}
 use Rattle.cy_words.specs.PlayWords.{PlayWords}
 use Rattle.cy_commands.specs.Commands.PlayWork.{outputs_apart, replayed_in}
-use Rattle.cy_commands.specs.PlayEnds.{IsRead, SetsUp}
+use Rattle.cy_commands.specs.PlayEnds.{SetsUp}
+use Rattle.cy_commands.specs.private.PlayWrites.{ReadsReplay}
 use Rattle.cy_replay.specs.FaultText.{is_limit}
 use Rattle.cy_replay.specs.declared.error.Refusal.{Refusal}
 use Rattle.cy_replay.specs.declared.error.SetupError.{SetupError}
@@ -136,18 +137,18 @@ second_tested {X} {Y} name other first second all more files y result same same_
 abbrev next_of : PlayWords → Replayed → Files → Reads Refusal Replayed
 next_of w x m = outputs_apart w x.configured >>= λ _. Accepts x
 
-pub is_ready : {Y : Type 0} (w : PlayWords) (before mid new : StoreView) (x : Replay) (y : Y) → IsRead w before mid (Ok x) → new ≡ mid
+pub is_ready : {Y : Type 0} (w : PlayWords) (before mid new : StoreView) (x : Replay) (y : Y) → ReadsReplay w before mid (Ok x) → new ≡ mid
     → (let r : Result Y SetupError = Ok y in IfSome mid.files (λ _. IsJudged (λ (u : Y). tt) (outputs_apart w (replayed x).configured) r)) → SetsUp w before new (Ok x)
 is_ready w before mid new x y read same apart =
     comes_then replayed (replayed_in w) (next_of w) (λ _. ⊥) (IsAsked w.request before.files) before mid new (replayed x) (Ok x) (record { same = read.same; counts = read.accepted.0 }) read.accepted.1 (λ file no. absurd no)
     (readied replayed x (outputs_apart w (replayed x).configured) mid new same y apart)
 
-pub is_unready : {Y : Type 0} (w : PlayWords) (before mid new : StoreView) (x : Replay) (e : SetupError) → IsRead w before mid (Ok x) → new ≡ mid
+pub is_unready : {Y : Type 0} (w : PlayWords) (before mid new : StoreView) (x : Replay) (e : SetupError) → ReadsReplay w before mid (Ok x) → new ≡ mid
     → (let r : Result Y SetupError = Err e in IfSome mid.files (λ _. IsJudged (λ (u : Y). tt) (outputs_apart w (replayed x).configured) r))
     → (let r : Result Y SetupError = Err e in (file : List ℕ) → IsErrOf r (setup.Store file) → ⊥) → (let r : Result Replay SetupError = Err e in SetsUp w before new r)
 is_unready {Y} w before mid new x e read same apart unread =
     comes_then replayed (replayed_in w) (next_of w) (λ _. ⊥) (IsAsked w.request before.files) before mid new (replayed x) (Err e) (record { same = read.same; counts = read.accepted.0 }) read.accepted.1 (λ file no. absurd no)
     (unready replayed x (outputs_apart w (replayed x).configured) mid new same {Y = Y} e apart unread)
 
-pub is_unread : (w : PlayWords) (old new : StoreView) (e : SetupError) → (let r : Result Replay SetupError = Err e in IsRead w old new r) → (let r : Result Replay SetupError = Err e in SetsUp w old new r)
+pub is_unread : (w : PlayWords) (old new : StoreView) (e : SetupError) → (let r : Result Replay SetupError = Err e in ReadsReplay w old new r) → (let r : Result Replay SetupError = Err e in SetsUp w old new r)
 is_unread w old new e read = comes_err replayed (replayed_in w) (next_of w) (IsAsked w.request old.files) old new e (λ file asked. asked) read

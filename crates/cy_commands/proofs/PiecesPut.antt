@@ -16,7 +16,7 @@ use Rattle.cy_writer.specs.RecordWrites.{file_writes}
 use Rattle.cy_writer.proofs.Puts.{as_writes, causes_made, causes_put, causes_then, causes_none, holds-after, makes_done, makes_first, makes_none, makes_put, makes_then, makes_uncreated, map-after_writes, untold_map}
 use Rattle.cy_writer.proofs.RecordBytes.{after_placed}
 use Rattle.cy_writer.proofs.Closing.{placed-append}
-use Rattle.cy_commands.specs.PlayEnds.{PutsPieces, WritesPieces}
+use Rattle.cy_commands.specs.private.PlayWrites.{PutsPieces, WritesPieces}
 
 -- the bytes of pieces
 abbrev pub whole : List (List ℕ) → List ℕ

@@ -31,7 +31,8 @@ use Rattle.cy_words.specs.Command.{Play}
 use Rattle.cy_commands.specs.Work.{IsMadeOf, Work}
 use Rattle.cy_commands.specs.Due.{IsDueFor}
 use Rattle.cy_commands.specs.Lines.{store_line}
-use Rattle.cy_commands.specs.PlayEnds.{SetsUp, HasRun, IsDueAfterPlay, IsLine, WritesPlay, source_by, writes_by}
+use Rattle.cy_commands.specs.PlayEnds.{SetsUp, HasRun, source_by}
+use Rattle.cy_commands.specs.private.PlayWrites.{IsDueAfterPlay, IsLine, WritesPlay, writes_by}
 use Rattle.cy_words.specs.PlayWords.{PlayWords}
 use Rattle.cy_commands.specs.Commands.PlayWork.{IsPlayed, IsPlayWork, readied_in, play_line, tape_record, run_trace}
 use Rattle.cy_commands.proofs.PiecesPut.{whole}
@@ -92,6 +93,7 @@ done w x world old mid new line came s h made told = record {
   work = work_of w x made.pieces world;
   accepted = accepted w (readied_in w) x made.pieces world old.files made.cut came.accepted.1 s h;
   written = made.done ∙ ap (option_map (after_writes (writes_by w x made.pieces world))) came.same;
+  counts = refusing.same_since old mid new came.accepted.0 made.counts;
   told = told;
 }
 

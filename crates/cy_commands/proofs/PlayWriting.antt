@@ -5,7 +5,7 @@ use Rattle.std.specs.Option.{option_map}
 use Rattle.cy_msg.specs.declared.token.Token.{Token}
 use Rattle.cy_store.specs.Files.{Files}
 use Rattle.cy_store.specs.Write.{Write, Create, name_of, after_writes}
-use Rattle.cy_store.specs.Store.{StoreView}
+use Rattle.cy_store.specs.Store.{StoreView, SameCounts}
 use Rattle.cy_writer.specs.declared.error.WriteError.{WriteError}
 use Rattle.cy_writer.specs.declared.error.WriteError.TheVariants as write_error
 use Rattle.cy_writer.specs.Writes.{placed, puts_into, Makes, StopsAt, StopsBefore}
@@ -20,8 +20,10 @@ use Rattle.wake_core.specs.Plain.{Plain}
 use Rattle.wake_core.specs.Rest.{run_shown}
 use Rattle.cy_replay.specs.declared.setup.Replay.{Replay}
 use Rattle.cy_commands.specs.Commands.PlayWork.{run_trace}
-use Rattle.cy_commands.specs.PlayEnds.{name_of_play, source_by, unwritten, WritesPieces, WritesPlay}
+use Rattle.cy_commands.specs.PlayEnds.{source_by}
+use Rattle.cy_commands.specs.private.PlayWrites.{name_of_play, unwritten, WritesPieces, WritesPlay}
 use Rattle.cy_words.specs.PlayWords.{PlayWords}
+use Rattle.cy_commands.proofs.Refusing.{same_since}
 
 -- the puts of a record's tape
 abbrev pub puts_of : PlayWords → Source → List Token → List (ℕ × List ℕ)
@@ -139,6 +141,7 @@ unrecorded w x world tape old new error found same blames unbroken made =
       pieces = text ∷ [];
       cut = append-nil text;
       done = tt;
+      counts = tt;
       failed = first_fails w (source_by x) tape world.tape ((0, text) ∷ []) old new error found same blames unbroken made;
       memory = first_starves w (source_by x) tape world.tape ((0, text) ∷ []) old new error found same blames made;
     }
@@ -152,6 +155,7 @@ untold w x world tape old mid answer same done err other =
       pieces = text ∷ [];
       cut = append-nil text;
       done = none answer _ err;
+      counts = none answer _ err;
       failed = λ f e. absurd (other f e);
       memory = λ e. record {
         before = record_writes w (source_by x) world.tape;
@@ -176,6 +180,7 @@ untraced w x world tape text old mid new error found same is done blames p =
       pieces = p.pieces;
       cut = p.cut ∙ is;
       done = tt;
+      counts = tt;
       failed = second_fails w before (placed 0 p.pieces) old mid new error found first blames p.unbroken p.makes;
       memory = second_starves w before (placed 0 p.pieces) old mid new error found first blames p.makes;
     }
@@ -183,11 +188,12 @@ untraced w x world tape text old mid new error found same is done blames p =
 -- both were written
 pub written : (w : PlayWords) (x : Replay) (world : Plain) (tape : List Token) (text : List ℕ) (old mid new : StoreView) (line : List ℕ) → tape ≡ world.tape
     → text ≡ run_trace (source_by x) x.list.shadowed (run_shown world) → mid.files ≡ option_map (after_writes (record_writes w (source_by x) tape)) old.files
-    → WritesPieces {T = Unit {0}} w.trace text mid new (Ok tt) → WritesPlay w x world old new (Ok line)
-written w x world tape text old mid new line same is done p = record {
+    → SameCounts old mid → WritesPieces {T = Unit {0}} w.trace text mid new (Ok tt) → WritesPlay w x world old new (Ok line)
+written w x world tape text old mid new line same is done counts p = record {
   pieces = p.pieces;
   cut = p.cut ∙ is;
   done = both_done (record_writes w (source_by x) world.tape) (file_writes w.trace (placed 0 p.pieces)) old mid new (first_done w (source_by x) tape world.tape old mid same done) p.makes.done;
+  counts = same_since old mid new counts (p.causes.quiet (λ e. cc));
   failed = λ f e. cc;
   memory = λ e. cc;
 }

@@ -24,6 +24,10 @@ pub view_same : (old new : StoreView) → new.files ≡ old.files → SameCounts
 view_same old new same counts = ap (λ (f : Option Files). record { files = f; faults = new.faults; misses = new.misses }) same
     ∙ ap (λ (n : ℕ). record { files = old.files; faults = n; misses = new.misses }) counts.faults ∙ ap (λ (n : ℕ). record { files = old.files; faults = old.faults; misses = n }) counts.misses
 
+-- the counts stand through two calls
+pub same_since : (old mid new : StoreView) → SameCounts old mid → SameCounts mid new → SameCounts old new
+same_since old mid new first second = record { faults = second.faults ∙ first.faults; misses = second.misses ∙ first.misses }
+
 -- there is no memory
 pub starved : (c : Command) (old new : StoreView) (due : Status) (line : List ℕ) → new.files ≡ old.files → IsStarved due line → IsDueFor c old new due line
 starved c old new due line same s = subst (λ (x : Status). IsDueFor c old new x line) (sym s.status) (inl same, s.told)
@@ -73,5 +77,6 @@ told c view reads makes Asked old new x text accepts came made = record {
   work = record { writes = []; text = text };
   accepted = accepts (record { writes = []; text = text }) (record { read = view x; accepted = came.accepted.1; made = made });
   written = came.same ∙ no_writes old.files;
+  counts = came.accepted.0;
   told = refl;
 }

@@ -333,4 +333,4 @@ unfound w old new (setup.Store file) due line came (inr told) =
 unfound w old new setup.Memory due line came s = starved (Verify w) old new due line came.same s
 
 pub found : (w : PlayWords) (old new : StoreView) (line : List ℕ) → AllFound w old new (Ok line) → IsDueFor (Verify w) old new Done line
-found w old new line came = record { work = record { writes = []; text = line }; accepted = came.found.1; written = came.same ∙ no_writes old.files; told = refl }
+found w old new line came = record { work = record { writes = []; text = line }; accepted = came.found.1; written = came.same ∙ no_writes old.files; counts = came.found.0; told = refl }

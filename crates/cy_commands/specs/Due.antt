@@ -2,7 +2,7 @@
 use Rattle.std.specs.Prelude.{ℕ, ◌≡◌, ◌⊎◌, List, Option, MatchOption}
 use Rattle.std.specs.Option.{option_map}
 use Rattle.cy_store.specs.Write.{Write, name_of, after_writes}
-use Rattle.cy_store.specs.Store.{StoreView, Rose, WriteRose}
+use Rattle.cy_store.specs.Store.{StoreView, SameCounts, Rose, WriteRose}
 use Rattle.cy_writer.specs.Writes.{StopsAt, StopsBefore}
 use Rattle.cy_commands.specs.declared.status.Status.{Status}
 use Rattle.cy_commands.specs.declared.status.Status.TheVariants.{Done, Refused, Usage, StoreFault}
@@ -12,12 +12,13 @@ use Rattle.cy_commands.specs.Work.{Work}
 use Rattle.cy_commands.specs.Commands.{IsAbsent, IsAccepted, IsReadBy, IsRefused, outcome_of}
 use Rattle.cy_commands.specs.Lines.{usage_line, memory_line, store_line}
 
--- Done: the files are accepted, what the command makes of them is written, and its text is the line
--- that is due.
+-- Done: the files are accepted, what the command makes of them is written, its text is the line
+-- that is due, and the store's counts stand: no call of the store failed.
 pub record IsDone (c : Command) (old new : StoreView) (line : List ℕ) : Type 0 where
   pub work : Work
   pub accepted : IsAccepted (outcome_of c) old.files work
   pub written : new.files ≡ option_map (after_writes work.writes) old.files
+  pub counts : SameCounts old new
   pub told : line ≡ work.text
 
 -- Refused or Limit: the files are refused, and the store is as it was, its counts too, so that no

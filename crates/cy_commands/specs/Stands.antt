@@ -100,13 +100,6 @@ pub record Stands (asked : Option Command) (old new : StoreView) (due : Status) 
   pub files : IfSome asked (λ c. (m n : Files) → old.files ≡ Some m → new.files ≡ Some n
       → StandsAfter due c m n)
 
--- A status that is answered: SinkFault and Memory may come in the place of a due one, while that is
--- told, and then the store is as after that.
-abbrev pub StandsAnswered : Option Command → StoreView → StoreView → Status → Type 0
-StandsAnswered asked old new SinkFault = (due : Status) × Stands asked old new due
-StandsAnswered asked old new Memory = (due : Status) × Stands asked old new due
-StandsAnswered asked old new answer = Stands asked old new answer
-
 -- Whatever words ask for it, what is due leaves no more than that.
 abbrev pub LeavesItsFiles : Type 0
 LeavesItsFiles = (words : List (List ℕ)) (asked : Option Command) (old new : StoreView)

@@ -7,7 +7,8 @@ ghost use Rattle.cy_replay.specs.Setup.{IsSetUp};
 ghost use Rattle.cy_replay.specs.Steps.{configured};
 ghost use Rattle.cy_words.specs.PlayViews.{play_words_of};
 ghost use Rattle.cy_commands.specs.Commands.PlayWork.{others_of, outputs_apart};
-ghost use Rattle.cy_commands.specs.PlayEnds.{IsRead, SetsUp};
+ghost use Rattle.cy_commands.specs.PlayEnds.{SetsUp};
+ghost use Rattle.cy_commands.specs.private.PlayWrites.{ReadsReplay};
 
 use crate::play::read_files;
 use cy_replay::{Configuration, Replay, STANDARD_OUTPUT, SetupError, files_read, test_apart};
@@ -60,7 +61,7 @@ fn ready_with<S: Store>(
     replay: Replay,
 ) -> Result<Replay, SetupError>
     requires { IsSetUp (play_words_of play.now).request replay }
-    ensures comes { (before : StoreView) → IsRead (play_words_of play.now) before
+    ensures comes { (before : StoreView) → ReadsReplay (play_words_of play.now) before
         (S.shows store.old) (Ok replay)
         → SetsUp (play_words_of play.now) before (S.shows store.new) result }
     ensures set_up { IfOk result (IsSetUp (play_words_of play.now).request) }

@@ -7,7 +7,7 @@ ghost use Rattle.wake_core.specs.LawfulRun.{Quiet};
 ghost use Rattle.wake_core.specs.Rest.{run_shown};
 ghost use Rattle.wake_core.specs.Run.{routes_of};
 ghost use Rattle.wake_core.specs.WorldOf.{plain_of};
-ghost use Rattle.cy_commands.specs.PlayEnds.{PutsPieces, WritesPieces};
+ghost use Rattle.cy_commands.specs.private.PlayWrites.{PutsPieces, WritesPieces};
 
 use cy_comp::Wiring;
 use cy_store::Store;

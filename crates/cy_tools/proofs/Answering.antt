@@ -44,7 +44,7 @@ module _ {A T : Type 0} (reads : List ℕ → Result A LoadError) (tool : Tool A
   -- it was, and what is kept was written, or was not
   pub done : (was : A) (told : T) → IsRead reads tool from to old.files was → (let r : Result T WriteError = Ok told in DoesWork tool to was old new r)
       → (let r : Result T ToolError = Ok told in ToolAnswer reads tool from to old new r)
-  done was told read works = record { was = was; read = read; written = works.makes.done; tells = works.tells }
+  done was told read works = record { was = was; read = read; written = works.makes.done; counts = works.causes.quiet (λ e. cc); tells = works.tells }
 
   pub not_done : (was : A) (e : WriteError) → IsRead reads tool from to old.files was → (let r : Result T WriteError = Err e in DoesWork tool to was old new r)
       → (let r : Result T ToolError = Err (error_of_write e) in ToolAnswer reads tool from to old new r)

@@ -3,7 +3,7 @@ use Rattle.std.specs.Prelude.{ℕ, ◌≡◌, ◌≢◌, ◌⊎◌, List, Option
 use Rattle.std.specs.Option.{option_map}
 use Rattle.cy_store.specs.Files.{Files, Holds}
 use Rattle.cy_store.specs.Write.{Write, after_writes}
-use Rattle.cy_store.specs.Store.{StoreView, StoreRose, WriteRose}
+use Rattle.cy_store.specs.Store.{StoreView, SameCounts, StoreRose, WriteRose}
 use Rattle.cy_reader.specs.declared.error.LoadError.{LoadError}
 use Rattle.cy_reader.specs.declared.error.LoadError.TheVariants as load_error
 use Rattle.cy_writer.specs.Writes.{StopsAt, StopsBefore}
@@ -24,11 +24,12 @@ module _ {A T : Type 0} (reads : List ℕ → Result A LoadError) (tool : Tool A
     pub held : Holds files from (λ file. reads file ≡ Ok x)
     pub text : IsKeptText to (tool.met x) (tool.kept x)
 
-  -- It was read and written.
+  -- It was read and written, and no call of the store failed.
   pub record IsDone (old new : StoreView) (told : T) : Type 0 where
     pub was : A
     pub read : IsRead old.files was
     pub written : new.files ≡ option_map (after_writes (writes_for was)) old.files
+    pub counts : SameCounts old new
     pub tells : told ≡ tool.tells was
 
   -- The file is refused, and the store is as it was, its counts too.

@@ -8,14 +8,17 @@ use Rattle.cy_commands.specs.declared.status.Status.TheVariants.{Done, Refused, 
 use Rattle.cy_commands.specs.declared.status.Status.TheVariants.{Memory}
 use Rattle.cy_commands.specs.Commands.{IsAbsent, IsRefused, IsTaken, Outcome, outcome_of}
 use Rattle.cy_commands.specs.Due.{IsDue}
+use Rattle.cy_commands.specs.Stands.{Stands}
 use Rattle.cyber_cli.specs.Told.{Sinks, IsTold}
 
--- Some status is due by what is asked for and the store, and the answer tells it.
+-- Some status is due by what is asked for and the store, the store is as it has to be after that
+-- status, and the answer tells it: SinkFault and Memory may come in its place while it is told.
 pub record Answers (asked : Option Command) (old_store new_store : StoreView) (old new : Sinks)
     (answer : Status) : Type 0 where
   pub due : Status
   pub line : List ℕ
   pub is_due : IsDue asked old_store new_store due line
+  pub stands : Stands asked old_store new_store due
   pub is_told : IsTold due line old new answer
 
 -- What the files call for: Done where they are accepted, the status of their refusal, StoreFault

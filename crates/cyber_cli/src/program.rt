@@ -2,7 +2,6 @@
 ghost use Rattle.std.specs.Prelude.{ℕ, ◌≡◌, List, Option};
 ghost use Rattle.cy_commands.specs.Due.{IsDue};
 ghost use Rattle.cy_commands.specs.Line.{bytes_of_line};
-ghost use Rattle.cy_commands.specs.Stands.{StandsAnswered};
 ghost use Rattle.cy_words.specs.Asking.{IsReadAs};
 ghost use Rattle.cy_words.specs.Command as asked;
 ghost use Rattle.cy_words.specs.Command.{Asks, AsksStill, IsAsked};
@@ -89,8 +88,6 @@ pub fn cyber<S: Store, O: Sink, E: Sink, G: Gate, R: Threads + Wait + Sync>(
           out = O.shows out.old;
           err = E.shows err.old;
         } record { out = O.shows out.new; err = E.shows err.new } result }
-    ensures stands { (command : Option asked.Command) → IsAsked (Asks words.now) command
-        → StandsAnswered command (S.shows store.old) (S.shows store.new) result }
 {
     let read = CommandWords::asking(alloc, words);
     let due = due_with_threads(rt, alloc, &read, store, gate);
@@ -119,8 +116,6 @@ pub fn cyber_still<S: Store, O: Sink, E: Sink, R: Threads + Sync>(
           out = O.shows out.old;
           err = E.shows err.old;
         } record { out = O.shows out.new; err = E.shows err.new } result }
-    ensures stands { (command : Option asked.Command) → IsAsked (AsksStill words.now) command
-        → StandsAnswered command (S.shows store.old) (S.shows store.new) result }
 {
     let read = CommandWords::asking_still(alloc, words);
     let due = due_of(rt, alloc, &read, store);

@@ -34,4 +34,4 @@ returns-clause-writes g c =
     let text = trace_text c.wiring_of-wiring.result.names c.wiring_of-wiring.result.plans x.list.shadowed run in
     written (play_words_of c.args.play.now) x (plain_of c.args.world.now) c.tape_list.result.now text (g.S.Store.shows c.args.store.now) (g.S.Store.shows c.write_record.new.store) (g.S.Store.shows c.write_trace.new.store) c.in_ok-line.line
     c.tape_list.ensures.tape (ap (λ (w : Wiring). trace_text w.names w.plans x.list.shadowed run) c.wiring_of-wiring.ensures) c.in_default.ensures.makes.done
-    c.in_default-write_trace.ensures
+    (c.in_default.ensures.causes.quiet (λ e. search rules)) c.in_default-write_trace.ensures

@@ -1,16 +1,19 @@
 use Rattle.cy_commands.specs.Line.{bytes_of_line}
 use Rattle.cy_words.proofs.Asked.{ask_for_one}
 use Rattle.cyber_cli.proofs.Complete.{complete, not_sink}
-use Rattle.cyber_cli.proofs.Left.{asked_some, stands_answered}
+use Rattle.cyber_cli.proofs.Left.{asked_some}
 use Rattle.cyber_cli.proofs.program.cyber.Goals as goal
 
 pub returns-clause-answers : goal.returns-clause-answers
-returns-clause-answers g c command asked = record {
-  due = c.due_with_threads-due.result.status;
-  line = bytes_of_line c.due_with_threads-due.result.line;
-  is_due = c.due_with_threads-due.ensures c.args.words.now command c.asking-read.ensures asked;
-  is_told = c.tell.ensures;
-}
+returns-clause-answers g c command asked =
+    let is_due = c.due_with_threads-due.ensures c.args.words.now command c.asking-read.ensures asked in
+    record {
+      due = c.due_with_threads-due.result.status;
+      line = bytes_of_line c.due_with_threads-due.result.line;
+      is_due = is_due;
+      stands = c.commands_leave_their_files.ensures c.args.words.now command _ _ _ _ (asked_some c.args.words.now command asked) is_due;
+      is_told = c.tell.ensures;
+    }
 
 pub returns-clause-complete : goal.returns-clause-complete
 returns-clause-complete g c command asked =
@@ -23,12 +26,3 @@ tell-requires g c =
     let one = (ask_for_one c.args.words.now).0 in
     not_sink one.0 (g.S.Store.shows c.args.store.now) (g.S.Store.shows c.due_with_threads-due.new.store) c.due_with_threads-due.result.status (bytes_of_line c.due_with_threads-due.result.line)
     (c.due_with_threads-due.ensures c.args.words.now one.0 c.asking-read.ensures one.1.0)
-
-pub returns-clause-stands : goal.returns-clause-stands
-returns-clause-stands g c command asked =
-    let a = returns-clause-answers g c command asked in
-    stands_answered command (g.S.Store.shows c.args.store.now) (g.S.Store.shows c.due_with_threads-due.new.store) a.due
-    (record { out = g.O.Sink.shows c.args.out.now; err = g.E.Sink.shows c.args.err.now }) (record { out = g.O.Sink.shows c.tell.new.out; err = g.E.Sink.shows c.tell.new.err }) c.tell.result a.line
-    a.is_told
-    (c.commands_leave_their_files.ensures c.args.words.now command (g.S.Store.shows c.args.store.now) (g.S.Store.shows c.due_with_threads-due.new.store) a.due a.line
-    (asked_some c.args.words.now command asked) a.is_due)

@@ -17,7 +17,7 @@ pub returns-in-Ok : goal.returns-in-Ok
 returns-in-Ok g c =
     let w = make_words_of c.args.make.now in
     let run = in_turn w (play_words_of c.args.play.now) c.args.replay (plain_of c.args.world.now) c.requires.play c.requires.run in
-    done w (play_words_of c.args.play.now) c.args.replay (plain_of c.args.world.now) _ _ _ c.in-Ok.line c.requires.play c.requires.asked.some c.requires.made run c.in_default.ensures.done c.in-Ok.ensures.writes c.in-Ok.ensures.line
+    done w (play_words_of c.args.play.now) c.args.replay (plain_of c.args.world.now) _ _ _ c.in-Ok.line c.requires.play c.requires.asked.some c.requires.made run c.in_default.ensures.done (c.in_default.ensures.causes.quiet (λ e. e)) c.in-Ok.ensures.writes c.in-Ok.ensures.line
 
 pub returns-in-Err-write_both : goal.returns-in-Err-write_both
 returns-in-Err-write_both g c =
