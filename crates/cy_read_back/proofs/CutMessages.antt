@@ -200,14 +200,19 @@ whole_sections channels chunks file cs_are are front =
     sections-cut (suc (length file)) parts header_end (index_body (entries_from header_end parts)) file front.header
     (front.front ∙ ap (take (length file - header_end)) (behind_header channels chunks)) all (omega (arith, few))
 
-pub said : (channels : List Channel) (chunks : List (List BodyMessage)) (file : List ℕ) → AllByRecursion IsSectionOfChannel channels → AllByRecursion IsSectionOfChunk chunks → IsFrontOf channels chunks file
-    → flat_map section_messages (sound_sections file).sections ≡ whole_messages channels chunks file
+-- all of these are sound
+pub sound_front : (channels : List Channel) (chunks : List (List BodyMessage)) (file : List ℕ) → AllByRecursion IsSectionOfChannel channels → AllByRecursion IsSectionOfChunk chunks → IsFrontOf channels chunks file
+    → (sound_sections file).sections ≡ placed header_end (parts_within (length file) header_end (parts_of channels chunks))
 unfolding sound_sections
-said channels chunks file cs_are are front =
+sound_front channels chunks file cs_are are front =
     let say = channels_say channels (messages_in chunks) chunks (length file) header_end cs_are are in
     let fault = (sections_from file header_end).fault in
-    ap (λ (ss : List WholeSection). flat_map section_messages (until_fault ss fault).sections) (whole_sections channels chunks file cs_are are front)
-    ∙ ap (λ (s : Sections). flat_map section_messages s.sections) (say.sound fault) ∙ say.messages
+    ap (λ (ss : List WholeSection). (until_fault ss fault).sections) (whole_sections channels chunks file cs_are are front) ∙ ap (λ (s : Sections). s.sections) (say.sound fault)
+
+pub said : (channels : List Channel) (chunks : List (List BodyMessage)) (file : List ℕ) → AllByRecursion IsSectionOfChannel channels → AllByRecursion IsSectionOfChunk chunks → IsFrontOf channels chunks file
+    → flat_map section_messages (sound_sections file).sections ≡ whole_messages channels chunks file
+said channels chunks file cs_are are front =
+    ap (flat_map section_messages) (sound_front channels chunks file cs_are are front) ∙ (channels_say channels (messages_in chunks) chunks (length file) header_end cs_are are).messages
 
 -- the messages that are met are those of the sound sections
 met_of_salvage : (size : ℕ) (sound : Sections) (s : Salvage) → salvage_in size sound ≡ Ok s → sections_met sound.sections None nothing ≡ Ok s.met

@@ -12,3 +12,5 @@ pub mod TextRead
 pub mod TextTold
 pub mod CutSections
 pub mod CutMessages
+pub mod FrontAccepted
+pub mod OncePut

@@ -159,7 +159,7 @@ header_size h rest file whole =
     ap (λ (bytes : List ℕ). little_number 8 (drop 8 bytes)) (bytes_there file [] (header_body h) zeros kind.Header 0 (header_there h rest file whole))
     ∙ size-of_head (length (header_body h)) kind.Header (header_body h ++ zeros) (omega (arith, length-header_body h))
 
-header_read : (h : Header) (rest file : List ℕ) → file ≡ header_section h ++ rest → length file ≤ longest_file → 2064 ≤ length file → h.compress ≡ 0 → HeaderFits h → file_header file ≡ Ok h
+pub header_read : (h : Header) (rest file : List ℕ) → file ≡ header_section h ++ rest → length file ≤ longest_file → 2064 ≤ length file → h.compress ≡ 0 → HeaderFits h → file_header file ≡ Ok h
 unfolding file_header
 header_read h rest file whole short long plain fits =
     let zeros = replicate (2048 - length (header_body h)) 0 ++ rest in
@@ -242,7 +242,7 @@ text_source_of name file channels chunks t =
     rw (text_heads channels chunks file t, text_index_of channels chunks file t, size) refl
 
 -- its channels and messages
-text_met : (channels : List Channel) (chunks : List (List BodyMessage)) (file : List ℕ) → IsText channels chunks file
+pub text_met : (channels : List Channel) (chunks : List (List BodyMessage)) (file : List ℕ) → IsText channels chunks file
     → sections_met (placed 2064 (parts_of channels chunks)) None nothing ≡ Ok (met_with channels (map (message_on channels) (messages_in chunks)))
 text_met channels chunks file t =
     text_meets channels chunks 2064 t.new t.each_channel (channels_fit channels t.each_channel t.each_small) t.few t.small t.on

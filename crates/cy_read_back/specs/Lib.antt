@@ -2,3 +2,4 @@ pub mod Sections
 pub mod Records
 pub mod Fronts
 pub mod BrokenOff
+pub mod Puts

@@ -1,6 +1,7 @@
 // What holds of what is written and read: proved here, and nothing to run.
-ghost use Rattle.cy_read_back.specs.BrokenOff.{BrokenOffAreFronts};
+ghost use Rattle.cy_read_back.specs.BrokenOff.{BrokenOffAreFronts, UnfinishedAreSalvaged};
 ghost use Rattle.cy_read_back.specs.Fronts.{FrontsAreSalvaged};
+ghost use Rattle.cy_read_back.specs.Puts.{SectionsArePutOnce};
 ghost use Rattle.cy_read_back.specs.Records.{RecordsReadBack};
 ghost use Rattle.cy_read_back.specs.Sections.{SectionsReadBack};
 
@@ -27,4 +28,16 @@ pub fn fronts_are_salvaged()
 /// [`fronts_are_salvaged`] says what is salvaged.
 pub fn broken_off_are_fronts()
     ensures { BrokenOffAreFronts }
+{}
+
+/// Where the writing of a record was broken off before its complete header was put, and the whole
+/// record is within the limits of what is read, the file is accepted, and the messages of its whole
+/// chunks are salvaged.
+pub fn unfinished_are_salvaged()
+    ensures { UnfinishedAreSalvaged }
+{}
+
+/// The writes of a record put each section of its text in one piece, and only the header twice.
+pub fn sections_are_put_once()
+    ensures { SectionsArePutOnce }
 {}
