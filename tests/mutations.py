@@ -303,6 +303,7 @@ def changed_files(chance):
         changes += [(rf"\b({plain})Component", [f"{it}Component" for it in plain.split("|")])]
     else:
         changes = [(r"on_overflow: \w+", ["", "on_overflow: OLDEST"]), (r"\b(n|delay): \d+", [r"\1: 1", r"\1: 2", r"\1: 4"])]
+        changes += [(r"\bkind: U?S?INT\d+", ["kind: INT64", "kind: SINT32", "kind: BOOL"]), (r"\bpath: \d", ["path: 1", "path: 2"])]
         changes += [(r"\b(lo|hi): -?\d+", [r"\1: -3", r"\1: 5"]), (r'out_type: "\w+"', ["", 'out_type: "u"'])]
     pattern, others = chance.choice([it for it in changes if re.search(it[0], text)] or [("$", [" "])])
     match = chance.choice(list(re.finditer(pattern, text)))

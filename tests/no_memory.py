@@ -14,6 +14,7 @@ TOP = os.path.dirname(os.path.dirname(os.path.abspath(__file__)))
 LINE = b"cyber: out of memory\n"
 HEADER_END = 2064
 DRIVE = ["--dag", "examples/drive/drive.dag", "--record", "examples/drive/drive.rec", "--end", "1700000000300000000"]
+VALUES = ["--dag", "examples/values/values.dag", "--record", "examples/values/values.rec", "--end", "1700000000700000000"]
 FILES = ["--out", "out.rec", "--trace", "out.trace"]
 # What a row shows, its words, the records that it writes, and the other files that it writes.
 ROWS = [
@@ -23,6 +24,8 @@ ROWS = [
     ("serial play", ["play", "--serial", *DRIVE, *FILES], ["out.rec"], ["out.trace"]),
     ("play on threads", ["play", *DRIVE, *FILES], ["out.rec"], ["out.trace"]),
     ("check", ["check", "--dag", "examples/drive/drive.dag", "--sched", "examples/drive/drive.sched"], [], []),
+    ("play by values", ["play", "--serial", *VALUES, *FILES], ["out.rec"], ["out.trace"]),
+    ("check of values", ["check", *VALUES[:2]], [], []),
     ("info", ["info", "one.rec"], [], []),
     ("recover", ["recover", "one.rec", "out.rec"], ["out.rec"], []),
     ("split", ["split", "one.rec", "out.rec", "--channels", "/in,/none", "--drop", "/x"], ["out.rec"], []),

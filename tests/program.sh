@@ -4,7 +4,7 @@
 # Without a PART it runs all of tests/program/.
 set -uo pipefail
 top=$(cd "$(dirname "$0")/.." && pwd)
-parts=(pass words make play stop threads few_threads check info timers answers refused verify large_traces recover merge many odd)
+parts=(pass words make play stop threads few_threads check info timers answers values refused verify large_traces recover merge many odd)
 program=${PROGRAM:-$top/crates/cyber/out/cyber}
 if [[ ${1:-} == */* ]]; then
   program=$1

@@ -370,6 +370,12 @@ messages() {
   compares_records "$tool"
   begin 'the value by a path and a kind is the one that the Protocol Buffers package reads'
   try 0 "$python" "$top/tests/tools/check_values.py" 20000 1
+  if [ -x "$program" ]; then
+    begin 'the program plays by these values'
+    try 0 "$python" "$top/tests/tools/play_values.py" "$program" 20000 1
+  else
+    skip 'values by which the program plays' 'no program'
+  fi
   lists_fields "$top/tools/fields.py"
 }
 
@@ -602,6 +608,7 @@ external() {
   prints_calls
   find_player
   plays_tracks
+  plays_the_values
   asks_once
   keeps_answers
   refuses_answers
@@ -628,6 +635,25 @@ prints_calls() {
   sed 's/call 1\/1 1/call 1\/1 2/' out.trace >bad.trace
   fails_in_one_line 1 "calls: bad.trace: a call on a message that /in doesn't have" \
     python3 "$calls" --dag pass.dag --record in.rec --out out.rec --trace bad.trace --component pass
+  begin 'the messages of calls have the values by which they were played'
+  printf '%s\n' 'module_config { components { class_name: "PassComponent" config { name: "pass" config_file_path: "pass.conf"' \
+    'readers { channel: "/in" } } } components { class_name: "PassComponent" config { name: "again" config_file_path: "again.conf"' \
+    'readers { channel: "/out" } readers { channel: "/in" } } } }' >pass.dag
+  echo 'out: "/out"' >pass.conf
+  echo 'out: "/again" value { channel: "/in" path: 2 kind: FLOAT scale: 10 }' >again.conf
+  PYTHONPATH="$top/tools" python3 -c 'from record import *
+open("in.rec", "wb").write(record([(b"/in", 5, bytes.fromhex("150000003f")), (b"/in", 6, content_of(3))]))'
+  python3 "$top/tests/replay.py" out.rec out.trace line --record in.rec --dag pass.dag
+  try 0 python3 "$calls" --dag pass.dag --record in.rec --out out.rec --trace out.trace --component pass
+  says out '\{"call": 1, .*\[\{"channel": "/in", "number": 1, "time": "5", "content": "FQAAAD8=", "value": "5"\}\]\}'
+  says out '\{"call": 2, .*\[\{"channel": "/in", "number": 2, "time": "6", "content": "CAY="\}\]\}'
+  try 0 python3 "$calls" --dag pass.dag --record in.rec --out out.rec --trace out.trace --component again
+  says out '\{"call": 1, .*\{"channel": "/out", "number": 1, .*"value": "5"\}, \{"channel": "/in", "number": 1, .*"value": "5"\}\]\}'
+  says out '\{"call": 2, .*"content": "CAY="\}, \{.*"content": "CAY="\}\]\}'
+  try 0 python3 "$top/tools/why_not.py" --dag pass.dag --record in.rec --out out.rec --trace out.trace
+  sed 's/=5$/=4/' out.trace >bad.trace
+  try 1 python3 "$top/tools/why_not.py" --dag pass.dag --record in.rec --out out.rec --trace bad.trace
+  says out 'bad.trace: line 5: call 1 of "pass" has the output @5=4, and PassComponent puts out @5=5\. .*'
   begin 'the calls of the drive have the limit that came before, and what messages mean'
   replay_drive
   try 0 env -C "$top" "$python" tools/calls.py --dag examples/drive/drive.dag --record examples/drive/drive.rec --out "$PWD/out.rec" \
@@ -694,6 +720,32 @@ writes_answers_elsewhere() {
   says err 'external: component closest: its component file own/closest.conf would be written over own/closest.conf'
 }
 
+# The lines for its component files are those of tools/fields.py. Its page says what its play prints, and what is in its trace.
+plays_the_values() {
+  begin 'the record of values is the one that its script makes, and its component files have the lines of its fields'
+  try 0 "$python" "$top/examples/values/make_values.py" values.rec
+  cmp -s values.rec "$top/examples/values/values.rec"
+  count $? "$name: it is another one"
+  try 0 "$python" "$top/tools/fields.py" values.rec /apollo/canbus/chassis
+  cmp -s out <(sed -n '/^    # .apollo/,/^$/s/^    //p' "$top/examples/values/README.md")
+  count $? "$name: README.md has other lines than $(cat out)"
+  try 0 "$python" "$top/tools/fields.py" values.rec
+  [ "$(grep -hc '^value' "$top"/examples/values/*.conf | paste -sd+)" = 1+1+2 ] && ! grep -h '^value' "$top"/examples/values/*.conf |
+    sed 's/  # \(speed_mps\|pose.position.z\|lost\)$//' | grep -Fvf <(sed 's/  #.*//' out)
+  count $? "$name: a component file has another value"
+  begin 'the values of the example are played as its page says'
+  ln -s "$top/examples" examples
+  try 0 "$player" play --serial --dag examples/values/values.dag --record examples/values/values.rec --out out.rec --trace out.trace
+  sed -n '/^component "fast"/,/^end/p' out.trace | grep -m 3 '=' | cat out - >played
+  cmp -s played <(sed -n '/^    done: /,/^$/s/^    //p' "$top/examples/values/README.md")
+  count $? "$name: it prints $(cat played)"
+  "$python" "$top/tools/messages.py" out.rec --channel /fast | head -n 1 >fast
+  grep -Fxq "    $(cat fast)" "$top/examples/values/README.md"
+  count $? "$name: the first fast one is $(cat fast)"
+  try 0 "$player" check --dag examples/values/values.dag
+  says out 'value "/apollo/localization/pose" path 2 1 3 kind DOUBLE scale 1000'
+}
+
 # What was asked before isn't asked again, and what has changed is.
 asks_once() {
   begin 'what was asked before is not asked again, but where the component or its calls are others'
@@ -708,6 +760,12 @@ asks_once() {
   says out 'fuse: calls 96, answers 96, as before'
   [ ! -s err ]
   count $? "$name: it was asked again: $(cat err)"
+  sed 's,examples/tracks/near.conf,near.conf,' examples/tracks/tracks.dag >valued.dag
+  { cat examples/tracks/near.conf && echo 'value { channel: "/radar" path: [2, 1] kind: DOUBLE }'; } >near.conf
+  try 0 "$python" "$top/tools/external.py" --dag valued.dag --record examples/tracks/tracks.rec --out out.rec --trace out.trace \
+    --program "$player" --run "closest=$SILENT" --run "$fuse"
+  says out 'fuse: calls 96, answers 96'
+  says out 'closest: calls 96, answers 0, as before'
   echo '# changed' >>told.py
   play_tracks 0 --run "$fuse"
   says err asked
@@ -1025,6 +1083,18 @@ shows_fields() {
 3.25|1.5 to 3.25
 -2e38|−2e+38 to 1.5
 SPEEDS
+  begin 'the values that a component file gives are plotted'
+  passing /chassis /copy demo.Chassis
+  echo 'value { channel: "/chassis" path: 2 kind: FLOAT scale: 100 }' >>pass.conf
+  "$python" "$top/tests/tools/described_record.py" in.rec
+  python3 "$top/tests/replay.py" out.rec out.trace line --dag pass.dag --record in.rec
+  try 0 "$python" "$top/tools/report.py" --dag pass.dag --record in.rec --out out.rec --trace out.trace --program none page.html
+  shows page.html '/chassis 2 numbers, from 150 to 325'
+  shows page.html '/chassis speed 2 numbers, from 1.5 to 3.25'
+  try 0 python3 "$check" page.html out.trace out.rec pass.dag
+  try 0 "$python" "$top/tools/report.py" --dag pass.dag --record in.rec --out out.rec --trace out.trace \
+    --program "$top/tests/tools/stand_in.py" same.html
+  shows same.html '/chassis 2 numbers, from 150 to 325'
   shows_fields_of_other_types
 }
 

@@ -11,13 +11,15 @@ import json
 import os
 import signal
 import sys
+from array import array
 from base64 import b64encode
 
-from dag import read_entries
+from dag import read_entries, ways_of
 from messages import Record
-from record import fault_of, forms_of, header_of, name_of, opened, whole_of
+from record import fault_of, forms_of, header_of, name_of, opened
 from tape import taped_messages
 from trace import read_trace
+from values import value_by
 
 
 def taped(trace, path, channels):
@@ -40,8 +42,9 @@ def taped(trace, path, channels):
 class Shown:
     """The messages of a channel as they are shown in the lines of calls. The last one is kept, since it may be in many tuples."""
 
-    def __init__(self, channel, kind, dictionary):
-        self.head = json.dumps(name_of(channel), ensure_ascii=False)
+    def __init__(self, channel, kind, dictionary, value):
+        """`value` gives the value of a message by its number and its content."""
+        self.head, self.value = json.dumps(name_of(channel), ensure_ascii=False), value
         self.kind, self.dictionary = kind, dictionary
         self.number, self.text = 0, ""
 
@@ -53,7 +56,7 @@ class Shown:
 
     def make(self, number, time, content):
         text = f'{{"channel": {self.head}, "number": {number}, "time": "{time}", "content": "{b64encode(content).decode()}"'
-        value = whole_of(content)
+        value = self.value(number, content)
         if value is not None:
             text += f', "value": "{value}"'
         message = self.dictionary(self.kind, content) if self.kind else None
@@ -70,6 +73,7 @@ class Play:
         self.trace_path, self.trace = trace, read_trace(trace)
         self.parts = {it.name.encode("utf-8", "surrogateescape"): it for it in self.trace.components}
         self.record_path, self.types, self.tool = record, types, tool
+        self.ways, self.writers = ways_of(components), {it.out: it.name for it in components}
         wanted = [it for it in components if it.name in named]
         self.columns, self.forms = taped(self.trace, out, {channel for it in wanted for channel in it.readers})
 
@@ -96,10 +100,28 @@ class Play:
                     raise ValueError(f"{self.trace_path}: a call on a message that {name_of(channel)} doesn't have")
             yield [(number, times[number - 1], contents[number - 1]) for number, (times, contents) in zip(numbers, columns)]
 
+    def value_finder(self, channel):
+        """What gives the value of a message of a channel by its number and its content: the trace has the values of outputs."""
+        way, writer = self.ways.get(channel), self.parts.get(self.writers.get(channel))
+        if writer is None:
+            return lambda number, content: value_by(content, way)
+        calls = array("Q", (call for call, output in enumerate(writer.outputs) if output))
+
+        def value(number, content):
+            if number > len(calls):
+                raise ValueError(f"{self.trace_path}: a call on a message that {name_of(channel)} doesn't have")
+            return writer.values[calls[number - 1]] if writer.valued[calls[number - 1]] else None
+
+        return value
+
+    def shown(self, channel, decoder):
+        """What shows the messages of a channel."""
+        kind = decoder.class_of(channel)
+        return Shown(channel, kind, kind and decoder.described.dictionary_of, self.value_finder(channel))
+
     def lines(self, component, decoder):
         """The line of each call of a component, in bytes."""
-        kinds = [decoder.class_of(channel) for channel in component.readers]
-        readers = [Shown(it, kind, kind and decoder.described.dictionary_of) for it, kind in zip(component.readers, kinds)]
+        readers = [self.shown(channel, decoder) for channel in component.readers]
         for call, taken in enumerate(self.tuples(component), 1):
             messages = ", ".join([it.of(*message) for it, message in zip(readers, taken)])
             yield f'{{"call": {call}, "time": "{taken[0][1]}", "messages": [{messages}]}}\n'.encode("utf-8", "surrogateescape")

@@ -1,9 +1,9 @@
 """What components of each class put out, as docs/RULES.md says."""
 from typing import NamedTuple, Optional
 
-from record import content_of, whole_of
+from record import content_of
+from values import held_within, value_by
 
-LOWEST, GREATEST = -(2**63), 2**63 - 1
 LAST_TIME = 2**64 - 1
 NEED_VALUES = {"FilterComponent", "MaxComponent", "WindowComponent", "ChangeComponent", "SelectComponent"}
 
@@ -29,11 +29,6 @@ class Outcome(NamedTuple):
     out: Optional[Out]
     is_held: bool = False
     is_last: bool = False
-
-
-def held_within(value):
-    """A value held within the signed numbers of 64 bits."""
-    return min(max(value, LOWEST), GREATEST)
 
 
 def passes(message, time=None):
@@ -63,7 +58,7 @@ class Answers:
             return None
         if kind == "ExternalComponent":
             content = self.component.answers.contents.get(self.calls)
-            return None if content is None else Out(first.time, whole_of(content), answer=content)
+            return None if content is None else Out(first.time, value_by(content, self.component.way), answer=content)
         if kind == "SumComponent":
             values = [it.value for it in messages]
             return None if None in values else Out(first.time, held_within(sum(values)))

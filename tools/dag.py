@@ -8,6 +8,7 @@ from collections import deque
 from dataclasses import dataclass
 
 from answers import NONE, read_answers
+from values import WIRE_TYPES, Way
 
 TOKEN = re.compile(
     rb"""[ \t\n\r\v\f]+|\#[^\n]*
@@ -129,6 +130,7 @@ class Component:
     interval: int = None  # in milliseconds, of a timer component
     file: bytes = b""  # the name of its component file
     answers: tuple = NONE  # of an ExternalComponent: what its calls put out
+    way: Way = None  # of an ExternalComponent: where the values of its answers are
 
     def parameter(self, name):
         return last(self.config, name)
@@ -151,6 +153,27 @@ class Component:
         """The type and the description that a written record has for its channel."""
         kind, description = self.answers.form
         return kind or self.out_type, description
+
+
+def ways_in(config):
+    """The values that a component file gives, each a channel and the way to them. A ValueError tells of one that no play accepts."""
+    try:
+        return [(last(it, "channel"), way_in(it)) for it in every(config, "value")]
+    except (AttributeError, TypeError) as error:
+        raise ValueError(f"a value that no play accepts: {error}") from None
+
+
+def way_in(entry):
+    """The way that a value in a component file says."""
+    path, kind, scale = every(entry, "path"), last(entry, "kind").decode(), last(entry, "scale", 1)
+    if kind not in WIRE_TYPES or not path or not all(isinstance(it, int) for it in [*path, scale]):
+        raise ValueError(f"a value that no play accepts: path {path}, kind {kind}, scale {scale}")
+    return Way(tuple(path), kind, scale)
+
+
+def ways_of(components):
+    """By the name of a channel the way to the values of its messages, where a component file gives one. All that are given are the same."""
+    return dict(it for component in components for it in ways_in(component.config))
 
 
 def component_with(entry, channels, queue, interval):
@@ -178,9 +201,10 @@ def timer_of(entry):
 def read_components(path):
     """The components of a DAG file, and behind them its timer components, each in their order, with their answers."""
     components = read_entries(path)
+    ways = ways_of(components)
     for it in components:
         if it.answers_file:
-            it.answers = read_answers(it.answers_file, it.out)
+            it.answers, it.way = read_answers(it.answers_file, it.out), ways.get(it.out)
     return components
 
 

@@ -222,12 +222,13 @@ class Tool:
     def sum_of(self, it, play, decoder, form):
         """What tells what a component is asked from all else: its calls, how their messages are described, and its command."""
         calls, before = hashlib.sha256(), [0] * len(it.component.readers)
+        values = [play.value_finder(channel) for channel in it.component.readers]
         for taken in play.tuples(it.component):
             it.marks.append(mark_of(taken))
             calls.update(repr([(number, time, len(content)) for number, time, content in taken]).encode())
-            for (number, _, content), last in zip(taken, before):
+            for (number, _, content), last, value in zip(taken, before, values):
                 if number != last:  # a message that is in many tuples is read once
-                    calls.update(content)
+                    calls.update(content + b"%a" % value(number, content))
             before = [number for number, _, _ in taken]
         types = Path(self.words.types).read_bytes() if self.words.types else b""
         described = hashlib.sha256(repr((sorted(decoder.forms.items()), types)).encode())

@@ -3,7 +3,9 @@ import argparse
 import os
 from typing import NamedTuple, Optional
 
-from record import content_of, whole_of
+from dag import ways_of
+from record import content_of
+from values import value_by
 
 LAST_TIME = 2**64 - 1
 MILLISECOND = 1_000_000
@@ -39,10 +41,10 @@ def list_recorded(messages, components, chosen=Filter()):
     """Those of a record's messages that are played, each a channel, a time and a content; and how many others are shadowed."""
     written = {it.out for it in components} | {it.readers[0] for it in components if it.interval}
     through = [it for it in messages if chosen.lets_through(it[0], it[1])]
-    played, counts = [], {}
+    played, counts, ways = [], {}, ways_of(components)
     for channel, time, content in sorted((it for it in through if it[0] not in written), key=lambda it: it[1]):
         counts[channel] = counts.get(channel, 0) + 1
-        played.append(Message(channel, counts[channel], time, whole_of(content), content))
+        played.append(Message(channel, counts[channel], time, value_by(content, ways.get(channel)), content))
     return PlayList(played, len(through) - len(played))
 
 

@@ -1,15 +1,6 @@
 # shellcheck shell=bash disable=SC2154
 # A part of tests/program.sh, which reads it: components whose answers come from a record.
 
-ANSWERED='out: "/o" out_type: "t" answers: "p.rec"'
-
-# Writes a component that is asked outside, the messages on /a that trigger its calls, and the record of its answers.
-answered_by() { # its component file, the messages of its answers, and the types and descriptions of their channels
-  one_component ExternalComponent "$READS_A" "$1"
-  (cd files && eval "$(write_record '[(b"/a", 10 * k, b"\x08\x02") for k in (1, 2, 3, 4)]' '{}')" && mv in.rec all.rec \
-    && eval "$(write_record "$2" "$3")" && mv in.rec p.rec && mv all.rec in.rec)
-}
-
 # Plays it, and compares record, trace and line with what a Python script makes of the same files.
 plays_answers() { # what it shows, and the words of `answered_by`
   begin "$1"

@@ -52,6 +52,16 @@ traces() { # the file, and the lines
   count $? "$name: $1 is $(head -c 600 "$1")"
 }
 
+# The component file of a component that is asked outside.
+ANSWERED='out: "/o" out_type: "t" answers: "p.rec"'
+
+# Writes a component that is asked outside, the messages on /a that trigger its calls, and the record of its answers.
+answered_by() { # its component file, the messages of its answers, and the types and descriptions of their channels
+  one_component ExternalComponent "$READS_A" "$1"
+  (cd files && eval "$(write_record '[(b"/a", 10 * k, b"\x08\x02") for k in (1, 2, 3, 4)]' '{}')" && mv in.rec all.rec \
+    && eval "$(write_record "$2" "$3")" && mv in.rec p.rec && mv all.rec in.rec)
+}
+
 # Compares what standard output got with a text of several lines.
 prints() { # the text
   [ "$status" -eq 0 ]

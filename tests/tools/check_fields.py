@@ -14,9 +14,9 @@ import sys
 from google.protobuf import descriptor_pb2
 
 from check_values import FIELD, KINDS, TOP, fill, is_repeated, kind_of, some_classes, wanted
-from dag import read_text
+from dag import read_text, ways_in
 from record import block, record
-from values import value_of, ways_in
+from values import value_of
 
 MESSAGES = 20  # of a type
 ODD = [("packed", FIELD.TYPE_INT32, FIELD.LABEL_REPEATED, None), ("plain", FIELD.TYPE_FIXED64, FIELD.LABEL_OPTIONAL, None),

@@ -1,10 +1,11 @@
 #!/usr/bin/env python3
 """Checks the page of a replay against its trace and its record, and against what any page has to be.
 
-    check_report.py PAGE [TRACE RECORD]
+    check_report.py PAGE [TRACE RECORD [DAG]]
 
-Prints nothing where all is well. Of a page alone it looks at what any page has to be. The trace is read here by its lines, and nothing is
-taken from the tools that made the page, but for the reader of records.
+Prints nothing where all is well. Of a page alone it looks at what any page has to be. DAG is a DAG file whose component files give values.
+The trace is read here by its lines, and nothing is taken from the tools that made the page, but for the readers of records, of DAG files and
+of values.
 """
 import json
 import os
@@ -15,7 +16,9 @@ from html.parser import HTMLParser
 from itertools import accumulate
 
 sys.path.insert(0, os.path.join(os.path.dirname(os.path.abspath(__file__)), "..", "..", "tools"))
+from dag import read_entries, ways_of
 from record import messages_of, whole_of
+from values import value_of
 
 MOST = 5_000_000  # bytes of a page
 ALONE = {"meta", "link", "br", "wbr", "img", "input", "hr"}  # elements without an end
@@ -137,7 +140,7 @@ class Told:
         return position, tail, tuple(map(int, numbers)), output
 
 
-def check_channel(lane, data, messages):
+def check_channel(lane, data, messages, way):
     """A lane of messages: each one that is in the page is the one of the record."""
     times = list(accumulate(lane["times"]))
     numbers = list(accumulate(lane["numbers"])) if "numbers" in lane else range(1, len(times) + 1)
@@ -147,7 +150,7 @@ def check_channel(lane, data, messages):
         fail(f"{lane['name']}: {len(times)} of {len(messages)} messages, and it doesn't say so")
     for place, (number, time) in enumerate(zip(numbers, times)):
         want, content = messages[number - 1]
-        value = whole_of(content) if content[:1] == b"\x08" else None
+        value = value_of(content, way) if way else whole_of(content) if content[:1] == b"\x08" else None
         told = lane["values"][place] if "values" in lane else None
         if time + int(data["first"]) != want or (None if told is None else int(told)) != value:
             fail(f"{lane['name']}: message {number} at {time}, value {told}")
@@ -219,9 +222,9 @@ def check_tables(page, told, times):
             fail(f"the table has {cells} of {channel}, and the record {[len(its), gaps]}")
 
 
-def check_run(page, trace, out):
-    """The page is that of a trace and a record."""
-    told = Told(trace)
+def check_run(page, trace, out, dag=None):
+    """The page is that of a trace and a record, with the values that component files of a DAG file give."""
+    told, ways = Told(trace), ways_of(read_entries(dag)) if dag else {}
     data = next(json.loads(script) for given, script in page.scripts if given.get("type") == "application/json")
     if len(page.scripts) != 2:
         fail(f"{len(page.scripts)} scripts")
@@ -235,7 +238,7 @@ def check_run(page, trace, out):
         fail("lanes of other names")
     for lane in data["lanes"]:
         if lane["kind"] == "channel":
-            check_channel(lane, data, messages[lane["name"]])
+            check_channel(lane, data, messages[lane["name"]], ways.get(lane["name"].encode()))
         else:
             check_component(lane, data, told, times)
     check_tables(page, told, times)

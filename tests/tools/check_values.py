@@ -1,5 +1,5 @@
 #!/usr/bin/env python3
-"""Compares tests/values.py with the Protocol Buffers package: the values of random messages of random types, by random paths.
+"""Compares tools/values.py with the Protocol Buffers package: the values of random messages of random types, by random paths.
 
     check_values.py PAIRS SEED
 
@@ -17,7 +17,7 @@ from google.protobuf import descriptor_pb2, descriptor_pool, message_factory
 from google.protobuf.message import DecodeError
 
 TOP = os.path.join(os.path.dirname(os.path.abspath(__file__)), "..", "..")
-sys.path.insert(0, os.path.join(TOP, "tests"))
+sys.path.insert(0, os.path.join(TOP, "tools"))
 from values import BYTES, EIGHT, FOUR, VARINT, WIRE_TYPES, Way, value_of, wire_fields
 from record import block, number, varint
 

@@ -55,7 +55,7 @@ def move_outside(components, chance):
 
 def fault_of(program, chance):
     """What is wrong with a play, or None; and whether it was compared, was refused or had no component outside."""
-    words = write_files(chance)
+    words = write_files(chance, has_values=False)  # a message that is passed on has no value of its own where its copy is an answer
     components = read_entries("m.dag")
     chosen = move_outside(components, chance)
     if not chosen:

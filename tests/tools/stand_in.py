@@ -16,7 +16,7 @@ import tempfile
 sys.path.insert(0, os.path.join(os.path.dirname(os.path.abspath(__file__)), ".."))
 import judge
 import replay
-from dag import read_components
+from dag import read_components, ways_in
 from strict import quoted
 
 
@@ -51,6 +51,8 @@ def check(dag):
         if it.answers_file:
             line += f" answers {quoted(it.answers_file).decode()} {len(it.answers.contents)}"
         print(line)
+        for channel, way in ways_in(it.config):
+            print(f"value {quoted(channel).decode()} path {' '.join(map(str, way.path))} kind {way.kind} scale {way.scale}")
     print("ok")
     return 0
 

@@ -5,7 +5,7 @@ import subprocess
 from reporting.differences import compare
 from reporting.fields import Describer
 from reporting.page import render, write_page
-from reporting.reading import parts_checked, parts_read, read_replay
+from reporting.reading import parts_checked, parts_read, read_replay, ways_checked, ways_read
 from reporting.view import OPTIONS, verdict_of, view_of
 from wiring import program_here
 
@@ -54,11 +54,11 @@ def check_command(words):
 
 
 def wiring_of(words, question):
-    """The components, and what `check` printed of them. Where it can't be asked or refuses, they are read from the DAG file."""
+    """The components, the ways to values, and what `check` printed. Where it can't be asked or refuses, both are read from the DAG file."""
     status, printed = question.answer()
     wiring = {"status": status, "text": printed.decode("utf-8", "replace").strip(), "command": question.text}
     parts = parts_checked(printed) if status == 0 else []
-    return parts or parts_read(words.dag), wiring
+    return (parts, ways_checked(printed), wiring) if parts else (parts_read(words.dag), ways_read(words.dag), wiring)
 
 
 def make_page(words):
@@ -66,8 +66,8 @@ def make_page(words):
     program, describer = words.program or program_here(), Describer(words.types)
     verify, check = Question(program, verify_command(words)), Question(program, check_command(words))
     try:
-        parts, wiring = wiring_of(words, check)
-        replay = read_replay(words.trace, words.out, parts, describer, has_digests=bool(words.good))
+        parts, ways, wiring = wiring_of(words, check)
+        replay = read_replay(words.trace, words.out, parts, ways, describer, has_digests=bool(words.good))
         comparison = compare(replay, words.out, words.good) if words.good else None
         status, printed = verify.answer()
     finally:

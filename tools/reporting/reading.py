@@ -4,16 +4,18 @@ from array import array
 from collections import Counter
 from dataclasses import dataclass, field
 
-from dag import read_entries
+from dag import read_entries, ways_of
 from record import forms_of, header_of, opened, whole_of
 from tape import taped_messages
 from trace import read_trace, unquoted
+from values import Way, value_of
 
 LONGEST_WHOLE = 11  # bytes of a content that is nothing but a whole number: a tag and a varint
 KNOWN_CONTENTS = 50_000  # contents whose number is remembered
 SAMPLES, ALL_SAMPLES = 1_000, 20_000  # contents of described messages that are kept of a channel, and of all
 LARGEST_SAMPLE = 65_536  # bytes
 WORD = re.compile(rb'"(?:[^"\\]|\\.)*"|\S+')
+VALUE = re.compile(rb'value "((?:[^"\\]|\\.)*)" path ([0-9 ]+) kind (\w+) scale (\d+)')
 HAS_ONE_VALUE = ("class", "queue", "every", "overflow")
 
 
@@ -41,13 +43,14 @@ class Channel:
 
     name: str
     kind: str = ""  # the name of its type
+    way: Way = None  # to the values of its messages, where a component file gives it
     times: array = field(default_factory=lambda: array("Q"))
-    values: array = field(default_factory=lambda: array("q"))  # 0 where a message is no whole number
-    valued: bytearray = field(default_factory=bytearray)  # 1 where it is one
+    values: array = field(default_factory=lambda: array("q"))  # 0 where a message has none
+    valued: bytearray = field(default_factory=bytearray)  # 1 where it has one
     size: int = 0  # bytes of all contents
     message_class: type = None  # of its messages, where their type is described
     step: int = 0  # each how many messages a content is kept, 0 where none is
-    samples: list = field(default_factory=list)  # times and contents of messages that are no whole numbers
+    samples: list = field(default_factory=list)  # times and contents of messages, but for those that are nothing but whole numbers
     digests: array = field(default_factory=lambda: array("q"))  # of the contents, where they are to be compared
 
     @property
@@ -84,6 +87,17 @@ def parts_checked(text):
     return [part for line in text.splitlines() if (part := part_of(line))]
 
 
+def ways_checked(text):
+    """By the name of a channel the way to the values of its messages, in what `cyber check` printed."""
+    found = [match for line in text.splitlines() if (match := VALUE.fullmatch(line))]
+    return {unquoted(it[1]): Way(tuple(map(int, it[2].split())), it[3].decode(), int(it[4])) for it in found}
+
+
+def ways_read(path):
+    """The same in the component files of a DAG file."""
+    return {text_of(channel): way for channel, way in ways_of(read_entries(path)).items()}
+
+
 def parts_read(path):
     """The components of a DAG file, as tools/dag.py reads it."""
     found = []
@@ -111,36 +125,37 @@ class Values:
         return value
 
 
-def channels_of(trace, data, describer):
-    """The channels of a trace, with the types that a record has for them, and the classes of their messages."""
+def channels_of(trace, data, describer, ways):
+    """The channels of a trace, with the types that a record has for them, the classes of their messages, and the ways to their values."""
     forms, counts = forms_of(data), Counter(trace.tape_channels)
     classes = describer.classes_of(forms)
     found = []
     for number, name in enumerate(trace.channels):
         key = name.encode("utf-8", "surrogateescape")
-        channel = Channel(name, text_of(forms.get(key, (b"",))[0]), message_class=classes.get(key))
+        channel = Channel(name, text_of(forms.get(key, (b"",))[0]), ways.get(name), message_class=classes.get(key))
         if channel.message_class:
             channel.step = -(-counts[number] // min(SAMPLES, max(ALL_SAMPLES // len(trace.channels), 1)))
         found.append(channel)
     return found
 
 
-def read_channels(trace, path, describer, has_digests=False):
+def read_channels(trace, path, describer, ways, has_digests=False):
     """The channels of the record at a path, which has to be that of a trace's tape, in the order of the tape."""
-    value_of = Values().of
+    whole_number = Values().of
     with opened(path) as data:
         header_of(data)
-        channels = channels_of(trace, data, describer)
+        channels = channels_of(trace, data, describer, ways)
         for place, number, time, content in taped_messages(trace, data):
             channel = channels[place]
             channel.times.append(time)
-            value = value_of(content)
+            way = channel.way
+            value = whole_number(content) if way is None else value_of(content, way)
             channel.values.append(value or 0)
             channel.valued.append(value is not None)
             channel.size += len(content)
             if has_digests:
                 channel.digests.append(hash(content))
-            if value is None and channel.step and (number - 1) % channel.step == 0 and len(content) <= LARGEST_SAMPLE:
+            if (value is None or way) and channel.step and (number - 1) % channel.step == 0 and len(content) <= LARGEST_SAMPLE:
                 channel.samples.append((time, content))
     return channels
 
@@ -188,14 +203,14 @@ def check_tuples(replay):
                 component.check_messages(role, channel.name, len(channel.times))
 
 
-def read_replay(trace_path, record_path, parts, describer, has_digests=False):
-    """The run of a trace and a record with these components, with digests of its contents where it is to be compared.
+def read_replay(trace_path, record_path, parts, ways, describer, has_digests=False):
+    """The run of a trace and a record with these components and ways to values, with digests of its contents where it is to be compared.
 
     A ValueError tells of files that make no run.
     """
     trace = read_trace(trace_path)
     try:
-        channels = read_channels(trace, record_path, describer, has_digests)
+        channels = read_channels(trace, record_path, describer, ways, has_digests)
     except ValueError as error:
         raise ValueError(f"{record_path}: {error}") from None
     replay = Replay(trace, channels, parts)

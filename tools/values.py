@@ -3,16 +3,12 @@
 The kinds are the scalar types of Protocol Buffers (protobuf.dev, "Encoding"). Nothing here uses the Protocol Buffers package, with which
 tests/tools/check_values.py compares it.
 """
-import os
-import sys
 from fractions import Fraction
 from typing import NamedTuple
 
-sys.path.insert(0, os.path.join(os.path.dirname(os.path.abspath(__file__)), "..", "tools"))
-from classes import held_within
-from dag import every, last
-from record import read_varint
+from record import read_varint, whole_of
 
+LOWEST, GREATEST = -(2**63), 2**63 - 1
 VARINT, EIGHT, BYTES, FOUR = 0, 1, 2, 5  # the types of fields on the wire
 VARINTS = ("INT32", "INT64", "UINT32", "UINT64", "SINT32", "SINT64", "BOOL", "ENUM")
 WIRE_TYPES = dict.fromkeys(VARINTS, VARINT)
@@ -25,13 +21,6 @@ class Way(NamedTuple):
     path: tuple
     kind: str
     scale: int = 1  # of a FLOAT or DOUBLE
-
-
-def ways_in(config):
-    """The ways that a component's file has, each a channel and a way; tools/dag.py reads the file's fields."""
-    entries = every(config, "value")
-    ways = [Way(tuple(every(it, "path")), last(it, "kind").decode(), last(it, "scale", 1)) for it in entries]
-    return [(last(it, "channel"), way) for it, way in zip(entries, ways)]
 
 
 def wire_fields(data):
@@ -59,6 +48,11 @@ def last_field(data, number, kind):
     return values[-1] if values else None
 
 
+def value_by(content, way):
+    """The value of a message of a channel that has this way, or None for one that has none: then a message is a whole number."""
+    return whole_of(content) if way is None else value_of(content, way)
+
+
 def value_of(content, way):
     """The value of a message, or None where it has none."""
     *outer, inmost = way.path
@@ -71,6 +65,11 @@ def value_of(content, way):
     except ValueError:
         return None
     return None if bits is None else number_of(bits, way)
+
+
+def held_within(value):
+    """A value held within the signed numbers of 64 bits."""
+    return min(max(value, LOWEST), GREATEST)
 
 
 def signed(bits, size):
