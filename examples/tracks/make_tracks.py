@@ -20,18 +20,18 @@ from record import block, record
 BEGIN = 1_700_000_000_000_000_000
 MILLISECOND = 1_000_000
 FIELD = descriptor_pb2.FieldDescriptorProto
-TYPES = {"uint32": FIELD.TYPE_UINT32, "uint64": FIELD.TYPE_UINT64, "double": FIELD.TYPE_DOUBLE, "string": FIELD.TYPE_STRING}
+TYPES = {kind: getattr(FIELD, f"TYPE_{kind.upper()}") for kind in ("bool", "uint32", "uint64", "float", "double", "string")}
 
 
 def file_of(path):
     """The descriptor of a .proto file that has plain messages alone."""
     with open(path, encoding="utf-8") as source:
         text = re.sub(r"//.*", "", source.read())
-    package = re.search(r"package (\w+);", text)[1]
-    file = descriptor_pb2.FileDescriptorProto(name=os.path.basename(path), package=package, syntax="proto3")
+    syntax, package = re.search(r'syntax = "(\w+)";', text)[1], re.search(r"package (\w+);", text)[1]
+    file = descriptor_pb2.FileDescriptorProto(name=os.path.basename(path), package=package, syntax=syntax)
     for name, body in re.findall(r"message (\w+) \{([^}]*)\}", text):
         message = file.message_type.add(name=name)
-        for repeated, kind, field, number in re.findall(r"(repeated )?(\w+) (\w+) = (\d+);", body):
+        for repeated, kind, field, number in re.findall(r"(?:(repeated)|optional)? *(\w+) (\w+) = (\d+);", body):
             label = FIELD.LABEL_REPEATED if repeated else FIELD.LABEL_OPTIONAL
             of = None if kind in TYPES else f".{package}.{kind}"
             message.field.add(name=field, number=int(number), type=TYPES.get(kind, FIELD.TYPE_MESSAGE), label=label, type_name=of)
