@@ -3,15 +3,27 @@
 # As the launcher has it: one piece of large pages for the room that a run reserves.
 export GLIBC_TUNABLES=${GLIBC_TUNABLES:-glibc.malloc.hugetlb=1:glibc.malloc.mmap_max=0:glibc.malloc.top_pad=67108864}
 
-# Enters a repository of its own, in the folder `work`, for a program that is measured, over copies of these crates.
-repository() { # the folder of this repository, the program, and the crates
+# Copies a crate and those below it, unless it is there or is the kit's.
+add_crate() { # the folder of this repository, and the crate
+  local top=$1 crate=$2 below
+  if [ -d "crates/$crate" ] || [ ! -d "$top/crates/$crate" ]; then
+    return
+  fi
+  cp -r "$top/crates/$crate" "crates/$crate"
+  grep "^$crate[ :]" "$top/crates.txt" >>crates.txt
+  for below in $(grep "^$crate[ :]" "$top/crates.txt" | cut -d: -f2); do
+    add_crate "$top" "$below"
+  done
+}
+
+# Enters a repository of its own, in the folder `work`, for a program that is measured, over copies of these crates and those below.
+repository() { # the folder of this repository, the program, and the crates that it uses
   local top=$1 program=$2 crate
   shift 2
   mkdir -p "$work/repository/crates/$program/src"
   cd "$work/repository"
   for crate in "$@"; do
-    cp -r "$top/crates/$crate" "crates/$crate"
-    grep "^$crate[ :]" "$top/crates.txt" >>crates.txt
+    add_crate "$top" "$crate"
   done
   echo "$program: $*" >>crates.txt
 }

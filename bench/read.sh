@@ -17,7 +17,7 @@ cd "$work"
 python3 "$top/bench/large_record.py" large.record "${1:-64}"
 "$top/cyber" info large.record
 
-repository "$top" read_bench cy_store cy_msg cy_request cy_fault cy_wire cy_section cy_reader
+repository "$top" read_bench cy_store cy_reader
 cp "$top/HANDLES" .
 cat >crates/read_bench/src/main.rt <<'P'
 //! Loads the record of a name, side by side or, where the first word is `whole`, on one thread, and

@@ -7,7 +7,7 @@ work=$(mktemp -d)
 trap 'rm -rf "$work"' EXIT
 . "$top/bench/measure.sh"
 
-repository "$top" write_bench cy_store cy_msg cy_wire cy_section cy_piece cy_writer
+repository "$top" write_bench cy_store cy_writer
 cat >crates/write_bench/src/main.rt <<'P'
 //! Writes a million messages to the record of the given name.
 #![tactic(auto)]
