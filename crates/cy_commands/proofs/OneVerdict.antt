@@ -11,11 +11,12 @@ use Rattle.wake_core.specs.LawfulRun.{LawfulRun}
 use Rattle.wake_core.specs.Plain.{Plain}
 use Rattle.wake_core.specs.Rest.{run_shown}
 use Rattle.wake_core.specs.Run.{routes_of}
-use Rattle.cy_trace.specs.Laws.{IsOf, RunsAreTraces, TextsOfTracesAreGood, TextsTellTraces}
-use Rattle.cy_trace.specs.Telling.{TracesTellRuns}
+use Rattle.cy_trace_text.specs.Laws.{IsOf, RunsAreTraces}
+use Rattle.cy_trace_read.specs.Laws.{TextsOfTracesAreGood, TextsTellTraces}
+use Rattle.cy_trace_text.specs.Telling.{TracesTellRuns}
 use Rattle.cy_trace.specs.TraceForm.{text_of_trace}
 use Rattle.cy_trace.specs.TraceOfRun.{trace_of_run}
-use Rattle.cy_trace.specs.TraceText.{trace_text}
+use Rattle.cy_trace_text.specs.TraceText.{trace_text}
 use Rattle.cy_compare.specs.Compare.{first_difference}
 use Rattle.cy_recording.specs.Recording.{Source}
 use Rattle.cy_replay.specs.declared.error.Refusal.{Refusal}

@@ -23,7 +23,7 @@ use Rattle.wake_core.specs.Run.{route_of, routes_of, played_of, writes_from}
 use Rattle.wake_core.specs.declared.route.Route.{Route}
 use Rattle.wake_core.specs.Sound.{Sound, IsOutput, StandsOn}
 use Rattle.cy_recording.proofs.Origins.{GoodKind, GoodOut, GoodTuple, outcome-good, IsAmong, given-among}
-use Rattle.cy_trace.proofs.OutSuits.{on_each, taken_at, Made, outs_count, outs_made, passing}
+use Rattle.cy_trace.proofs.OutsMade.{on_each, taken_at, Made, outs_count, outs_made, passing}
 
 -- a message that no component wrote is among those that were played
 played_at : (w : Plain) (i : ℕ) (t : Token) → slice_get w.tape i ≡ Some t → writes_from 0 w.routes t.channel ≡ None → (k : ℕ) × (slice_get (played_of w.routes w.tape) k ≡ Some t)

@@ -19,8 +19,9 @@ use Rattle.cy_comp.specs.Wiring.{IsWiring}
 use Rattle.cy_recording.specs.Recording.{IsWritable}
 use Rattle.cy_recording.specs.RecordLaws.{PlacesAreThere}
 use Rattle.cy_request.specs.Request.{Request}
-use Rattle.cy_trace.specs.Laws.{RunsAreTraces, TextsTellTraces}
-use Rattle.cy_trace.specs.Summary.{lawful_line}
+use Rattle.cy_trace_text.specs.Laws.{RunsAreTraces}
+use Rattle.cy_trace_read.specs.Laws.{TextsTellTraces}
+use Rattle.cy_report.specs.Summary.{lawful_line}
 use Rattle.cy_trace.specs.TraceForm.{IsTrace, ReadsTrace, text_of_trace}
 use Rattle.cy_trace.specs.TraceOfRun.{trace_of_run}
 use Rattle.cy_trace.specs.declared.error.TraceError.{TraceError}

@@ -20,7 +20,8 @@ ghost use Rattle.cy_commands.specs.private.PlayWrites.{IsDueAfterPlay, IsLine, W
 ghost use Rattle.cy_commands.specs.private.PlayWrites.{unwritten};
 ghost use Rattle.cy_words.specs.PlayViews.{play_words_of};
 ghost use Rattle.cy_commands.specs.Commands.PlayWork.{replayed_in};
-ghost use Rattle.cy_trace.specs.Summary.{calls_from, summary_line as line_of};
+ghost use Rattle.cy_trace.specs.CallCount.{calls_from};
+ghost use Rattle.cy_report.specs.Summary.{summary_line as line_of};
 
 use crate::due::{Due, out_of_memory, store_failed};
 use crate::failure::{Failure, File};
@@ -31,9 +32,11 @@ use cy_comp::Wiring;
 use cy_msg::Bytes;
 use cy_recording::{Played, played_places_are_there, write_record};
 use cy_replay::{Replay, SetupError, set_up};
+use cy_report::summary_line;
 use cy_request::Request;
 use cy_store::Store;
-use cy_trace::{TraceError, summary_line, trace_is_read_back};
+use cy_trace::TraceError;
+use cy_trace_text::trace_is_read_back;
 use cy_words::Play;
 use cy_writer::WriteError;
 use std::alloc::{AllocError, Global};

@@ -1,8 +1,8 @@
 // The trace of a play, written piece by piece.
 ghost use Rattle.std.specs.Prelude.{◌≡◌, [], length, All};
 ghost use Rattle.cy_store.specs.Files.{Holds};
-ghost use Rattle.cy_trace.specs.Parts.{IsPartOf, parts_text};
-ghost use Rattle.cy_trace.specs.TraceText.{trace_text};
+ghost use Rattle.cy_trace_text.specs.Parts.{IsPartOf, parts_text};
+ghost use Rattle.cy_trace_text.specs.TraceText.{trace_text};
 ghost use Rattle.wake_core.specs.LawfulRun.{Quiet};
 ghost use Rattle.wake_core.specs.Rest.{run_shown};
 ghost use Rattle.wake_core.specs.Run.{routes_of};
@@ -11,7 +11,8 @@ ghost use Rattle.cy_commands.specs.private.PlayWrites.{PutsPieces, WritesPieces}
 
 use cy_comp::Wiring;
 use cy_store::Store;
-use cy_trace::{Part, TraceError, push_texts, trace_parts};
+use cy_trace::TraceError;
+use cy_trace_text::{Part, push_texts, trace_parts};
 use cy_writer::WriteError;
 use std::alloc::Global;
 use std::thread::Threads;

@@ -12,14 +12,15 @@ use Rattle.cy_msg.specs.Quoted.{quoted}
 use Rattle.cy_trace.specs.Cuts.{behind}
 use Rattle.cy_trace.proofs.CutLaws.{behind_parts}
 use Rattle.cy_trace.specs.TraceForm.{Each, IsOutput, IsShort, line_text, numbers_text, output_text, whole_line}
-use Rattle.cy_trace.specs.private.TapeLines.{tape_start}
+use Rattle.cy_trace.specs.LineParts.{tape_start}
 use Rattle.cy_trace.specs.declared.line.Line.{Line}
 use Rattle.cy_trace.specs.declared.line.Line.TheVariants.{Call, Tape}
 use Rattle.cy_trace.specs.declared.trace.TapeEntry.{TapeEntry}
 use Rattle.cy_trace.specs.declared.trace.TraceCall.{TraceCall}
 use Rattle.cy_trace.specs.declared.trace.TraceOutput.{TraceOutput}
-use Rattle.cy_trace.specs.private.Fronts.{BeginsWith, BeginsWithParts, TakesCalls, TakesMessages}
-use Rattle.cy_trace.proofs.Order.{are_lines-append}
+use Rattle.cy_trace.specs.private.Fronts.{BeginsWith, BeginsWithParts}
+use Rattle.cy_trace.specs.Taking.{TakesCalls, TakesMessages}
+use Rattle.cy_trace.proofs.LineLists.{are_lines-append}
 
 -- one more digit
 pub digit_more : (value digit : ℕ) → 1 ≤ value → digit < 10 → 10 * value + digit < 2 ^ 64 → decimal (10 * value + digit) ≡ decimal value ++ (48 + digit) ∷ []

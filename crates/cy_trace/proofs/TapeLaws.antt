@@ -11,8 +11,9 @@ use Rattle.cy_trace.specs.declared.line.Line.TheVariants.{Tape}
 use Rattle.cy_trace.specs.declared.named.NamedSeq.{NamedSeq}
 use Rattle.cy_trace.specs.declared.named.TapeName.{TapeName}
 use Rattle.cy_trace.specs.declared.trace.TapeEntry.{TapeEntry}
-use Rattle.cy_trace.specs.private.Fronts.{BeginsWith, TakesMessages}
-use Rattle.cy_trace.specs.private.TapeLines.{tape_start}
+use Rattle.cy_trace.specs.private.Fronts.{BeginsWith}
+use Rattle.cy_trace.specs.Taking.{TakesMessages}
+use Rattle.cy_trace.specs.LineParts.{tape_start}
 use Rattle.cy_trace.proofs.FrontLaws.{message_taken, tape_text}
 
 -- a name that is read is what stands at its place

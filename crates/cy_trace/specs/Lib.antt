@@ -1,13 +1,8 @@
 pub mod private
+pub mod CallCount
 pub mod Cuts
-pub mod Laws
-pub mod LineOrder
-pub mod LineReading
-pub mod Numerals
-pub mod Parts
-pub mod Summary
+pub mod LineParts
+pub mod Taking
 pub mod Tapes
-pub mod Telling
 pub mod TraceForm
 pub mod TraceOfRun
-pub mod TraceText

@@ -7,7 +7,7 @@ use Rattle.std.specs.Fmt.{decimal}
 use Rattle.std.specs.Str.{IsUtf8}
 use Rattle.cy_msg.specs.Quoted.{quoted}
 use Rattle.cy_fuse.specs.declared.overflow.Overflow.TheVariants.{Newest}
-use Rattle.cy_trace.specs.TraceText.{value_text, told, told_text}
+use Rattle.cy_trace.specs.LineParts.{value_text, told, told_text}
 use Rattle.cy_trace.specs.declared.error.TraceError.{TraceError}
 use Rattle.cy_trace.specs.declared.error.TraceError.TheVariants as trace_error
 use Rattle.cy_trace.specs.declared.trace.TraceOutput.{TraceOutput}

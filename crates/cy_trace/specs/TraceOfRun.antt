@@ -15,7 +15,7 @@ use Rattle.cy_trace.specs.declared.trace.TraceCall.{TraceCall}
 use Rattle.cy_trace.specs.declared.trace.TraceComponent.{TraceComponent}
 use Rattle.cy_trace.specs.declared.trace.TapeEntry.{TapeEntry}
 use Rattle.cy_trace.specs.declared.trace.Trace.{Trace}
-use Rattle.cy_trace.specs.TraceText.{version_of}
+use Rattle.cy_trace.specs.LineParts.{version_of}
 
 -- What a call put out, behind so many earlier outputs.
 abbrev pub output_of_call : ℕ → Option Out → Option TraceOutput

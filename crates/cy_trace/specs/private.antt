@@ -1,6 +1,2 @@
-pub mod Adding
-pub mod TapeLines
-pub mod OutsAfter
-pub mod Kept
 pub mod KeptCalls
 pub mod Fronts

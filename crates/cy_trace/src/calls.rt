@@ -3,9 +3,8 @@ ghost use Rattle.std.specs.Prelude.{◌≡◌, []};
 
 use crate::TraceCall;
 use crate::added::{is_added, with_room};
-use crate::fault::Fault;
 use crate::kept_call::{KeptCall, call_in, kept_of};
-use std::alloc::Global;
+use std::alloc::{AllocError, Global};
 use std::marker::Model;
 
 // The most numbers that are kept of a call: those of its messages, and that of its output.
@@ -34,11 +33,11 @@ impl Model for Calls {
 }
 
 impl Calls {
-    ghost use Rattle.std.specs.Prelude.{◌≡◌, ◌++◌, ◌∷◌, [], length, slice_get, Some, true, false};
-    ghost use Rattle.cy_trace.specs.LineReading.{Gives};
+    ghost use Rattle.std.specs.Prelude.{◌≡◌, ◌++◌, ◌∷◌, [], length, slice_get, true, false};
+    ghost use Rattle.std.specs.Prelude.{IfOk};
 
-    // None yet, with room for so many, where there is memory.
-    pub(crate) fn with_room(alloc: Global, most: usize) -> Self
+    /// None yet, with room for so many, where there is memory.
+    pub fn with_room(alloc: Global, most: usize) -> Self
         ensures { result ≡ [] }
     {
         Calls {
@@ -59,15 +58,15 @@ impl Calls {
         }
     }
 
-    // The same with one more call.
-    pub(crate) fn with(self, call: TraceCall) -> Result<Calls, Fault>
-        ensures { Gives result (Some (self ++ call ∷ [])) }
+    /// The same with one more call.
+    pub fn with(self, call: TraceCall) -> Result<Calls, AllocError>
+        ensures { IfOk result (λ c. c ≡ self ++ call ∷ []) }
     {
         let mut calls = self;
         if calls.is_added(&call) {
             Ok(calls)
         } else {
-            Err(Fault::Memory)
+            Err(AllocError)
         }
     }
 

@@ -3,7 +3,7 @@
 ghost use Rattle.std.specs.Prelude.{◌≡◌, ◌≤◌, ◌<◌, ◌+◌, ◌++◌, ◌∷◌, IfSome};
 ghost use Rattle.std.specs.Fmt.{decimal, signed_decimal};
 ghost use Rattle.cy_trace.specs.TraceForm.{IsLong, IsLongSigned, IsShort, IsValue};
-ghost use Rattle.cy_trace.specs.TraceText.{value_text};
+ghost use Rattle.cy_trace.specs.LineParts.{value_text};
 
 use crate::word::behind;
 

@@ -1,7 +1,8 @@
 // The call whose line bytes begin with.
 ghost use Rattle.std.specs.Prelude.{◌≡◌, ◌≤◌, ◌+◌, ◌++◌, ◌∷◌, length, IfSome, codes, Some, None};
 ghost use Rattle.std.specs.Fmt.{decimal};
-ghost use Rattle.cy_trace.specs.private.Fronts.{BeginsWith, BeginsWithParts, TakesCalls};
+ghost use Rattle.cy_trace.specs.private.Fronts.{BeginsWith, BeginsWithParts};
+ghost use Rattle.cy_trace.specs.Taking.{TakesCalls};
 ghost use Rattle.cy_trace.specs.TraceForm.{output_text, IsOutput};
 ghost use Rattle.cy_trace.specs.declared.line.Line.TheVariants as line;
 
@@ -68,8 +69,10 @@ fn front_call(bytes: &[u8]) -> Option<(TraceCall, &[u8])>
     ))
 }
 
-/// Takes the calls whose lines come next, as far as they are told so.
-pub(crate) fn take_calls<'a>(calls: &mut Calls, bytes: &'a [u8], line: u32) -> (&'a [u8], u32)
+/// Takes the calls whose lines the bytes begin with, as far as there is memory and the lines are
+/// written as a trace has them. Answers what stands behind these lines, and the number of the next
+/// line, where `line` is that of the first one.
+pub fn take_calls<'a>(calls: &mut Calls, bytes: &'a [u8], line: u32) -> (&'a [u8], u32)
     requires { line + length bytes.now ≤ 4294967295 }
     ensures { TakesCalls bytes.now result.0.now calls.old calls.new line result.1 }
 {

@@ -1,5 +1,5 @@
-// Which name a line of the tape is likely of, by the bytes of the name. Each is a guess: a line is of
-// the name only where it begins as the name's lines do.
+// Which name a line of the tape is likely of, by the bytes of the name. Each is a guess: a line is
+// of the name only where it begins as the name's lines do.
 
 use std::alloc::Global;
 

@@ -1,6 +1,6 @@
 // A name of a tape, and a message by the number of its name.
 ghost use Rattle.std.specs.Prelude.{◌≡◌};
-ghost use Rattle.cy_trace.specs.private.TapeLines.{tape_start};
+ghost use Rattle.cy_trace.specs.LineParts.{tape_start};
 
 use cy_msg::{Bytes, Text};
 

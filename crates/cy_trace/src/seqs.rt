@@ -4,7 +4,7 @@ ghost use Rattle.std.specs.Prelude.{◌≡◌, ◌≤◌, ◌++◌, ◌∷◌, [
 use std::marker::Model;
 
 /// The most messages that a call takes.
-pub(crate) const MOST_MESSAGES: usize = 4;
+pub const MOST_MESSAGES: usize = 4;
 
 /// The numbers of the messages of a call, at most four, in the order of the readers. Contracts see
 /// them as a list.
@@ -37,8 +37,8 @@ impl Seqs {
         }
     }
 
-    // These numbers.
-    pub(crate) fn of(numbers: &[u32]) -> Self
+    /// These numbers.
+    pub fn of(numbers: &[u32]) -> Self
         requires { length numbers.now ≤ 4 }
         ensures { result ≡ numbers.now }
     {

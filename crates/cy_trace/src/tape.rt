@@ -35,8 +35,8 @@ impl Model for Tape {
 }
 
 impl Tape {
-    // No message yet.
-    pub(crate) fn new(alloc: Global) -> Self
+    /// No message yet.
+    pub fn new(alloc: Global) -> Self
         ensures { result ≡ [] }
     {
         Tape {
@@ -47,8 +47,8 @@ impl Tape {
         }
     }
 
-    // No message yet, with room for so many, where there is memory.
-    pub(crate) fn with_room(alloc: Global, most: usize) -> Self
+    /// No message yet, with room for so many, where there is memory.
+    pub fn with_room(alloc: Global, most: usize) -> Self
         ensures { result ≡ [] }
     {
         Tape {

@@ -1,11 +1,11 @@
 // The lines of a tape's messages.
 ghost use Rattle.std.specs.Prelude.{◌≡◌, ◌≤◌, ◌<◌, ◌+◌, ◌++◌, ◌∷◌, [], length, IfOk, IfSome, Some};
 ghost use Rattle.cy_trace.specs.Tapes.{entry_by, told_by, AreNamed};
-ghost use Rattle.cy_trace.specs.private.Fronts.{BeginsWith, TakesMessages};
+ghost use Rattle.cy_trace.specs.private.Fronts.{BeginsWith};
+ghost use Rattle.cy_trace.specs.Taking.{TakesMessages};
 ghost use Rattle.cy_trace.specs.declared.line.Line.TheVariants as line;
 
 use crate::added::is_added;
-use crate::fault::Fault;
 use crate::front::{front_byte, front_short, front_word};
 use crate::hints::{Hints, place_of};
 use crate::named::TapeName;
@@ -21,14 +21,13 @@ use std::collections::HashMap;
 const MOST_FOUND: usize = 65_536;
 
 impl Tape {
-    ghost use Rattle.std.specs.Prelude.{◌≡◌, ◌≤◌, ◌<◌, ◌+◌, ◌++◌, ◌∷◌, [], length, Some};
-    ghost use Rattle.cy_trace.specs.LineReading.{Gives};
-    ghost use Rattle.cy_trace.specs.private.Fronts.{TakesMessages};
+    ghost use Rattle.std.specs.Prelude.{◌≡◌, ◌≤◌, ◌<◌, ◌+◌, ◌++◌, ◌∷◌, [], length, IfOk};
+    ghost use Rattle.cy_trace.specs.Taking.{TakesMessages};
 
-    // The same with one more message, of a name that is kept anew.
-    pub(crate) fn with(self, alloc: Global, entry: TapeEntry) -> Result<Tape, Fault>
+    /// The same with one more message, of a name that is kept anew.
+    pub fn with(self, alloc: Global, entry: TapeEntry) -> Result<Tape, AllocError>
         requires { length self < 4294967295 }
-        ensures { Gives result (Some (self ++ entry ∷ [])) }
+        ensures { IfOk result (λ t. t ≡ self ++ entry ∷ []) }
     {
         let Tape {
             mut names,
@@ -49,8 +48,10 @@ impl Tape {
         })
     }
 
-    // Takes the messages whose lines come next, as far as their names are known.
-    pub(crate) fn take_lines<'a>(&mut self, bytes: &'a [u8], line: u32) -> (&'a [u8], u32)
+    /// Takes the messages whose lines the bytes begin with, as far as there is memory and their
+    /// names are known. Answers what stands behind these lines, and the number of the next line,
+    /// where `line` is that of the first one.
+    pub fn take_lines<'a>(&mut self, bytes: &'a [u8], line: u32) -> (&'a [u8], u32)
         requires { line + length bytes.now ≤ 4294967295 }
         ensures { TakesMessages bytes.now result.0.now self.old self.new line result.1 }
     {

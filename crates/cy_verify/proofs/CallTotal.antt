@@ -3,7 +3,7 @@ use Rattle.std.proofs.Common.{ℕ, zero, suc, ◌+◌, ◌*◌, ◌≡◌, ◌�
 use Rattle.cy_comp.specs.declared.plan.Plan.{Plan}
 use Rattle.wake_core.specs.Rest.{run_shown}
 use Rattle.wake_core.specs.Run.{Run}
-use Rattle.cy_trace.specs.Summary.{calls_from}
+use Rattle.cy_trace.specs.CallCount.{calls_from}
 use Rattle.cy_verify.specs.Verdict.{Task}
 use Rattle.cy_verify.specs.declared.follower.Follower.{Follower}
 use Rattle.cy_verify.specs.declared.walk.Walk.{Walk}

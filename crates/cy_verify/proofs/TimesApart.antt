@@ -11,7 +11,7 @@ use Rattle.wake_core.specs.Run.{route_of, routes_of, writes_from}
 use Rattle.wake_core.specs.Plain.{Plain}
 use Rattle.wake_core.specs.Sound.{IsOutput, WasHeld, Sound}
 use Rattle.wake_core.proofs.Listing.{get_taken}
-use Rattle.cy_trace.proofs.OutSuits.{Made, outs_made, outs_count, passing}
+use Rattle.cy_trace.proofs.OutsMade.{Made, outs_made, outs_count, passing}
 use Rattle.cy_verify.specs.private.Passes.{held_on, IsApart}
 use Rattle.cy_comp.proofs.Holding.{held_holds, holds_held}
 use Rattle.cy_verify.proofs.Written.{HasOwnOuts, held_by, held_own, route_at, unheld_unwritten, unwritten_unheld}

@@ -12,7 +12,7 @@ use Rattle.wake_core.specs.Plain.{Plain}
 use Rattle.wake_core.specs.Rest.{run_shown}
 use Rattle.wake_core.specs.Run.{Run, route_of, routes_of, played_of}
 use Rattle.cy_trace.specs.TraceOfRun.{tape_entry, trace_calls, trace_component, trace_components, trace_of_run}
-use Rattle.cy_trace.specs.TraceText.{version_of}
+use Rattle.cy_trace.specs.LineParts.{version_of}
 use Rattle.cy_trace.specs.declared.trace.TapeEntry.{TapeEntry}
 use Rattle.cy_trace.specs.declared.trace.Trace.{Trace}
 use Rattle.cy_trace.specs.declared.trace.TraceCall.{TraceCall}

@@ -10,7 +10,7 @@ use Rattle.wake_core.specs.Plain.{Plain, opening_world}
 use Rattle.wake_core.specs.Planned.{planned}
 use Rattle.wake_core.specs.Rest.{IsToPlay, run_shown}
 use Rattle.wake_core.specs.Run.{routes_of}
-use Rattle.cy_trace.specs.Summary.{calls_from}
+use Rattle.cy_trace.specs.CallCount.{calls_from}
 use Rattle.cy_trace.specs.TraceOfRun.{trace_of_run}
 use Rattle.cy_trace.specs.declared.trace.Trace.{Trace}
 use Rattle.cy_verify.specs.declared.error.VerifyError.{VerifyError}

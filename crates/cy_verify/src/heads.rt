@@ -2,7 +2,7 @@
 ghost use Rattle.std.specs.Prelude.{◌≡◌, length};
 ghost use Rattle.std.specs.Bool.{Decides};
 ghost use Rattle.std.specs.List.{list_any};
-ghost use Rattle.cy_trace.specs.TraceText.{is_oldest, version_of};
+ghost use Rattle.cy_trace.specs.LineParts.{is_oldest, version_of};
 ghost use Rattle.cy_verify.specs.private.Passes.{IsNamed, AreNamed, IsHeaded};
 
 use cy_comp::{Plan, Wiring};

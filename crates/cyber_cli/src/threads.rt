@@ -14,7 +14,7 @@ use cy_recording::played_places_are_there;
 use cy_replay::Replay;
 use cy_run::{Gate, run_threads};
 use cy_store::Store;
-use cy_trace::trace_is_read_back;
+use cy_trace_text::trace_is_read_back;
 use cy_words::Play;
 use std::alloc::{AllocError, Global};
 use std::sync::Wait;

@@ -1,6 +1,7 @@
 // Texts of traces, and texts that are of none.
 use cy_fuse::Overflow;
-use cy_trace::{Calls, Trace, TraceError, TraceOutput, read_trace};
+use cy_trace::{Calls, Trace, TraceError, TraceOutput};
+use cy_trace_read::read_trace;
 use std::alloc::Global;
 use std::test::Fail;
 

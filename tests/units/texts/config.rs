@@ -1,4 +1,4 @@
-//! Tests of configuration files: `cy_config`, `cy_dag`, `cy_sched` and `cy_check` over texts that
+//! Tests of configuration files: `cy_config`, `cy_dag`, `cy_sched` and `cy_report` over texts that
 //! `cy_text` reads.
 //! Each expected value is written out by hand from the rules of the formats.
 

@@ -6,7 +6,7 @@ use Rattle.cy_msg.specs.declared.placement.ContextPlan.{ContextPlan}
 use Rattle.cy_sched.specs.Placing.{IsPlaced}
 use Rattle.cy_sched.specs.declared.sched.Sched.{Sched}
 use Rattle.cy_sched.specs.declared.sched.Sched.TheVariants.{Classic, Choreography}
-use Rattle.cy_check.specs.CheckText.{text_of}
+use Rattle.cy_report.specs.CheckText.{text_of}
 use Rattle.cy_replay.specs.declared.error.Refusal.{Refusal}
 use Rattle.cy_replay.specs.Configuration.{Configured, configuration_in}
 use Rattle.cy_replay.specs.Wiring.{wiring_in}

@@ -14,7 +14,7 @@ use Rattle.cy_msg.specs.declared.token.Token.{Token}
 use Rattle.cy_section.specs.RecordText.{IsRecordText, record_bytes}
 use Rattle.cy_sched.specs.Placing.{IsPlaced}
 use Rattle.cy_trace.specs.TraceForm.{IsTraceText}
-use Rattle.cy_trace.specs.TraceText.{trace_text}
+use Rattle.cy_trace_text.specs.TraceText.{trace_text}
 use Rattle.wake_core.specs.LawfulRun.{LawfulRun}
 use Rattle.wake_core.specs.Plain.{Plain}
 use Rattle.wake_core.specs.Rest.{run_shown}
@@ -33,7 +33,8 @@ use Rattle.cy_replay.specs.Setup.{Replayed, replay_in}
 use Rattle.cy_replay.specs.Stops.{stop_of}
 use Rattle.cy_commands.specs.Work.{Work}
 use Rattle.cy_words.specs.PlayWords.{PlayWords}
-use Rattle.cy_trace.specs.Summary.{calls_from, summary_line}
+use Rattle.cy_trace.specs.CallCount.{calls_from}
+use Rattle.cy_report.specs.Summary.{summary_line}
 
 -- The files are read and judged in the order of refusals.
 abbrev pub replayed_in : PlayWords → Files → Reads Refusal Replayed

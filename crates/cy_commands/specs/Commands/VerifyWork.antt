@@ -11,7 +11,8 @@ use Rattle.wake_core.specs.Planned.{planned}
 use Rattle.wake_core.specs.Rest.{run_shown}
 use Rattle.wake_core.specs.Run.{routes_of}
 use Rattle.wake_core.specs.declared.entries.TheConstants.{MOST_PLANNED}
-use Rattle.cy_trace.specs.Summary.{calls_from, lawful_line}
+use Rattle.cy_trace.specs.CallCount.{calls_from}
+use Rattle.cy_report.specs.Summary.{lawful_line}
 use Rattle.cy_trace.specs.TraceForm.{IsFirstBad, IsTrace, IsTraceText}
 use Rattle.cy_trace.specs.TraceOfRun.{trace_of_run}
 use Rattle.cy_compare.specs.Compare.{first_difference}

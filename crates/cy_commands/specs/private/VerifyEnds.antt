@@ -6,7 +6,7 @@ use Rattle.cy_store.specs.Store.{StoreView, SameCounts, Rose}
 use Rattle.cy_msg.specs.declared.token.Token.{Token}
 use Rattle.wake_core.specs.Plain.{Plain}
 use Rattle.wake_core.specs.Rest.{run_shown}
-use Rattle.cy_trace.specs.Summary.{calls_from}
+use Rattle.cy_trace.specs.CallCount.{calls_from}
 use Rattle.cy_trace.specs.TraceForm.{IsTrace, text_of_trace}
 use Rattle.cy_trace.specs.declared.trace.Trace.{Trace}
 use Rattle.cy_verify.specs.Verdict as verdict

@@ -3,7 +3,7 @@ ghost use Rattle.std.specs.Prelude.{◌≡◌, IfOk, IfErr, IsOkUnless, length};
 ghost use Rattle.cy_msg.specs.declared.play_list.PlayList.{PlayList};
 ghost use Rattle.cy_request.specs.Request.{HasReader};
 ghost use Rattle.cy_replay.specs.Setup.{IsSetUp, Replayed, replayed};
-ghost use Rattle.cy_trace.specs.Summary.{lawful_line as line_by};
+ghost use Rattle.cy_report.specs.Summary.{lawful_line as line_by};
 ghost use Rattle.cy_verify.specs.Verdict.{IsOfRun};
 ghost use Rattle.cy_words.specs.Command as command;
 ghost use Rattle.cy_words.specs.PlayViews.{play_words_of};
@@ -25,11 +25,11 @@ use cy_compare::{SameError, same_record};
 use cy_msg::{Bytes, PlayList, Token};
 use cy_recording::{Played, played_places_are_there};
 use cy_replay::{Fault, Replay, SetupError, failed, read_trace_file, refused};
+use cy_report::lawful_line;
 use cy_store::Store;
-use cy_trace::{
-    Trace, TraceError, lawful_line, read_trace, runs_are_traces, texts_tell_traces,
-    traces_of_runs_fit,
-};
+use cy_trace::{Trace, TraceError};
+use cy_trace_read::{read_trace, texts_tell_traces};
+use cy_trace_text::{runs_are_traces, traces_of_runs_fit};
 use cy_verify::{Told, Verdict, VerifyError, verify};
 use cy_words::Play;
 use std::alloc::Global;

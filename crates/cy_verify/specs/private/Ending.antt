@@ -15,7 +15,7 @@ use Rattle.wake_core.specs.Run.{routes_of, writes_from}
 use Rattle.wake_core.specs.Serial.{last_clock}
 use Rattle.wake_core.specs.Sound.{HasLate, IsOutput, WasHeld}
 use Rattle.cy_trace.specs.TraceOfRun.{tape_entry}
-use Rattle.cy_trace.specs.TraceText.{version_of}
+use Rattle.cy_trace.specs.LineParts.{version_of}
 use Rattle.cy_trace.specs.declared.trace.Trace.{Trace}
 use Rattle.cy_trace.specs.declared.trace.TraceComponent.{TraceComponent}
 use Rattle.cy_verify.specs.Verdict.{Task, MayJudge}

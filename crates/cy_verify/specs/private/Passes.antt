@@ -11,7 +11,7 @@ use Rattle.cy_comp.specs.declared.plan.Plan.{Plan}
 use Rattle.wake_core.specs.declared.route.Route.{Route}
 use Rattle.wake_core.specs.Run.{played_of}
 use Rattle.wake_core.specs.Sound.{StandsOn, HasLate}
-use Rattle.cy_trace.specs.TraceText.{version_of}
+use Rattle.cy_trace.specs.LineParts.{version_of}
 use Rattle.cy_trace.specs.declared.trace.Trace.{Trace}
 use Rattle.cy_trace.specs.declared.trace.TraceComponent.{TraceComponent}
 

@@ -5,7 +5,7 @@ use super::wired::wiring;
 use cy_comp::{Kind, State};
 use cy_msg::{PlayList, Stop};
 use cy_run::{OpenGate, run_threads};
-use cy_trace::trace_text;
+use cy_trace_text::trace_text;
 use std::str;
 use std::sync::Wait;
 use std::test::Fail;

@@ -5,7 +5,7 @@ use cy_comp::{Kind, State, Wiring};
 use cy_fuse::Overflow;
 use cy_msg::{Placement, PlayList};
 use cy_run::run_serial;
-use cy_trace::trace_text;
+use cy_trace_text::trace_text;
 use std::process::Abort;
 use std::str;
 use std::test::Fail;

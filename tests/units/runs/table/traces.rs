@@ -3,7 +3,7 @@ use super::tables::{pass_wiring, table_with};
 use super::walk::{play, turn};
 use cy_comp::State;
 use cy_msg::{Token, Tuple};
-use cy_trace::trace_text;
+use cy_trace_text::trace_text;
 use std::str;
 use std::test::Fail;
 

@@ -1,7 +1,7 @@
 // The text that tells what configuration files say.
 use super::texts::tree;
 use super::wirings::configs;
-use cy_check::{SchedulerFile, check_text};
+use cy_report::{SchedulerFile, check_text};
 use cy_dag::{Dag, read_dag};
 use cy_msg::Text;
 use cy_sched::{Sched, place};

@@ -2,7 +2,7 @@ use Rattle.std.proofs.Common.{rules, ap}
 use Rattle.cy_comp.specs.declared.wiring.Wiring.{Wiring}
 use Rattle.wake_core.specs.WorldOf.{plain_of}
 use Rattle.wake_core.specs.Rest.{run_shown}
-use Rattle.cy_trace.specs.TraceText.{trace_text}
+use Rattle.cy_trace_text.specs.TraceText.{trace_text}
 use Rattle.cy_commands.specs.declared.failure.File.TheVariants as file
 use Rattle.cy_words.specs.PlayViews.{play_words_of}
 use Rattle.cy_commands.proofs.PlayWriting.{blames, unrecorded, untold, untraced, written}

@@ -1,8 +1,8 @@
 use Rattle.std.proofs.Common.{rules, ◌≡◌, ◌++◌, ap, List, ℕ}
 use Rattle.std.specs.List.{flat_map}
 use Rattle.std.proofs.lemmas.List.Elements.{All-same, All-drop}
-use Rattle.cy_trace.specs.Parts.{IsPartOf, part_text, parts_text}
-use Rattle.cy_trace.specs.declared.parts.Part.{Part}
+use Rattle.cy_trace_text.specs.Parts.{IsPartOf, part_text, parts_text}
+use Rattle.cy_trace_text.specs.declared.parts.Part.{Part}
 use Rattle.wake_core.specs.Rest.{run_shown}
 use Rattle.wake_core.specs.WorldOf.{plain_of}
 use Rattle.cy_commands.proofs.PiecesPut.{begun, cut_after, ended, has_place, no_more, put, starved, stopped}

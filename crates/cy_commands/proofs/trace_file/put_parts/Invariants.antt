@@ -1,6 +1,6 @@
 use Rattle.std.proofs.Common.{length}
 use Rattle.std.specs.List.{All}
-use Rattle.cy_trace.specs.Parts.{IsPartOf, parts_text}
+use Rattle.cy_trace_text.specs.Parts.{IsPartOf, parts_text}
 use Rattle.wake_core.specs.Rest.{run_shown}
 use Rattle.wake_core.specs.WorldOf.{plain_of}
 use Rattle.cy_commands.proofs.PiecesPut.{IsPutSoFar}

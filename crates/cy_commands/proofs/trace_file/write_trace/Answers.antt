@@ -1,7 +1,7 @@
 use Rattle.std.proofs.Common.{rules, ◌∙◌, ap, List}
-use Rattle.cy_trace.specs.Parts.{ArePartsOf, parts_text}
-use Rattle.cy_trace.specs.TraceText.{trace_text}
-use Rattle.cy_trace.specs.declared.parts.Part.{Part}
+use Rattle.cy_trace_text.specs.Parts.{ArePartsOf, parts_text}
+use Rattle.cy_trace_text.specs.TraceText.{trace_text}
+use Rattle.cy_trace_text.specs.declared.parts.Part.{Part}
 use Rattle.wake_core.specs.Rest.{run_shown}
 use Rattle.wake_core.specs.WorldOf.{plain_of}
 use Rattle.cy_writer.proofs.Puts.{created}

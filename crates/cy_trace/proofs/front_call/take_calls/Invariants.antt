@@ -1,5 +1,5 @@
 use Rattle.std.proofs.Common.{◌+◌, ◌≤◌, length}
-use Rattle.cy_trace.specs.private.Fronts.{TakesCalls}
+use Rattle.cy_trace.specs.Taking.{TakesCalls}
 use Rattle.cy_trace.proofs.front_call.take_calls.Given as goal
 
 abbrev pub invariant-loop-call : goal.invariant-loop-call

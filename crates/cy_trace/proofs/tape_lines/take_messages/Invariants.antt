@@ -1,6 +1,6 @@
 use Rattle.std.proofs.Common.{◌+◌, ◌≤◌, length}
 use Rattle.cy_trace.specs.Tapes.{told_by, AreNamed}
-use Rattle.cy_trace.specs.private.Fronts.{TakesMessages}
+use Rattle.cy_trace.specs.Taking.{TakesMessages}
 use Rattle.cy_trace.proofs.tape_lines.take_messages.Given as goal
 
 abbrev pub invariant-loop-message : goal.invariant-loop-message

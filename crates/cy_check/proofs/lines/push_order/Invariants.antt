@@ -1,7 +1,0 @@
-use Rattle.std.proofs.Common.{◌≡◌, ◌++◌, take}
-use Rattle.std.specs.List.{flat_map}
-use Rattle.cy_check.specs.CheckText.{name_in, spaced}
-use Rattle.cy_check.proofs.lines.push_order.Given as goal
-
-abbrev pub invariant-loop-number : goal.invariant-loop-number
-invariant-loop-number l = l.to.items ≡ l.fn.to.items ++ flat_map (λ d. spaced (name_in l.components d)) (take l.number-index l.order)

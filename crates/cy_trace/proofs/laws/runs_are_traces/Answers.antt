@@ -1,5 +1,0 @@
-use Rattle.cy_trace.proofs.RunTexts.{run_text}
-use Rattle.cy_trace.proofs.laws.runs_are_traces.Goals as goal
-
-pub returns : goal.returns
-returns c = run_text

@@ -1,5 +1,0 @@
-use Rattle.cy_trace.proofs.Prefixes.{texts_tell}
-use Rattle.cy_trace.proofs.laws.texts_tell_traces.Goals as goal
-
-pub returns : goal.returns
-returns c = texts_tell

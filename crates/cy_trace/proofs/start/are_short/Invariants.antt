@@ -1,7 +1,0 @@
-use Rattle.std.proofs.Common.{◌≤◌, length, take}
-use Rattle.std.specs.List.{All}
-use Rattle.cy_trace.specs.declared.start.LineStart.{LineStart}
-use Rattle.cy_trace.proofs.start.are_short.Given as goal
-
-abbrev pub invariant-loop-start : goal.invariant-loop-start
-invariant-loop-start l = All (λ (s : LineStart). length s.text ≤ 100) (take l.start-index l.starts)

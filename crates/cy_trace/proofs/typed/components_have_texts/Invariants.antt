@@ -1,7 +1,0 @@
-use Rattle.std.proofs.Common.{◌≡◌, ◌<◌, ℕ, Some, slice_get}
-use Rattle.std.specs.Str.{IsUtf8}
-use Rattle.cy_comp.specs.declared.plan.Plan.{Plan}
-use Rattle.cy_trace.proofs.typed.components_have_texts.Given as goal
-
-abbrev pub invariant-loop-plan : goal.invariant-loop-plan
-invariant-loop-plan l = (n : ℕ) (p : Plan) → n < l.plan-index → slice_get l.plans n ≡ Some p → IsUtf8 p.name

@@ -1,0 +1,9 @@
+pub mod LineLaws
+pub mod NameLaws
+pub mod NumeralLaws
+pub mod Order
+pub mod PartLaws
+pub mod Prefixes
+pub mod Readers
+pub mod ReadingSteps
+pub mod Taking

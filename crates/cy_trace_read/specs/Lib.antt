@@ -1,0 +1,5 @@
+pub mod private
+pub mod Laws
+pub mod LineOrder
+pub mod LineReading
+pub mod Numerals

@@ -1,0 +1,17 @@
+pub mod FusedRoles
+pub mod Gathered
+pub mod Keeping
+pub mod OutSuits
+pub mod Pages
+pub mod Parting
+pub mod Places
+pub mod Pushed
+pub mod RunFits
+pub mod RunTexts
+pub mod SameArrivals
+pub mod SameCalls
+pub mod SameTape
+pub mod Starts
+pub mod StepSuits
+pub mod Telling
+pub mod TextRead

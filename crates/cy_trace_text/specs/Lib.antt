@@ -1,0 +1,5 @@
+pub mod private
+pub mod Laws
+pub mod Parts
+pub mod Telling
+pub mod TraceText

@@ -1,0 +1,4 @@
+pub mod Adding
+pub mod TapeLines
+pub mod OutsAfter
+pub mod Kept
