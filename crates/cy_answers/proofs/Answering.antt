@@ -7,7 +7,7 @@ use Rattle.std.proofs.lemmas.List.{drop_all, drop_more, length_push}
 use Rattle.std.proofs.lemmas.Option.{none-some, slice_get-get_or}
 use Rattle.std.proofs.lemmas.Bool.Decides.{nat_tests}
 use Rattle.cy_msg.specs.Tokens.{most_played}
-use Rattle.cy_reader.specs.Play.{message_at}
+use Rattle.cy_reader.specs.Named.{message_at}
 use Rattle.cy_reader.specs.Record.{Contents, Message}
 use Rattle.cy_comp.specs.Answers.{call_at, CallsRise}
 use Rattle.cy_comp.specs.Kind.{is_kind_in_range}

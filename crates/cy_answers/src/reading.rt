@@ -4,7 +4,7 @@ ghost use Rattle.std.specs.Prelude.{OnOk, IsOkUnless};
 ghost use Rattle.cy_msg.specs.Tokens.{most_played};
 ghost use Rattle.cy_comp.specs.Kind.{is_kind_in_range};
 ghost use Rattle.cy_comp.specs.declared.kind.Kind.TheVariants.{External};
-ghost use Rattle.cy_reader.specs.Play.{message_at};
+ghost use Rattle.cy_reader.specs.Named.{message_at};
 ghost use Rattle.cy_answers.specs.Answers.{IsDue, answer_of, answers_from, answers_of};
 ghost use Rattle.cy_answers.specs.Answers.{answers_refusal, count_refusal, first_origin, is_on};
 ghost use Rattle.cy_answers.specs.Answers.{messages_on, time_refusal, times_refusal};

@@ -6,7 +6,7 @@ use Rattle.cy_store.specs.Reads.{Reads, Absent, file_by, file_in, judged}
 use Rattle.cy_store.specs.Store.{StoreView}
 use Rattle.cy_reader.specs.declared.error.LoadError.{LoadError}
 use Rattle.cy_reader.specs.Record.{Message, Met, record_of}
-use Rattle.cy_reader.specs.Salvage.{salvage_of}
+use Rattle.cy_salvage.specs.Salvage.{salvage_of}
 use Rattle.cy_writer.specs.RecordWrites.{record_puts}
 use Rattle.cy_writer.proofs.RecordBytes.{after_record}
 use Rattle.cy_replay.specs.FaultText.{is_limit}

@@ -8,7 +8,7 @@ use Rattle.cy_store.specs.Reads.{Absent}
 use Rattle.cy_store.specs.Store.{StoreView}
 use Rattle.cy_store.specs.Write.{after_writes}
 use Rattle.cy_reader.specs.declared.known.Known.{Known}
-use Rattle.cy_reader.specs.Joined.{Gathered, IsOrdered}
+use Rattle.cy_salvage.specs.Joined.{Gathered, IsOrdered}
 use Rattle.cy_reader.specs.Record.{Met}
 use Rattle.cy_writer.specs.RecordWrites.{record_puts}
 use Rattle.cy_writer.specs.declared.error.WriteError.{WriteError}

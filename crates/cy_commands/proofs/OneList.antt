@@ -15,7 +15,7 @@ use Rattle.cy_timer.specs.Timers.{timers_of}
 use Rattle.cy_replay.specs.Listing.{IsListed, choice_of}
 use Rattle.cy_replay.specs.Wiring.{Wired}
 use Rattle.cy_reader.specs.Record.{Contents}
-use Rattle.cy_reader.specs.Play.{Choice, IsPlayList, number_at, time_at, tokens_behind, value_at}
+use Rattle.cy_play_list.specs.Play.{Choice, IsPlayList, number_at, time_at, tokens_behind, value_at}
 
 less : (a b : ℕ) → a < b → is_lt (nat_cmp a b) ≡ true
 less a b l = sym (ap is_lt (nat_cmp_is a b ordering.Less l))

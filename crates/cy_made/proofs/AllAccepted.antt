@@ -12,7 +12,7 @@ use Rattle.cy_dag.specs.declared.error.DagError.{DagError}
 use Rattle.cy_request.specs.declared.filter.Filter.{Filter}
 use Rattle.cy_reader.specs.Record.{Contents, record_of, with_section}
 use Rattle.cy_reader.specs.declared.known.Known.{Known}
-use Rattle.cy_reader.specs.Play.{Choice, all_places, chosen, is_played, most_played, number_at, places_below}
+use Rattle.cy_play_list.specs.Play.{Choice, all_places, chosen, is_played, most_played, number_at, places_below}
 use Rattle.cy_reader.specs.declared.error.LoadError.{LoadError}
 use Rattle.cy_reader.specs.declared.error.LoadError.TheVariants.{TooManyPlayed}
 use Rattle.cy_read_back.specs.Records.{message_on, text_contents}

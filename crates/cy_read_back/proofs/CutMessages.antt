@@ -21,11 +21,12 @@ use Rattle.cy_section.specs.Reading.{chunk_header_at, channel_at, messages_of}
 use Rattle.cy_section.specs.RecordText.{Part, bytes_of, parts_of, record_bytes, complete_header, channel_part, chunk_header_part, chunk_body_part, chunk_header_of, entries_from, header_end}
 use Rattle.cy_piece.proofs.Lengths.{length-header_section, length-of-message_field, length-message_fields}
 use Rattle.cy_reader.specs.declared.error.LoadError.{LoadError}
-use Rattle.cy_reader.specs.Sections.{WholeSection, Sections, longest_section, sections_from}
+use Rattle.cy_cut.specs.Sections.{WholeSection, Sections, longest_section, sections_from}
 use Rattle.cy_reader.specs.Record.{◌>>=◌, Met, file_header, sections_met, nothing}
 use Rattle.cy_reader.specs.Named.{named_messages}
 use Rattle.cy_reader.specs.Said.{section_messages, IsSaid}
-use Rattle.cy_reader.specs.Salvage.{Salvage, fault_by, own_fault, until_fault, sound_sections, dropped_behind, if_usable, salvage_in, salvage_of}
+use Rattle.cy_salvage.specs.Salvage.{Salvage, own_fault, until_fault, sound_sections, dropped_behind, if_usable, salvage_in, salvage_of}
+use Rattle.cy_cut.specs.Cutting.{fault_by}
 use Rattle.cy_reader.proofs.Told.{told_as_said}
 use Rattle.cy_read_back.specs.Sections.{ChannelFits, ChunkHeaderFits, MessageFits, message_bytes}
 use Rattle.cy_read_back.specs.Fronts.{IsSectionOfChannel, IsGivenMessage, IsSectionOfChunk, IsFrontOf, IsSalvagedWhole, chunks_within, chunks_at, whole_messages}

@@ -12,9 +12,9 @@ use Rattle.cy_section.specs.Section.{header_section, chunk_body}
 use Rattle.cy_section.specs.RecordText.{Part, IsRecordText, parts_of, record_bytes, header_end, incomplete_header}
 use Rattle.cy_piece.proofs.Lengths.{length-header_section}
 use Rattle.cy_reader.specs.declared.error.LoadError.{LoadError}
-use Rattle.cy_reader.specs.Sections.{WholeSection, longest_section}
-use Rattle.cy_reader.specs.Record.{◌>>=◌, Met, file_header, section_met, sections_met, nothing, size_of, with_section, longest_file, largest_channels}
-use Rattle.cy_reader.specs.Salvage.{Salvage, sound_sections, dropped_behind, if_usable, salvage_in, salvage_of}
+use Rattle.cy_cut.specs.Sections.{WholeSection, longest_section, longest_file}
+use Rattle.cy_reader.specs.Record.{◌>>=◌, Met, file_header, section_met, sections_met, nothing, size_of, with_section, largest_channels}
+use Rattle.cy_salvage.specs.Salvage.{Salvage, sound_sections, dropped_behind, if_usable, salvage_in, salvage_of}
 use Rattle.cy_writer.specs.RecordWrites.{record_sections}
 use Rattle.cy_writer.specs.Unfinished.{unfinished}
 use Rattle.cy_read_back.specs.Sections.{HeaderFits}

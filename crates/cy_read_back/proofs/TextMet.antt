@@ -19,7 +19,7 @@ use Rattle.cy_read_back.specs.Sections.{ChannelFits, ChunkHeaderFits, MessageFit
 use Rattle.cy_read_back.proofs.RowsRead.{chunk_header_at-body}
 use Rattle.cy_read_back.proofs.WrittenRead.{channel_at-body, chunk_body_read}
 use Rattle.cy_reader.specs.declared.error.LoadError.{LoadError}
-use Rattle.cy_reader.specs.Sections.{WholeSection}
+use Rattle.cy_cut.specs.Sections.{WholeSection}
 use Rattle.cy_reader.specs.Record.{◌>>=◌, Met, Message, nothing, of_section, size_of, within_limits, with_section, channel_given, channel_met, name_mentioned, message_met, messages_met, body_met, section_met, sections_met, longest_name, longest_content, most_channels, largest_channels}
 use Rattle.cy_read_back.specs.Records.{IsReadableChannel, message_on}
 use Rattle.cy_reader.proofs.Meeting.{channel_section}

@@ -18,7 +18,7 @@ use Rattle.cy_read_back.specs.Sections.{ChannelFits, ChunkHeaderFits, EntryFits}
 use Rattle.cy_wire.proofs.Varints.{length-varint_bytes}
 use Rattle.cy_piece.proofs.Lengths.{length-section}
 use Rattle.cy_read_back.proofs.IndexRead.{short_header, short_body}
-use Rattle.cy_reader.specs.Sections.{longest_section}
+use Rattle.cy_cut.specs.Sections.{longest_section}
 use Rattle.cy_reader.specs.Record.{size_of, with_section, largest_channels}
 use Rattle.cy_read_back.proofs.TextSections.{IsSection, body_of, body_of-section}
 use Rattle.cy_read_back.proofs.TextMet.{chunk_parts}

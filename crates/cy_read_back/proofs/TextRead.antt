@@ -17,10 +17,10 @@ use Rattle.cy_read_back.specs.Sections.{HeaderFits, ChunkHeaderFits}
 use Rattle.cy_piece.proofs.Lengths.{length-section, length-header_section, length-header_body}
 use Rattle.cy_read_back.proofs.HeadsRead.{number-of_head, size-of_head}
 use Rattle.cy_read_back.proofs.RowsRead.{header_at-body}
-use Rattle.cy_reader.specs.declared.heads.PlacedHead.{PlacedHead}
-use Rattle.cy_reader.specs.Sections.{Sections, longest_section, sections_from}
-use Rattle.cy_reader.specs.Heads.{PlacedIndex, end_of, index_at, index_of, index_head, header_head, section_head, heads_of}
-use Rattle.cy_reader.specs.Record.{nothing, size_of, with_section, file_header, sections_met, source_of, record_of, longest_file, most_channels, largest_channels, parts_of as file_parts}
+use Rattle.cy_cut.specs.declared.heads.PlacedHead.{PlacedHead}
+use Rattle.cy_cut.specs.Sections.{Sections, longest_section, sections_from, longest_file}
+use Rattle.cy_cut.specs.Heads.{PlacedIndex, end_of, index_at, index_of, index_head, header_head, section_head, heads_of}
+use Rattle.cy_reader.specs.Record.{nothing, size_of, with_section, file_header, sections_met, source_of, record_of, most_channels, largest_channels, parts_of as file_parts}
 use Rattle.cy_read_back.specs.Records.{IsReadableChannel, IsReadableMessage, AreReadable, message_on, heads_from, text_entries, text_index, text_source, text_contents}
 use Rattle.cy_read_back.proofs.TextNames.{AreNew, is_name, names_there, channels_once, name_readable}
 use Rattle.cy_read_back.proofs.TextSections.{IsSection, StandsThere, placed, long_file, bytes_there, taken_there, sections-written, heads-written, end-written, few_parts}

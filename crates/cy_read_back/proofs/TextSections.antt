@@ -14,8 +14,8 @@ use Rattle.cy_section.specs.Head.{kind_of, head_at}
 use Rattle.cy_section.specs.RecordText.{Part, bytes_of}
 use Rattle.cy_piece.proofs.Lengths.{length-section}
 use Rattle.cy_read_back.proofs.HeadsRead.{number-of_head, head_at-head}
-use Rattle.cy_reader.specs.Sections.{WholeSection, Sections, longest_section, under_head, section_at, sections_in}
-use Rattle.cy_reader.specs.Heads.{section_head, end_of}
+use Rattle.cy_cut.specs.Sections.{WholeSection, Sections, longest_section, under_head, section_at, sections_in}
+use Rattle.cy_cut.specs.Heads.{section_head, end_of}
 use Rattle.cy_read_back.specs.Records.{heads_from}
 
 -- the kind of a part's section, and its body

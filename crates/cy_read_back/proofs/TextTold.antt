@@ -17,12 +17,12 @@ use Rattle.cy_section.specs.Chunks.{messages_in}
 use Rattle.cy_section.specs.RecordText.{Part, parts_of, bytes_of, entries_from, channel_part, chunk_header_part, chunk_body_part, least_time, greatest_time}
 use Rattle.cy_section.specs.Reading as reading
 use Rattle.cy_read_back.proofs.IndexRead.{index_at-body}
-use Rattle.cy_reader.specs.declared.facts.Counted.{Counted}
-use Rattle.cy_reader.specs.declared.facts.IndexFound.{IndexFound}
-use Rattle.cy_reader.specs.declared.facts.IndexFound.TheVariants.{Present}
-use Rattle.cy_reader.specs.declared.heads.PlacedHead.{PlacedHead}
-use Rattle.cy_reader.specs.Heads.{index_head}
-use Rattle.cy_reader.specs.Info.{least, greatest, times_of, channels_of, chunk_bodies, counted_of, index_found, index_read, is_head, file_line, front_lines, index_line, numbered, channel_lines, header_difference, number_differences, message_differences, all_differences, header_differences, entry_line, entry_difference, index_differences, info_text}
+use Rattle.cy_info.specs.declared.facts.Counted.{Counted}
+use Rattle.cy_info.specs.declared.facts.IndexFound.{IndexFound}
+use Rattle.cy_info.specs.declared.facts.IndexFound.TheVariants.{Present}
+use Rattle.cy_cut.specs.declared.heads.PlacedHead.{PlacedHead}
+use Rattle.cy_cut.specs.Heads.{index_head}
+use Rattle.cy_info.specs.Info.{least, greatest, times_of, channels_of, chunk_bodies, counted_of, index_found, index_read, is_head, file_line, front_lines, index_line, numbered, channel_lines, header_difference, number_differences, message_differences, all_differences, header_differences, entry_line, entry_difference, index_differences, info_text}
 use Rattle.cy_read_back.specs.Records.{message_on, heads_from, text_entries, text_index, text_contents}
 use Rattle.cy_read_back.proofs.TextSections.{IsSection, kind_at}
 use Rattle.cy_read_back.proofs.TextMet.{chunk_parts}

@@ -6,7 +6,7 @@ use Rattle.cy_section.specs.declared.types.Channel.{Channel}
 use Rattle.cy_section.specs.RecordText.{IsRecordText, header_end, record_bytes}
 use Rattle.cy_section.specs.RecordText.{incomplete_header}
 use Rattle.cy_section.specs.Section.{header_section}
-use Rattle.cy_reader.specs.Salvage.{Salvage, salvage_of}
+use Rattle.cy_salvage.specs.Salvage.{Salvage, salvage_of}
 use Rattle.cy_writer.specs.RecordWrites.{record_sections}
 use Rattle.cy_writer.specs.Unfinished.{unfinished}
 use Rattle.cy_read_back.specs.Fronts.{IsFrontOf, IsSalvagedWhole}

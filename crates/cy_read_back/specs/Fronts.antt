@@ -9,9 +9,9 @@ use Rattle.cy_section.specs.Chunks.{messages_in}
 use Rattle.cy_section.specs.Section.{channel_body, chunk_body}
 use Rattle.cy_section.specs.RecordText.{bytes_of, channel_part, chunk_header_part}
 use Rattle.cy_section.specs.RecordText.{chunk_body_part, header_end, record_bytes}
-use Rattle.cy_reader.specs.Sections.{longest_section}
+use Rattle.cy_cut.specs.Sections.{longest_section}
 use Rattle.cy_reader.specs.Named.{named_messages}
-use Rattle.cy_reader.specs.Salvage.{Salvage, salvage_of}
+use Rattle.cy_salvage.specs.Salvage.{Salvage, salvage_of}
 
 -- A channel and a message, as a writer is given them: names and types are texts, a time has 64
 -- bits. Their sections are no longer than any that is read.

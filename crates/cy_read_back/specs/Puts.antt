@@ -4,8 +4,8 @@ use Rattle.cy_section.specs.declared.types.BodyMessage.{BodyMessage}
 use Rattle.cy_section.specs.declared.types.Channel.{Channel}
 use Rattle.cy_section.specs.Section.{header_section}
 use Rattle.cy_section.specs.RecordText.{complete_header, header_end, incomplete_header, parts_of}
-use Rattle.cy_reader.specs.declared.heads.PlacedHead.{PlacedHead}
-use Rattle.cy_reader.specs.Heads.{index_head}
+use Rattle.cy_cut.specs.declared.heads.PlacedHead.{PlacedHead}
+use Rattle.cy_cut.specs.Heads.{index_head}
 use Rattle.cy_writer.specs.RecordWrites.{record_puts}
 use Rattle.cy_read_back.specs.Records.{heads_from, text_index}
 

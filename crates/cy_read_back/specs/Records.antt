@@ -12,14 +12,15 @@ use Rattle.cy_section.specs.Head.{kind_of}
 use Rattle.cy_section.specs.Chunks.{messages_in}
 use Rattle.cy_section.specs.RecordText.{Part, IsRecordText, parts_of, entries_from, header_end}
 use Rattle.cy_section.specs.RecordText.{complete_header}
-use Rattle.cy_reader.specs.declared.heads.PlacedHead.{PlacedHead}
-use Rattle.cy_reader.specs.declared.facts.IndexFound.TheVariants.{Present}
-use Rattle.cy_reader.specs.Heads.{PlacedIndex, index_head}
+use Rattle.cy_cut.specs.declared.heads.PlacedHead.{PlacedHead}
+use Rattle.cy_info.specs.declared.facts.IndexFound.TheVariants.{Present}
+use Rattle.cy_cut.specs.Heads.{PlacedIndex, index_head}
 use Rattle.cy_reader.specs.Record.{Message, Source, Contents, number_of, with_section, size_of}
-use Rattle.cy_reader.specs.Record.{record_of, longest_file, longest_name, longest_content}
-use Rattle.cy_reader.specs.Record.{most_channels, largest_channels}
-use Rattle.cy_reader.specs.Info.{info_text, index_found, file_line, front_lines, index_line}
-use Rattle.cy_reader.specs.Info.{channel_lines, channels_of, counted_of}
+use Rattle.cy_reader.specs.Record.{record_of, longest_name, longest_content, most_channels}
+use Rattle.cy_reader.specs.Record.{largest_channels}
+use Rattle.cy_cut.specs.Sections.{longest_file}
+use Rattle.cy_info.specs.Info.{info_text, index_found, file_line, front_lines, index_line}
+use Rattle.cy_info.specs.Info.{channel_lines, channels_of, counted_of}
 
 -- A channel whose name and type are texts, and whose name is within its limit.
 pub record IsReadableChannel (c : Channel) : Type 0 where

@@ -10,10 +10,10 @@ use Rattle.cy_reader.specs.declared.error.LoadError.{LoadError}
 use Rattle.cy_reader.specs.declared.loading.Loading.{Loading}
 use Rattle.cy_reader.specs.declared.loading.Message.{Message}
 use Rattle.cy_reader.specs.Record.{◌>>=◌, Met, fault_of, body_met, section_met, sections_met}
-use Rattle.cy_reader.specs.Sections.{WholeSection}
+use Rattle.cy_cut.specs.Sections.{WholeSection}
 use Rattle.cy_reader.specs.private.Loading.{IsSound, Leads, message_of, met_of}
-use Rattle.cy_reader.specs.declared.cutting.Part.{Part}
-use Rattle.cy_reader.specs.private.Cutting.{seen_part}
+use Rattle.cy_cut.specs.declared.cutting.Part.{Part}
+use Rattle.cy_cut.specs.Cutting.{seen_part}
 
 -- a body behind others changes none of them
 index_before : (bodies : List (List ℕ)) (b : List ℕ) (i : ℕ) → i < length bodies → slice_index_or (bodies ++ b ∷ []) i [] ≡ slice_index_or bodies i []

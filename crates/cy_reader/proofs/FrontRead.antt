@@ -9,22 +9,20 @@ use Rattle.cy_store.proofs.ReadFront.{both_held, may_hold}
 use Rattle.cy_reader.specs.declared.error.LoadError.{LoadError}
 use Rattle.cy_reader.specs.declared.error.LoadError.TheVariants.{Store, Memory}
 use Rattle.cy_reader.specs.declared.front.Front.{Front}
-use Rattle.cy_reader.specs.declared.cutting.CutFile.{CutFile}
-use Rattle.cy_reader.specs.Heads.{header_head}
+use Rattle.cy_cut.specs.declared.cutting.CutFile.{CutFile}
+use Rattle.cy_cut.specs.Heads.{header_head}
 use Rattle.cy_reader.specs.Load.{LoadAnswer}
-use Rattle.cy_reader.specs.Record.{Contents, file_header, header_end, longest_file, parts_of, record_of}
-use Rattle.cy_reader.specs.private.Cutting.{IsCut, CutAnswer}
+use Rattle.cy_reader.specs.Record.{Contents, file_header, parts_of, record_of}
+use Rattle.cy_cut.specs.Sections.{header_end, longest_file}
+use Rattle.cy_cut.specs.Cutting.{IsCut, CutAnswer}
 use Rattle.cy_reader.specs.private.Front.{IsFront, FrontAnswer, cut_record}
 use Rattle.cy_reader.proofs.Fronts.{front_header, front_head, cut_is}
-use Rattle.cy_reader.proofs.Refusals.{err_is, no_err}
+use Rattle.cy_cut.proofs.Outcomes.{err_is, no_err, same_counts}
 use Rattle.cy_reader.proofs.Told.{cut_named}
 
 header_refused : (name file : List ℕ) (e : LoadError) → file_header file ≡ Err e → record_of name file ≡ Err e
 unfolding record_of parts_of
 header_refused name file e refused = rw refused refl
-
-pub same_counts : (old mid new : StoreView) → SameCounts old mid → SameCounts mid new → SameCounts old new
-same_counts old mid new a b = record { faults = b.faults ∙ a.faults; misses = b.misses ∙ a.misses }
 
 -- what is read of a file of a size, from its first bytes
 pub front_answered : (old mid new : StoreView) (name : List ℕ) (size k : ℕ) (bytes slice : List ℕ) (result : Result Front LoadError) → Holds old.files name (λ file. size ≡ length file) → size ≤ longest_file

@@ -10,15 +10,14 @@ use Rattle.byteorder.specs.Numbers.{little_from-take}
 use Rattle.cy_section.specs.declared.types.Header.{Header}
 use Rattle.cy_reader.specs.declared.error.LoadError.{LoadError}
 use Rattle.cy_reader.specs.declared.front.Front.{Front}
-use Rattle.cy_reader.specs.declared.cutting.CutFile.{CutFile}
-use Rattle.cy_reader.specs.declared.heads.KeptIndex.{KeptIndex}
-use Rattle.cy_reader.specs.declared.heads.PlacedHead.{PlacedHead}
-use Rattle.cy_reader.specs.Sections.{WholeSection, Sections, sections_from}
-use Rattle.cy_reader.specs.Heads.{header_head, section_head, index_head, index_of, heads_of}
-use Rattle.cy_reader.specs.Record.{◌>>=◌, fault_of, Met, Contents, Source, shown, source_of, nothing, header_end, longest_file, file_header, sized_header, sections_met, parts_of, record_of}
+use Rattle.cy_cut.specs.declared.cutting.CutFile.{CutFile}
+use Rattle.cy_cut.specs.declared.heads.KeptIndex.{KeptIndex}
+use Rattle.cy_cut.specs.declared.heads.PlacedHead.{PlacedHead}
+use Rattle.cy_cut.specs.Sections.{WholeSection, Sections, sections_from, header_end, longest_file}
+use Rattle.cy_cut.specs.Heads.{header_head, section_head, index_head, index_of, heads_of, seen_index}
+use Rattle.cy_reader.specs.Record.{◌>>=◌, fault_of, Met, Contents, Source, shown, source_of, nothing, file_header, sized_header, sections_met, parts_of, record_of}
 use Rattle.cy_reader.specs.private.Front.{IsFront, index_in, cut_source, cut_record}
-use Rattle.cy_reader.specs.private.Cutting.{IsCut, AreKept, fault_in, seen_part}
-use Rattle.cy_reader.specs.private.Kept.{seen_index}
+use Rattle.cy_cut.specs.Cutting.{IsCut, AreKept, fault_in, seen_part}
 use Rattle.cy_reader.proofs.Bodies.{nothing_comes, before_fault, then_fault}
 use Rattle.cy_reader.proofs.Quiet.{kept_met}
 

@@ -1,9 +1,7 @@
 -- No more messages are met than bytes are read.
-use Rattle.std.proofs.Common.{◌≡◌, ◌≤◌, ◌+◌, ℕ, zero, suc, List, [], ◌∷◌, ◌++◌, length, take, drop, refl, ap, ◌∙◌, arith, length-append, Option, Some, None, Result, Ok, Err, Bool, true, false, if◌then◌else◌, nat_lt}
-use Rattle.std.specs.Prelude.{IfSome}
+use Rattle.std.proofs.Common.{◌≡◌, ◌≤◌, ◌+◌, ℕ, zero, suc, List, [], ◌∷◌, ◌++◌, length, drop, refl, ap, arith, length-append, Option, Some, None, Result, Ok, Err, Bool, true, false, if◌then◌else◌, nat_lt}
 use Rattle.std.specs.List.{cons_option}
 use Rattle.std.proofs.lemmas.List.{length-map}
-use Rattle.std.proofs.lemmas.List.Sums.{sum_by-append, sum_by-cons, sum_by-take-le}
 use Rattle.cy_wire.specs.declared.error.WireError.{WireError}
 use Rattle.cy_wire.specs.Field.{WireField, field_at, fields_in, fields_of, and_those_behind}
 use Rattle.cy_wire.specs.Message.{WireSpan, span_in, spans_of}
@@ -13,7 +11,7 @@ use Rattle.cy_section.specs.declared.types.SectionKind.{SectionKind}
 use Rattle.cy_section.specs.declared.types.SectionKind.TheVariants as kind
 use Rattle.cy_section.specs.Reading as section
 use Rattle.cy_section.specs.Reading.{PlacedMessage, message_at, messages_in, messages_of, channel_at, chunk_header_at}
-use Rattle.cy_reader.specs.declared.cutting.Part.{Part}
+use Rattle.cy_cut.specs.declared.cutting.Part.{Part}
 use Rattle.cy_reader.specs.declared.decoding.Alone.{Alone}
 use Rattle.cy_reader.specs.declared.error.LoadError.{LoadError}
 use Rattle.cy_reader.specs.declared.error.LoadError.TheVariants.{ContentTooLarge}
@@ -21,9 +19,8 @@ use Rattle.cy_reader.specs.declared.known.Known.{Known}
 use Rattle.cy_reader.specs.declared.loading.Loading.{Loading}
 use Rattle.cy_reader.specs.Record as meaning
 use Rattle.cy_reader.specs.Record.{◌>>=◌, Met, of_section, name_mentioned, channel_given, channel_met, content_fits, numbered, message_met, messages_met, body_met, section_of, section_met, longest_content, nothing}
-use Rattle.cy_reader.specs.Sections.{WholeSection}
+use Rattle.cy_cut.specs.Sections.{WholeSection}
 use Rattle.cy_reader.specs.private.Alone.{IsAlone}
-use Rattle.cy_reader.specs.private.Cutting.{bytes_of, listed}
 use Rattle.cy_reader.specs.private.Loading.{message_of, met_of}
 
 -- bytes have no more fields, nor a body more messages
@@ -136,17 +133,3 @@ alone_few p a is =
 pub kept_more : (front : List PlacedMessage) (bodies : List (List ℕ)) (old now : Loading) → messages_met front (met_of bodies old) ≡ Ok (met_of bodies now) → length now.messages.items ≡ length old.messages.items + length front
 kept_more front bodies old now is =
     omega (arith, messages_grown front (met_of bodies old) (met_of bodies now) is, length-map old.messages.items (message_of bodies), length-map now.messages.items (message_of bodies))
-
--- the bytes of sections
-pub bytes_one : (p : Part) (left rest : List Part) → left ≡ p ∷ rest → bytes_of left ≡ 16 + length p.body + bytes_of rest
-bytes_one p left rest is = ap bytes_of is ∙ sum_by-cons (λ (p : Part). 16 + length p.body) p rest
-
-pub bytes_both : (group behind all : List Part) → all ≡ group ++ behind → bytes_of all ≡ bytes_of group + bytes_of behind
-bytes_both group behind all is = ap bytes_of is ∙ sum_by-append (λ (p : Part). 16 + length p.body) group behind
-
-pub bytes_listed : (parts : List Part) (part : Option Part) (size : ℕ) → IfSome part (λ p. length p.body ≤ size) → bytes_of (parts ++ listed part) ≤ bytes_of parts + 16 + size
-bytes_listed parts None size few = omega (arith, bytes_both parts [] (parts ++ []) refl)
-bytes_listed parts (Some p) size few = omega (arith, bytes_both parts (p ∷ []) (parts ++ p ∷ []) refl, bytes_one p (p ∷ []) [] refl, few)
-
-pub bytes_front : (parts front : List Part) (n : ℕ) → front ≡ take n parts → bytes_of front ≤ bytes_of parts
-bytes_front parts front n is = omega (arith, ap bytes_of is, sum_by-take-le (λ (p : Part). 16 + length p.body) parts n)

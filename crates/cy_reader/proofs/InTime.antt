@@ -1,5 +1,5 @@
 -- Messages that are put in the order of their times.
-use Rattle.std.proofs.Common.{◌≡◌, ◌<◌, ◌≤◌, ◌+◌, ◌^◌, ℕ, zero, suc, List, [], ◌∷◌, length, get_or, refl, sym, ap, subst, ◌∙◌, arith, Bool, true, false, All, cond}
+use Rattle.std.proofs.Common.{◌≡◌, ◌<◌, ◌≤◌, ◌+◌, ℕ, List, [], ◌∷◌, length, refl, sym, ap, subst, ◌∙◌, arith, Bool, true, false, All}
 use Rattle.std.specs.Prelude.{map, filter, slice_index_or}
 use Rattle.std.specs.List.Sorted.{IsPermutation, IsSortedByKey, IsStableByKey, ties}
 use Rattle.std.specs.Ordering.{nat_cmp, is_lt}
@@ -7,7 +7,7 @@ use Rattle.std.proofs.lemmas.List.{length-map, get_or-map}
 use Rattle.std.proofs.lemmas.List.Sorted.{All-permutation, IsPermutation-map, length_permutation}
 use Rattle.cy_reader.specs.declared.loading.Loading.{Loading}
 use Rattle.cy_reader.specs.declared.loading.Message.{Message}
-use Rattle.cy_reader.specs.Joined.{IsInTime}
+use Rattle.cy_reader.specs.United.{IsInTime}
 use Rattle.cy_reader.specs.Record as meaning
 use Rattle.cy_reader.specs.private.Loading.{AreSmall, IsSound, IsTied, message_of}
 use Rattle.cy_reader.specs.declared.channels.Channels.{Channels}

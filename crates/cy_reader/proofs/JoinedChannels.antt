@@ -1,7 +1,6 @@
 -- The channels of a later record joined to those that are kept.
-use Rattle.std.proofs.Common.{◌≡◌, ◌<◌, ◌≤◌, ◌+◌, ◌^◌, ℕ, zero, suc, List, [], ◌∷◌, ◌++◌, length, set, get_or, refl, sym, ap, subst, ◌∙◌, arith, Bool, true, false, Option, Some, None, Result, Ok, Err, inl, inr, All, length-append, length-set, slice_get}
-use Rattle.std.specs.Prelude.{sum_by, slice_index, slice_index_or, nat_lt, not, ◌||◌, ◌==◌, cond}
-use Rattle.std.specs.List.{find, position}
+use Rattle.std.proofs.Common.{◌≡◌, ◌<◌, ◌≤◌, ◌+◌, ◌^◌, ℕ, List, [], ◌∷◌, ◌++◌, length, set, get_or, refl, sym, ap, subst, ◌∙◌, arith, Option, Some, None, Result, Ok, Err, inl, inr, length-append}
+use Rattle.std.specs.Prelude.{sum_by, slice_index}
 use Rattle.std.specs.Str.{bytes_eq}
 use Rattle.std.proofs.lemmas.Bool.{le-ltb, cases_lt}
 use Rattle.std.proofs.lemmas.List.{get_or_read, set-get_or}
@@ -9,10 +8,9 @@ use Rattle.std.proofs.lemmas.List.Quantifiers.{position-Some}
 use Rattle.std.proofs.lemmas.Option.{slice_get-get_or}
 use Rattle.std.proofs.lemmas.Slice.Eq.{bytes_eq-Decides}
 use Rattle.cy_msg.specs.Once.{IsOnce}
-use Rattle.cy_section.specs.declared.types.Channel.{Channel}
 use Rattle.cy_reader.specs.declared.error.LoadError.{LoadError}
 use Rattle.cy_reader.specs.declared.known.Known.{Known}
-use Rattle.cy_reader.specs.Joined.{channel_joined, channels_joined, first_of, joined_at, known_in, united}
+use Rattle.cy_reader.specs.United.{channel_joined, channels_joined, first_of, joined_at, known_in, united}
 use Rattle.cy_reader.specs.Record.{◌>>=◌, size_of, number_of, named_only, within_limits, most_channels, largest_channels}
 use Rattle.cy_reader.specs.Said.{names_of}
 use Rattle.cy_reader.specs.private.Alone.{name_in}

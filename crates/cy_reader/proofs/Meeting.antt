@@ -1,12 +1,12 @@
 -- Messages and sections that are met one after another.
-use Rattle.std.proofs.Common.{◌≡◌, ◌<◌, ◌+◌, ℕ, zero, suc, List, [], ◌∷◌, ◌++◌, length, refl, sym, ap, subst, ◌∙◌, append_assoc, append-nil, inl, inr, Option, Some, None, Result, Ok, Err, arith}
+use Rattle.std.proofs.Common.{◌≡◌, ◌+◌, ℕ, suc, List, [], ◌∷◌, ◌++◌, length, refl, sym, ap, subst, ◌∙◌, append_assoc, append-nil, inl, inr, Option, Some, None, Result, Ok, Err}
 use Rattle.cy_section.specs.declared.error.SectionError.{SectionError}
 use Rattle.cy_section.specs.declared.types.Channel.{Channel}
 use Rattle.cy_section.specs.declared.types.SectionKind.TheVariants as kind
 use Rattle.cy_section.specs.Reading.{PlacedMessage, Messages, with_message, channel_at}
 use Rattle.cy_reader.specs.declared.known.Known.{Known}
 use Rattle.cy_reader.specs.declared.error.LoadError.{LoadError}
-use Rattle.cy_reader.specs.Sections.{WholeSection, Sections, section_at, sections_in, and_those_behind}
+use Rattle.cy_cut.specs.Sections.{WholeSection, Sections, section_at, sections_in, and_those_behind}
 use Rattle.cy_reader.specs.Record.{◌>>=◌, fault_of, Met, channel_given, channel_met, message_met, messages_met, body_met, section_met, sections_met}
 use Rattle.cy_reader.specs.private.Loading.{Leads, unless_ended}
 
@@ -77,10 +77,6 @@ pub sections_fault : (file : List ℕ) (more at : ℕ) (now : Met) (fault : Sect
 unfolding sections_in
 sections_fault file more at now fault whole found so_far =
     sym so_far ∙ ap (λ (r : Result (Option WholeSection) SectionError). finish now (and_those_behind r (λ next. sections_in more file next))) found
-
-pub one_less : (more : ℕ) → 0 < more → (m : ℕ) × (more ≡ suc m)
-one_less zero some = absurd (omega arith)
-one_less (suc m) some = (m, refl)
 
 -- the section of a channel
 pub channel_section : (s : WholeSection) (c : Channel) (contents : Met) → s.kind ≡ kind.Channel → channel_at s.body_at s.body ≡ Ok c → section_met s contents ≡ channel_met c contents

@@ -1,9 +1,10 @@
 -- What a file holds that is refused.
-use Rattle.std.proofs.Common.{◌≡◌, ◌<◌, ℕ, List, length, Option, Err, Result, Ok, arith, lt-ltb, refl}
+use Rattle.std.proofs.Common.{◌≡◌, ◌<◌, ℕ, List, length, Option, Err, arith, lt-ltb, refl}
 use Rattle.cy_store.specs.Files.{Files, Holds}
 use Rattle.cy_store.proofs.Pieces.{held_by}
 use Rattle.cy_reader.specs.declared.error.LoadError.TheVariants.{FileTooLarge}
-use Rattle.cy_reader.specs.Record.{record_of, parts_of, file_header, longest_file}
+use Rattle.cy_reader.specs.Record.{record_of, parts_of, file_header}
+use Rattle.cy_cut.specs.Sections.{longest_file}
 
 large_file : (count : ℕ) (name file : List ℕ) → longest_file < count → count ≡ length file → record_of name file ≡ Err (FileTooLarge count)
 unfolding record_of parts_of file_header
@@ -13,9 +14,3 @@ large_file count name file large e =
 
 pub too_large : (files : Option Files) (name : List ℕ) (count : ℕ) → longest_file < count → Holds files name (λ bytes. count ≡ length bytes) → Holds files name (λ file. record_of name file ≡ Err (FileTooLarge count))
 too_large files name count large held = held_by files name (λ file e. large_file count name file large e) held
-
-pub err_is : {T E : Type 0} (a b : E) → (let r : Result T E = Err a in r ≡ Err b) → a ≡ b
-err_is a b e = cc
-
-pub no_err : {T E : Type 0} (x : T) (b : E) → (let r : Result T E = Ok x in r ≡ Err b) → ⊥
-no_err x b e = cc

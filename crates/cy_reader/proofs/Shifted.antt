@@ -1,11 +1,9 @@
 -- The messages of a later record, behind those that are kept.
-use Rattle.std.proofs.Common.{◌≡◌, ◌<◌, ◌≤◌, ◌+◌, ◌^◌, ℕ, zero, suc, List, [], ◌∷◌, ◌++◌, length, length-append, refl, sym, ap, subst, ◌∙◌, All, arith, Result, Ok, Err, Some, inl, inr, slice_get, take, drop, set, get_or}
+use Rattle.std.proofs.Common.{◌≡◌, ◌<◌, ◌+◌, ◌^◌, ℕ, zero, suc, List, [], ◌∷◌, ◌++◌, length, length-append, refl, sym, ap, subst, ◌∙◌, All, arith, Result, Ok, Err, Some, inl, inr, slice_get, take, drop, set, get_or}
 use Rattle.std.specs.Prelude.{map, slice_index_or, OnOk, IsOkUnless, ◌⊎◌}
 use Rattle.std.proofs.lemmas.List.{length-map}
 use Rattle.std.proofs.lemmas.List.Elements.{All-append, All-cons, All-nil}
 use Rattle.std.proofs.lemmas.Option.{none-some, same_Some}
-use Rattle.cy_msg.specs.Once.{IsOnce}
-use Rattle.cy_reader.specs.Said.{StandOnChannels, names_of}
 use Rattle.cy_reader.specs.declared.error.LoadError.{LoadError}
 use Rattle.cy_reader.specs.declared.error.LoadError.TheVariants.{Memory}
 use Rattle.cy_reader.specs.declared.known.Known.{Known}
@@ -13,13 +11,11 @@ use Rattle.cy_reader.specs.declared.loading.Loading.{Loading}
 use Rattle.cy_reader.specs.declared.loading.Message.{Message}
 use Rattle.cy_reader.specs.Record as meaning
 use Rattle.cy_reader.specs.Record.{◌>>=◌, Met, number_of}
-use Rattle.cy_reader.specs.Joined.{channels_joined, met_joined, on_united}
+use Rattle.cy_reader.specs.United.{channels_joined, met_joined, on_united}
 use Rattle.cy_reader.specs.private.Alone.{AreNumbers}
 use Rattle.cy_reader.specs.private.Loading.{Grows, IsSound, Leads, message_of, met_of}
 use Rattle.cy_reader.specs.private.Uniting.{shifted}
-use Rattle.cy_reader.proofs.JoinedChannels.{joined_once}
 use Rattle.cy_reader.proofs.Moved.{map-joined}
-use Rattle.cy_reader.proofs.Told.{bind_ok}
 
 -- ---- one more message is shifted in its place
 
@@ -131,23 +127,9 @@ pub shifted_sound : (r : Result (Unit {0}) LoadError) (bodies more : ℕ) (later
 shifted_sound (Ok x) bodies more later old new numbers sound sound_later grows are is room = sound_joined bodies more later old new numbers sound sound_later grows are is room
 shifted_sound (Err e) bodies more later old new numbers sound sound_later grows are is room = tt
 
--- ---- no name stands twice, and each message stands on a channel
+-- ---- each message is on a channel
 
-pub still_once : (behind before : List (List ℕ)) (later old new : Loading) → met_joined (met_of behind later) (met_of before old) ≡ Ok (met_of (before ++ behind) new) → IsOnce (names_of old.channels.list.items) → IsOnce (names_of new.channels.list.items)
-still_once behind before later old new joined once =
-    let b = bind_ok (channels_joined later.channels.list.items old.channels.list.items) (finish later.channels.list.items (met_of behind later).messages (met_of before old).messages) (met_of (before ++ behind) new) joined in
-    subst (λ (l : List Known). IsOnce (names_of l)) (channels_are b.0 b.1.1) (joined_once later.channels.list.items old.channels.list.items b.0 b.1.0 once)
-  where
-    ok_met : (a b : Met) → (let r : Result Met LoadError = Ok a in r ≡ Ok b) → a ≡ b
-    ok_met a b e = cc
-
-    channels_are : (channels : List Known) → finish later.channels.list.items (met_of behind later).messages (met_of before old).messages channels ≡ Ok (met_of (before ++ behind) new) → channels ≡ new.channels.list.items
-    channels_are channels e = ap (λ (m : Met). m.channels) (ok_met (record { channels = channels; messages = (met_of before old).messages ++ map (on_united later.channels.list.items channels) (met_of behind later).messages }) (met_of (before ++ behind) new) e)
-
-on_all : (k : ℕ) (bodies : List (List ℕ)) (ms : List Message) → All (λ m. m.channel < k) ms → (n : ℕ) (x : meaning.Message) → slice_get (map (message_of bodies) ms) n ≡ Some x → x.channel < k
+pub on_all : (k : ℕ) (bodies : List (List ℕ)) (ms : List Message) → All (λ m. m.channel < k) ms → (n : ℕ) (x : meaning.Message) → slice_get (map (message_of bodies) ms) n ≡ Some x → x.channel < k
 on_all k bodies [] all n x there = absurd (none-some x there)
 on_all k bodies (m ∷ ms) all zero x there = subst (λ (y : meaning.Message). y.channel < k) (same_Some (message_of bodies m) x there) (all 0 m (omega arith))
 on_all k bodies (m ∷ ms) all (suc n) x there = on_all k bodies ms (λ i d few. all (suc i) d (omega (arith, few))) n x there
-
-pub stand : (n : ℕ) (bodies : List (List ℕ)) (l : Loading) → IsSound n l → IsOnce (names_of l.channels.list.items) → StandOnChannels l.channels.list.items (map (message_of bodies) l.messages.items)
-stand n bodies l sound once = record { once = once; on_channels = on_all (length l.channels.list.items) bodies l.messages.items sound.numbered }

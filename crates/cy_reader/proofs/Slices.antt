@@ -18,7 +18,8 @@ use Rattle.cy_section.specs.declared.error.SectionError.TheVariants.{NameNotText
 use Rattle.cy_section.specs.declared.types.Channel.{Channel}
 use Rattle.cy_section.specs.Reading as section
 use Rattle.cy_section.specs.Reading.{PlacedMessage, Messages, unless_cut_off, text_of, message_in, message_at, messages_in, messages_of, channel_in, channel_at}
-use Rattle.cy_reader.specs.Stands.{Stands, IsWithin}
+use Rattle.cy_cut.specs.Stands.{Stands}
+use Rattle.cy_reader.specs.private.Loading.{IsWithin}
 
 guard_ok : {A : Type 0} (b : Bool) (d : WireError) (y x : A) → (if b then Err d else Ok y) ≡ Ok x → y ≡ x
 guard_ok true d y x e = absurd cc

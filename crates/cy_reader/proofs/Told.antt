@@ -20,22 +20,20 @@ use Rattle.cy_section.specs.Reading.{PlacedMessage, chunk_header_at, channel_at,
 use Rattle.cy_reader.specs.declared.error.LoadError.{LoadError}
 use Rattle.cy_reader.specs.declared.error.LoadError.TheVariants.{NameTooLong, ContentTooLarge, TooManyChannels, ChannelsTooLarge}
 use Rattle.cy_reader.specs.declared.known.Known.{Known}
-use Rattle.cy_reader.specs.Sections.{WholeSection, sections_from}
-use Rattle.cy_reader.specs.Record.{◌>>=◌, Met, Message, Contents, shown, source_of, file_header, header_end, parts_of, record_of, fault_of, of_section, size_of, number_of, within_limits, named_only, with_section, name_fits, mentioned, given_at, given, channel_given, name_mentioned, channel_met, content_fits, numbered, message_met, messages_met, body_met, section_of, section_met, sections_met, nothing, most_channels, largest_channels, longest_name, longest_content}
+use Rattle.cy_cut.specs.Sections.{WholeSection, sections_from, header_end}
+use Rattle.cy_reader.specs.Record.{◌>>=◌, Met, Message, Contents, shown, source_of, file_header, parts_of, record_of, fault_of, of_section, size_of, number_of, within_limits, named_only, with_section, name_fits, mentioned, given_at, given, channel_given, name_mentioned, channel_met, content_fits, numbered, message_met, messages_met, body_met, section_of, section_met, sections_met, nothing, most_channels, largest_channels, longest_name, longest_content}
 use Rattle.cy_reader.specs.Named.{name_in, with_name, named_messages}
-use Rattle.cy_reader.specs.declared.cutting.CutFile.{CutFile}
+use Rattle.cy_cut.specs.declared.cutting.CutFile.{CutFile}
 use Rattle.cy_reader.specs.declared.front.Front.{Front}
-use Rattle.cy_reader.specs.private.Cutting.{seen_part, fault_in}
+use Rattle.cy_cut.specs.Cutting.{seen_part, fault_in}
 use Rattle.cy_reader.specs.private.Front.{cut_record, cut_source}
-use Rattle.cy_reader.specs.private.Salvaging.{place_before, cut_salvage}
-use Rattle.cy_reader.specs.Salvage.{Salvage, until_fault, dropped_at}
 use Rattle.cy_reader.specs.Said.{messages_under, section_messages, names_of, StandOnChannels, IsSaid}
 use Rattle.cy_reader.proofs.Bodies.{then_fault, before_fault}
 use Rattle.cy_reader.proofs.Sums.{position-added}
 
 -- ---- answers
 
-ok_is : {A : Type 0} (x y : A) → (let r : Result A LoadError = Ok x in r ≡ Ok y) → x ≡ y
+pub ok_is : {A : Type 0} (x y : A) → (let r : Result A LoadError = Ok x in r ≡ Ok y) → x ≡ y
 ok_is x y h = cc
 
 not_ok : {A : Type 0} (e : LoadError) (y : A) → (let r : Result A LoadError = Err e in r ≡ Ok y) → ⊥
@@ -348,7 +346,7 @@ below_at n [] all i m there = absurd (none-some m there)
 below_at n (x ∷ ms) all zero m there = subst (λ (y : Message). y.channel < n) (same_Some x m there) all.0
 below_at n (x ∷ ms) all (suc i) m there = below_at n ms all.1 i m there
 
-met_named : (ss : List WholeSection) (fault : Option SectionError) (met : Met) → sections_met ss fault nothing ≡ Ok met → StandOnChannels met.channels met.messages
+pub met_named : (ss : List WholeSection) (fault : Option SectionError) (met : Met) → sections_met ss fault nothing ≡ Ok met → StandOnChannels met.channels met.messages
 met_named ss fault met h =
     let all = all_sections ss nothing met (no_fault ss fault met h) (record { once = λ m n x there other. absurd (none-some x there); below = tt }) in
     record { once = all.fine.once; on_channels = below_at (length met.channels) met.messages all.fine.below }
@@ -379,11 +377,3 @@ cut_named name f c r h =
     let made : Met → Contents = shown (cut_source name f c) in
     let a = bind_ok (sections_met (map seen_part c.parts.items) (fault_in c.end) nothing) (λ met. Ok (made met)) r h in
     subst (λ (d : Contents). StandOnChannels d.channels d.messages) (ok_is (made a.0) r a.1.1) (met_named (map seen_part c.parts.items) (fault_in c.end) a.0 a.1.0)
-
-pub salvage_named : (size : ℕ) (c : CutFile) (s : Salvage) → cut_salvage size c ≡ Ok s → StandOnChannels s.met.channels s.met.messages
-unfolding cut_salvage
-salvage_named size c s h =
-    let sound = until_fault (map seen_part c.parts.items) (fault_in c.end) in
-    let made : Met → Salvage = λ met. record { met = met; dropped = dropped_at size (place_before c.ends_at (slice_get c.parts.items (length sound.sections))) sound.fault } in
-    let a = bind_ok (sections_met sound.sections None nothing) (λ met. Ok (made met)) s h in
-    subst (λ (d : Salvage). StandOnChannels d.met.channels d.met.messages) (ok_is (made a.0) s a.1.1) (met_named sound.sections None a.0 a.1.0)

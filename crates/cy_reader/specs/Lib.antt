@@ -1,14 +1,7 @@
 pub mod private
 pub mod FaultText
-pub mod Heads
-pub mod Info
-pub mod Joined
 pub mod Load
 pub mod Named
-pub mod Play
 pub mod Record
 pub mod Said
-pub mod Salvage
-pub mod Sections
-pub mod Stands
-pub mod Tiling
+pub mod United

@@ -5,7 +5,7 @@ use Rattle.std.specs.Str.{bytes_eq}
 use Rattle.cy_section.specs.declared.types.BodyMessage.{BodyMessage}
 use Rattle.cy_section.specs.declared.types.Channel.{Channel}
 use Rattle.cy_reader.specs.declared.known.Known.{Known}
-use Rattle.cy_reader.specs.Record.{Met, Message, named_only}
+use Rattle.cy_reader.specs.Record.{Met, Message, Contents, named_only}
 
 -- A channel of a name, type and description.
 abbrev pub channel_made : (name message_type proto_desc : List ℕ) → Channel
@@ -32,3 +32,8 @@ with_name channels m =
 -- The messages that were met, in file order, each with the name of its channel.
 abbrev pub named_messages : Met → List BodyMessage
 named_messages met = map (with_name met.channels) met.messages
+
+-- The message at a place among those of a record.
+abbrev pub message_at : Contents → ℕ → Message
+message_at whole place = slice_index_or whole.messages place
+    (record { channel = 0; time = 0; content = [] })

@@ -1,5 +1,5 @@
 -- What a record's file holds: its channels and messages, or the first fault or passed limit.
-use Rattle.std.specs.Prelude.{ℕ, ◌+◌, nat_lt, ◌==◌, not, ◌||◌, true, false, if◌then◌else◌}
+use Rattle.std.specs.Prelude.{ℕ, ◌≤◌, ◌+◌, nat_lt, ◌==◌, not, ◌||◌, true, false, if◌then◌else◌}
 use Rattle.std.specs.Prelude.{List, [], ◌∷◌, ◌++◌, length, take, drop, set, sum_by, slice_get}
 use Rattle.std.specs.Prelude.{Option, Some, None, unwrap_or, Result, Ok, Err}
 use Rattle.std.specs.List.{position}
@@ -23,15 +23,12 @@ use Rattle.cy_reader.specs.declared.error.LoadError.TheVariants.{FileTooLarge, C
 use Rattle.cy_reader.specs.declared.error.LoadError.TheVariants.{NameTooLong, ChannelsTooLarge}
 use Rattle.cy_reader.specs.declared.error.LoadError.TheVariants.{TooManyChannels, Store, Memory}
 use Rattle.cy_reader.specs.declared.known.Known.{Known}
-use Rattle.cy_reader.specs.declared.heads.PlacedHead.{PlacedHead}
-use Rattle.cy_reader.specs.Sections.{WholeSection, sections_from}
-use Rattle.cy_reader.specs.Heads.{PlacedIndex, heads_of, index_of}
+use Rattle.cy_cut.specs.declared.heads.PlacedHead.{PlacedHead}
+use Rattle.cy_cut.specs.Sections.{WholeSection, sections_from, header_end, longest_file}
+use Rattle.cy_cut.specs.Heads.{PlacedIndex, heads_of, index_of}
 
--- The limits: of the file, of a message's content, of a channel's name, of all names, types and
--- descriptions together, in bytes; and of the number of channels.
-abbrev pub longest_file : ℕ
-longest_file = 2147483648
-
+-- The limits: of a message's content, of a channel's name, of all names, types and descriptions
+-- together, in bytes; and of the number of channels.
 abbrev pub longest_content : ℕ
 longest_content = 268435456
 
@@ -189,10 +186,7 @@ sections_met [] None contents = Ok contents
 sections_met [] (Some fault) contents = Err (fault_of fault)
 sections_met (s ∷ rest) fault contents = section_met s contents >>= sections_met rest fault
 
--- The file's header. Its section has 2064 bytes, of which its fields take as many as its head says.
-abbrev pub header_end : ℕ
-header_end = 2064
-
+-- The file's header. Its fields take as many bytes of its section as its head says.
 abbrev pub uncompressed : Header → Result Header LoadError
 uncompressed header = if header.compress == 0 then Ok header else Err (Compressed header.compress)
 
@@ -211,6 +205,11 @@ file_header file =
     if nat_lt longest_file (length file) then Err (FileTooLarge (length file))
     else (if nat_lt (length file) 16 || not (little_number 4 file == 0) then Err NotRecord
     else sized_header file (little_number 8 (drop 8 file)))
+
+-- A file that has all bytes of a header's section, and is not too long.
+pub record HasLength (file : List ℕ) : Type 0 where
+  pub long : header_end ≤ length file
+  pub short : length file ≤ longest_file
 
 abbrev pub nothing : Met
 nothing = record { channels = []; messages = [] }

@@ -8,7 +8,7 @@ use Rattle.cy_section.specs.declared.types.SectionKind.TheVariants as kind
 use Rattle.cy_section.specs.declared.types.BodyMessage.{BodyMessage}
 use Rattle.cy_section.specs.Reading.{messages_of}
 use Rattle.cy_reader.specs.declared.known.Known.{Known}
-use Rattle.cy_reader.specs.Sections.{WholeSection}
+use Rattle.cy_cut.specs.Sections.{WholeSection}
 use Rattle.cy_reader.specs.Record.{Met, Message, Contents, nothing, sections_met, record_of}
 use Rattle.cy_reader.specs.Named.{named_messages}
 

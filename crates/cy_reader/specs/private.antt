@@ -1,11 +1,5 @@
 pub mod Alone
 pub mod Kept
-pub mod Facts
-pub mod Cutting
-pub mod Found
 pub mod Front
 pub mod Loading
 pub mod Uniting
-pub mod Uses
-pub mod Window
-pub mod Salvaging

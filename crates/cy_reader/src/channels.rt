@@ -68,8 +68,8 @@ fn size_of(known: &Known) -> u64
     name + message_type + proto_desc
 }
 
-// The number of a channel's name, by a look at each channel.
-pub(crate) fn place_of(channels: &[Known], name: &str) -> Option<usize>
+/// The number of a channel's name among others, by a look at each channel.
+pub fn place_of(channels: &[Known], name: &str) -> Option<usize>
     ensures { result ≡ number_of name.now channels.now }
 {
     channels

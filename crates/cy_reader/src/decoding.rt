@@ -1,14 +1,14 @@
 // Decodes the bodies of chunks side by side, each by itself.
 ghost use Rattle.std.specs.Prelude.{◌≡◌, ◌≤◌, ◌+◌, All, length, IfOk, IfSome};
-ghost use Rattle.cy_reader.specs.Record.{longest_file};
+ghost use Rattle.cy_cut.specs.Sections.{longest_file};
 ghost use Rattle.cy_reader.specs.private.Alone.{IsAlone, AreDecoded};
 
 use crate::LoadError;
 use crate::channels::Channels;
-use crate::cutting::Part;
 use crate::gathering::chunk_met;
 use crate::known::Known;
 use crate::loading::{Loading, Message};
+use cy_cut::Part;
 use cy_section::SectionKind;
 use rayon::prelude::*;
 use std::alloc::{AllocError, Global};
@@ -80,8 +80,8 @@ pub(crate) fn bytes_in(parts: &[Part]) -> usize {
     })
 }
 
-// How few sections a thread takes: with few bytes in all, one thread takes all.
-pub(crate) fn least_piece(parts: &[Part]) -> usize {
+/// How few sections a thread should take: with few bytes in all, one thread takes all.
+pub fn least_piece(parts: &[Part]) -> usize {
     if bytes_in(parts) < WORTH_THREADS {
         usize::MAX
     } else {

@@ -1,13 +1,14 @@
 // Reads the front of a record's file: how many bytes it has, and its header.
 ghost use Rattle.std.specs.Prelude.{◌≡◌, ◌≢◌, ◌≤◌, length, IfOk, IfErr};
 ghost use Rattle.cy_msg.specs.Answer.{Answers};
-ghost use Rattle.cy_reader.specs.Heads.{header_head};
-ghost use Rattle.cy_reader.specs.Record.{file_header, header_end};
+ghost use Rattle.cy_cut.specs.Heads.{header_head};
+ghost use Rattle.cy_reader.specs.Record.{file_header};
+ghost use Rattle.cy_cut.specs.Sections.{header_end};
 ghost use Rattle.cy_reader.specs.private.Front.{FrontAnswer};
 
 use crate::LoadError;
 use crate::header::{LONGEST_FILE, file_header};
-use crate::heads::{PlacedHead, header_head};
+use cy_cut::{PlacedHead, header_head};
 use cy_section::{HEADER_SIZE, Header};
 use cy_store::{Store, read_range};
 use std::alloc::Global;

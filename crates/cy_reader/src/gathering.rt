@@ -1,23 +1,22 @@
 // Keeps the chunks' bodies, the channels and the messages of sections that were read.
-ghost use Rattle.std.specs.Prelude.{◌≡◌, ◌≢◌, ◌≤◌, ◌+◌, ◌++◌, ◌∷◌, [], All, length, map};
-ghost use Rattle.std.specs.Prelude.{IfOk, IfErr, IfSome, OnOk, IsOkUnless, None};
+ghost use Rattle.std.specs.Prelude.{◌≡◌, ◌≢◌, ◌≤◌, ◌+◌, ◌++◌, ◌∷◌, [], All, length, map, IfOk};
+ghost use Rattle.std.specs.Prelude.{IfErr, IfSome, OnOk, None};
 ghost use Rattle.std.specs.Vec.Iter.{into_iter_items};
 ghost use Rattle.cy_msg.specs.Answer.{AnswersOr};
 ghost use Rattle.cy_wire.specs.Field.{fields_of};
 ghost use Rattle.cy_section.specs.Reading.{messages_of};
 ghost use Rattle.cy_reader.specs.Record.{body_met, section_met, sections_met, nothing};
-ghost use Rattle.cy_reader.specs.Record.{longest_file};
+ghost use Rattle.cy_cut.specs.Sections.{longest_file};
 ghost use Rattle.cy_reader.specs.private.Alone.{IsAlone, AreDecoded};
-ghost use Rattle.cy_reader.specs.private.Cutting.{bytes_of, seen_part};
-ghost use Rattle.cy_reader.specs.private.Found.{seen_section};
+ghost use Rattle.cy_cut.specs.Cutting.{bytes_of, seen_part};
+ghost use Rattle.cy_cut.specs.Found.{seen_section};
 ghost use Rattle.cy_reader.specs.private.Loading.{HasRoom, GrowsBy, IsSound, Leads, met_of};
 
 use crate::LoadError;
-use crate::cutting::Part;
 use crate::decoding::{Alone, bytes_in, decode};
 use crate::joining::alone_met;
 use crate::loading::{Body, Loading, Message, body_met, plain_met};
-use crate::sections::SectionView;
+use cy_cut::{Part, SectionView};
 use cy_msg::Bytes;
 use cy_section::SectionKind;
 use std::alloc::{AllocError, Global};

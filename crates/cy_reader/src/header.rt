@@ -1,15 +1,15 @@
 // Reads the header of a record's file.
 ghost use Rattle.std.specs.Prelude.{◌≤◌, ◌+◌, length, IfOk, IfErr, ◌≢◌};
 ghost use Rattle.cy_msg.specs.Answer.{Answers};
-ghost use Rattle.cy_reader.specs.private.Kept.{HasLength};
-ghost use Rattle.cy_reader.specs.Record.{fields_header, sized_header, file_header, header_end};
+ghost use Rattle.cy_reader.specs.Record.{HasLength, fields_header, sized_header, file_header};
+ghost use Rattle.cy_cut.specs.Sections.{header_end};
 
 use crate::LoadError;
 use byteorder::{ByteOrder, LittleEndian};
 use cy_section::{HEAD_SIZE, HEADER_SIZE, Header, SectionError, read_header};
 
 /// The longest file that is read, in bytes.
-pub(crate) const LONGEST_FILE: u64 = 2_147_483_648;
+pub const LONGEST_FILE: u64 = 2_147_483_648;
 
 // The header whose fields take so many bytes, where it has no compression.
 fn uncompressed_header(file: &[u8], size: usize) -> Result<Header, LoadError>
@@ -42,9 +42,9 @@ fn sized_header(file: &[u8], size: u64) -> Result<Header, LoadError>
     uncompressed_header(file, size as usize)
 }
 
-// The header of a file, which is a record's: of a size that is read, and not compressed.
+/// The header of a file, which is a record's: of a size that is read, and not compressed.
 #[tactic(auto, unfolding(crate::specs::Record::file_header))]
-pub(crate) fn file_header(file: &[u8]) -> Result<Header, LoadError>
+pub fn file_header(file: &[u8]) -> Result<Header, LoadError>
     ensures header { Answers (λ header. header) result (file_header file.now) }
     ensures sized { IfOk result (λ _. HasLength file.now) }
     ensures not_store { IfErr result (λ e. e ≢ LoadError.Store) }

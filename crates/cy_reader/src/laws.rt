@@ -1,12 +1,5 @@
 // What holds of every file: proved here, and nothing to run.
 ghost use Rattle.cy_reader.specs.Said.{MeetsWhatIsSaid, NamesDiffer};
-ghost use Rattle.cy_reader.specs.Tiling.{SectionsTile};
-
-/// The sections that are read of a file, and the fault that ends them, are those into which its
-/// bytes fall, head and body behind head and body; they fall into no others.
-pub fn sections_tile()
-    ensures { SectionsTile }
-{}
 
 /// The messages that are met in sections are those of their chunks' bodies, in file order, each on
 /// the channel of its name.

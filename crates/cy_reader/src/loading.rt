@@ -4,23 +4,23 @@ ghost use Rattle.std.specs.Prelude.{List, IfOk, IfErr, OnOk, IsOkUnless};
 ghost use Rattle.cy_msg.specs.Answer.{AnswersOr};
 ghost use Rattle.cy_section.specs.Messages.{seen};
 ghost use Rattle.cy_reader.specs.Record.{message_met, body_met};
-ghost use Rattle.cy_reader.specs.Record.{Message as MessageMet};
-ghost use Rattle.cy_reader.specs.Record.{section_met, sections_met, parts_of, header_end, nothing};
+ghost use Rattle.cy_reader.specs.Record.{Message as MessageMet, section_met, sections_met};
+ghost use Rattle.cy_reader.specs.Record.{parts_of, nothing};
+ghost use Rattle.cy_cut.specs.Sections.{header_end, sections_from};
 ghost use Rattle.cy_reader.specs.private.Kept.{IsLoaded};
 ghost use Rattle.cy_reader.specs.private.Loading.{IsNothing, IsSound, IsShort, Leads};
 ghost use Rattle.cy_reader.specs.private.Loading.{unless_ended, noted};
 ghost use Rattle.cy_reader.specs.private.Loading.{AreSmall, IsTied, Grows, met_of, met_with};
-ghost use Rattle.cy_reader.specs.private.Loading.{with_body, IsShortSection};
-ghost use Rattle.cy_reader.specs.Stands.{Stands, IsWithin};
-ghost use Rattle.cy_reader.specs.Sections.{sections_from};
-ghost use Rattle.cy_reader.specs.private.Found.{seen_section};
+ghost use Rattle.cy_reader.specs.private.Loading.{with_body, IsShortSection, IsWithin};
+ghost use Rattle.cy_cut.specs.Stands.{Stands};
+ghost use Rattle.cy_cut.specs.Found.{seen_section};
 ghost use Rattle.cy_wire.specs.Field.{fields_of};
 ghost use Rattle.cy_section.specs.Reading.{messages_of};
 
 use crate::LoadError;
 use crate::channels::{Channels, give, mention};
 use crate::header::file_header;
-use crate::sections::{SectionView, section_at};
+use cy_cut::{SectionView, section_at};
 use cy_msg::Bytes;
 use cy_section::{
     HEADER_SIZE, Header, MessageReader, MessageView, SectionKind, read_channel, read_chunk_header,
@@ -123,9 +123,9 @@ fn message_met(
     note_message(&mut loading.messages, body, channel, message)
 }
 
-// Reads the messages that are left, for the fault that may end them.
+/// Reads the messages of a body that are left, for the fault that may end them.
 #[inline(never)]
-pub(crate) fn read_out(messages: MessageReader<'_>) -> Result<(), LoadError>
+pub fn read_out(messages: MessageReader<'_>) -> Result<(), LoadError>
     ensures { result ≡ unless_ended messages.entry.fault }
 {
     let mut left = messages;

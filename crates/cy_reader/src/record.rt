@@ -1,30 +1,25 @@
 // A record that was read.
-ghost use Rattle.std.specs.Prelude.{◌≡◌, ◌≤◌, ◌<◌, ◌+◌, ◌++◌, length, slice_get};
-ghost use Rattle.std.specs.Prelude.{IfSome, Some, OnOk};
-ghost use Rattle.std.specs.Prelude.{◌≢◌, IfOk, IfErr, IsOkUnless};
+ghost use Rattle.std.specs.Prelude.{◌≡◌, ◌≤◌, ◌<◌, ◌+◌, length, slice_get, IfSome, option_map, ◌≢◌};
+ghost use Rattle.std.specs.Prelude.{IfErr};
 ghost use Rattle.cy_msg.specs.Answer.{AnswersOr};
-ghost use Rattle.cy_reader.specs.Record.{longest_file, record_of};
-ghost use Rattle.cy_reader.specs.Info.{info_text};
-ghost use Rattle.cy_reader.specs.private.Cutting.{AreWithin};
-ghost use Rattle.cy_reader.specs.private.Facts.{AreFacts};
+ghost use Rattle.cy_cut.specs.Heads.{IsPlaced, seen_index};
+ghost use Rattle.cy_cut.specs.Sections.{longest_file};
+ghost use Rattle.cy_reader.specs.Record.{record_of};
+ghost use Rattle.cy_cut.specs.Cutting.{AreWithin};
 ghost use Rattle.cy_reader.specs.private.Front.{cut_record};
-ghost use Rattle.cy_reader.specs.private.Uniting.{IsKeptOf};
 ghost use Rattle.cy_reader.specs.Load.{FileAnswer, LoadAnswer};
-ghost use Rattle.cy_reader.specs.Play.{message_at, time_at};
 
-use crate::cutting::{CutFile, cut_file};
-use crate::facts::{Facts, channel_counts, count_parts, index_found, places_for};
 use crate::front::{Front, front_of};
 use crate::gathering::parts_met;
 use crate::header::LONGEST_FILE;
-use crate::heads::{Heads, KeptIndex, PlacedHead, heads_of, push_index};
+use crate::kept::Kept;
 use crate::loading::{Loading, parts_of};
-use crate::{Known, LoadError, Loaded, info};
+use crate::{Known, LoadError, Loaded};
+use cy_cut::{CutFile, Heads, KeptIndex, PlacedHead, cut_file, heads_of, push_index};
 use cy_msg::{Bytes, Text};
 use cy_section::{Channel, Header};
 use cy_store::{ReadFile, Store, read_file};
 use std::alloc::Global;
-use std::io;
 use std::marker::Model;
 use std::thread::Threads;
 
@@ -150,22 +145,14 @@ pub fn load<S: Store, R: Threads + Sync>(
     record_of_cut(rt, alloc, name, front, cut)
 }
 
-// What is kept of a record: the length of its file, the bodies, and what stands in them.
-#[derive(Drop)]
-pub(crate) struct Kept {
-    pub size: u64,
-    pub bodies: Vec<Bytes>,
-    pub loading: Loading,
-}
-
 impl Record {
-    // What is kept of it, without what is told of its file.
-    pub(crate) fn into_kept(self) -> Kept
-        ensures { IsKeptOf self result }
+    /// Its channels and messages, without what it says of its file.
+    pub fn into_kept(self) -> Kept
+        ensures { result ≡ record { channels = self.channels; messages = self.messages } }
     {
         let Record {
             name,
-            size,
+            size: _,
             header: _,
             heads,
             index,
@@ -175,15 +162,48 @@ impl Record {
         drop(index);
         drop(heads);
         drop(name);
-        Kept {
-            size,
-            bodies,
-            loading,
-        }
+        Kept::new(bodies, loading)
     }
 
-    // Its channels.
-    pub(crate) fn known(&self) -> &[Known]
+    /// The name of its file, as it was given.
+    pub fn name(&self) -> &str
+        ensures { result.now ≡ self.now.source.name }
+    {
+        self.name.as_str()
+    }
+
+    /// The header of its file.
+    pub fn header(&self) -> &Header
+        ensures { result.now ≡ self.now.source.header }
+    {
+        &self.header
+    }
+
+    /// The heads of the sections of its file, the index's included.
+    pub fn heads(&self) -> &[PlacedHead]
+        ensures { result.now ≡ self.now.source.heads }
+    {
+        self.heads.as_slice()
+    }
+
+    /// The index of its file, where it has one.
+    pub fn index(&self) -> Option<&KeptIndex>
+        ensures index { option_map (λ i. seen_index i.now) result ≡ self.now.source.index }
+        ensures placed { IfSome result (λ i. IsPlaced i.now) }
+    {
+        self.index.as_ref()
+    }
+
+    /// The length of its file in bytes.
+    pub fn size(&self) -> u64
+        ensures size { result ≡ self.now.source.size }
+        ensures short { result ≤ longest_file }
+    {
+        self.size
+    }
+
+    /// Its channels, in the order of their numbers.
+    pub fn known(&self) -> &[Known]
         ensures { result.now ≡ self.now.channels }
     {
         self.loading.channels.list.as_slice()
@@ -229,95 +249,11 @@ impl Record {
         self.loaded().message(place)
     }
 
-    // A message's time, 0 where there is none at the place.
-    pub(crate) fn time_at(&self, place: u32) -> u64
-        ensures { result ≡ time_at self.now place }
-    {
-        match self.loading.messages.get(place as usize) {
-            Some(message) => message.time,
-            None => 0,
-        }
-    }
-
-    // The channel of a message.
-    pub(crate) fn channel_at(&self, place: u32) -> u32
-        requires { place < length self.now.messages }
-        ensures channel { result ≡ (message_at self.now place).channel }
-        ensures below { result < length self.now.channels }
-    {
-        self.message(place).0
-    }
-
     /// A message's content: a slice of the file.
     pub fn content(&self, place: u32) -> &[u8]
         requires { place < length self.now.messages }
         ensures { IfSome (slice_get self.now.messages place) (λ m. result.now ≡ m.content) }
     {
         self.loaded().content(place)
-    }
-
-    // What `info` tells beside the channels and the header.
-    fn facts(&self, alloc: Global) -> Result<Facts, LoadError>
-        ensures facts { IfOk result (AreFacts self.now) }
-        ensures only_memory { IsOkUnless result LoadError.Memory }
-    {
-        let messages = self.loading.messages.as_slice();
-        let channels = self.loading.channels.list.len();
-        let heads = self.heads.as_slice();
-        let index = self.index.as_ref();
-        let counts = channel_counts(alloc, messages, channels)?;
-        let found = index_found(alloc, index)?;
-        let places = places_for(alloc, &found, heads)?;
-        Ok(Facts {
-            counted: count_parts(channels, messages, heads, index, self.size),
-            counts,
-            index: found,
-            places,
-        })
-    }
-
-    // The text of it, at the end of others.
-    fn push_info(&self, to: &mut Vec<u8>, facts: &Facts) -> io::Result<()>
-        requires { AreFacts self.now facts.now }
-        ensures { OnOk result (to.new.items ≡ to.old.items ++ info_text self.now) }
-    {
-        info::push_file(to, self.name.as_str(), self.size)?;
-        info::push_front(to, &self.header, &facts.counted)?;
-        info::push_index(to, &facts.index)?;
-        info::push_channels(
-            to,
-            self.loading.channels.list.as_slice(),
-            facts.counts.as_slice(),
-        )?;
-        info::push_header_differences(to, &self.header, &facts.counted)?;
-        info::push_index_differences(to, &facts.index, &facts.places)
-    }
-
-    // The same, as a text of its own.
-    fn text(&self, alloc: Global, facts: &Facts) -> Result<Bytes, LoadError>
-        requires { AreFacts self.now facts.now }
-        ensures text { IfOk result (λ text. text ≡ info_text self.now) }
-        ensures only_memory { IsOkUnless result LoadError.Memory }
-    {
-        let mut to = Vec::new(alloc);
-        match self.push_info(&mut to, facts) {
-            Ok(()) => Ok(Bytes::from_vec(to)),
-            // A write to a `Vec` fails for want of memory alone.
-            Err(_) => Err(LoadError::Memory),
-        }
-    }
-
-    /// What the record is, in lines: its file, its header, the counted channels, chunks and
-    /// messages, the least and greatest time, its index, each channel with its number of messages,
-    /// and then each field of a complete header and each entry of a readable index that differs
-    /// from what was counted. The file's name stands as it was given. Its only error is `Memory`.
-    pub fn info(&self, alloc: Global) -> Result<Bytes, LoadError>
-        ensures text { IfOk result (λ text. text ≡ info_text self.now) }
-        ensures only_memory { IsOkUnless result LoadError.Memory }
-    {
-        let facts = self.facts(alloc)?;
-        let text = self.text(alloc, &facts);
-        drop(facts);
-        text
     }
 }

@@ -1,8 +1,8 @@
 // Joins the channels and messages of a later record to those that are kept.
 ghost use Rattle.std.specs.Prelude.{◌≡◌, ◌≢◌, ◌≤◌, ◌<◌, ◌+◌, ◌^◌, ◌++◌, ℕ, List, Some, All};
 ghost use Rattle.std.specs.Prelude.{length, map, true, IfErr, IfOk, OnOk, IsOkUnless};
-ghost use Rattle.cy_reader.specs.Joined.{channel_joined, channels_joined, differs, first_of};
-ghost use Rattle.cy_reader.specs.Joined.{known_in, met_joined, parts_differ, united};
+ghost use Rattle.cy_reader.specs.United.{channel_joined, channels_joined, first_of, met_joined};
+ghost use Rattle.cy_reader.specs.United.{united};
 ghost use Rattle.cy_reader.specs.Record.{number_of, size_of, largest_channels};
 ghost use Rattle.cy_reader.specs.private.Alone.{AreNumbers};
 ghost use Rattle.cy_reader.specs.private.Loading.{AreSmall, IsTied, Grows, IsSound, Leads, met_of};
@@ -10,45 +10,12 @@ ghost use Rattle.cy_reader.specs.private.Loading.{Mentions};
 ghost use Rattle.cy_reader.specs.private.Uniting.{shifted};
 
 use crate::LoadError;
-use crate::channels::{Channels, add, number_of, place_of, replace};
+use crate::channels::{Channels, add, number_of, replace};
 use crate::known::Known;
 use crate::loading::{Loading, Message};
 use cy_msg::{Bytes, Text};
 use cy_section::Channel;
 use std::alloc::Global;
-
-// Whether two types or descriptions differ.
-fn parts_differ(kept: &[u8], later: &[u8]) -> bool
-    ensures { result ≡ parts_differ kept.now later.now }
-{
-    !kept.is_empty() && !later.is_empty() && kept != later
-}
-
-/// Whether the type of a channel differs from that of the channel that is kept under its name.
-pub(crate) fn types_differ(channels: &[Known], later: &Known) -> bool
-    ensures { result ≡ differs (λ c. c.message_type) channels.now later.now }
-{
-    match place_of(channels, later.channel.name.as_str()) {
-        Some(place) => parts_differ(
-            channels[place].channel.message_type.as_str().as_bytes(),
-            later.channel.message_type.as_str().as_bytes(),
-        ),
-        None => false,
-    }
-}
-
-/// The same of its description.
-pub(crate) fn descriptions_differ(channels: &[Known], later: &Known) -> bool
-    ensures { result ≡ differs (λ c. c.proto_desc) channels.now later.now }
-{
-    match place_of(channels, later.channel.name.as_str()) {
-        Some(place) => parts_differ(
-            channels[place].channel.proto_desc.as_slice(),
-            later.channel.proto_desc.as_slice(),
-        ),
-        None => false,
-    }
-}
 
 // The first of two texts that is not empty.
 fn first_text<'a>(kept: &'a str, later: &'a str) -> &'a str
@@ -133,7 +100,7 @@ fn has_all(known: &Known, later: &Known) -> bool
 }
 
 // Unites the channel of a number with one of its name.
-#[tactic(auto, unfolding(crate::specs::Joined::channel_joined))]
+#[tactic(auto, unfolding(crate::specs::United::channel_joined))]
 fn unite(
     alloc: Global,
     channels: &mut Channels,
@@ -158,7 +125,7 @@ fn unite(
 }
 
 // Joins a channel of a later record, and answers the number that it has then.
-#[tactic(auto, unfolding(crate::specs::Joined::channel_joined))]
+#[tactic(auto, unfolding(crate::specs::United::channel_joined))]
 fn join_channel(alloc: Global, channels: &mut Channels, later: &Known) -> Result<u32, LoadError>
     requires small { AreSmall channels.old.list.items }
     requires tied { IsTied channels.old }

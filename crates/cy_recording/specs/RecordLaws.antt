@@ -5,7 +5,7 @@ use Rattle.cy_msg.specs.declared.token.Token.{Token}
 use Rattle.cy_section.specs.RecordText.{IsRecordText, record_bytes}
 use Rattle.cy_msg.specs.declared.play_list.PlayList.{PlayList}
 use Rattle.cy_reader.specs.Record.{Contents}
-use Rattle.cy_reader.specs.Play.{Choice, IsPlayList}
+use Rattle.cy_play_list.specs.Play.{Choice, IsPlayList}
 use Rattle.cy_recording.specs.Recording.{Source, IsWritable, channels_of_tape, messages_of_tape}
 use Rattle.cy_recording.specs.Recording.{chunks_of_tape}
 

@@ -11,8 +11,7 @@ use Rattle.cy_section.specs.declared.types.Channel.{Channel}
 use Rattle.cy_section.specs.declared.types.BodyMessage.{BodyMessage}
 use Rattle.cy_reader.specs.declared.known.Known.{Known}
 use Rattle.cy_reader.specs.Record.{Contents}
-use Rattle.cy_reader.specs.Named.{channel_made, as_read, known_as}
-use Rattle.cy_reader.specs.Play.{message_at}
+use Rattle.cy_reader.specs.Named.{channel_made, as_read, known_as, message_at}
 use Rattle.cy_comp.specs.declared.answers.Answer.{Answer}
 use Rattle.cy_comp.specs.declared.kind.Kind.{Kind}
 use Rattle.cy_comp.specs.declared.kind.Kind.TheVariants.{External}

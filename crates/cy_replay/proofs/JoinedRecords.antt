@@ -9,7 +9,7 @@ use Rattle.cy_msg.specs.Answer.{AnswersOr}
 use Rattle.cy_store.specs.Files.{Files}
 use Rattle.cy_store.specs.Reads.{Reads, Accepts, Refuses, judged, ◌>>=◌}
 use Rattle.cy_store.specs.Store.{StoreView}
-use Rattle.cy_reader.specs.Joined.{Gathered, first_differing, no_records, record_joined}
+use Rattle.cy_salvage.specs.Joined.{Gathered, first_differing, no_records, record_joined}
 use Rattle.cy_reader.specs.Record.{Contents}
 use Rattle.cy_reader.specs.declared.error.LoadError.{LoadError}
 use Rattle.cy_reader.specs.declared.error.LoadError.TheVariants as load_error

@@ -20,9 +20,9 @@ use Rattle.cy_sched.specs.Placing.{numbers_below}
 use Rattle.cy_request.specs.Request.{StopAt}
 use Rattle.cy_request.specs.declared.filter.Filter.{Filter}
 use Rattle.cy_reader.specs.Record.{Contents}
-use Rattle.cy_reader.specs.Play.{Choice, IsPlayList, chosen, most_played, number_at, places_below, value_at}
+use Rattle.cy_play_list.specs.Play.{Choice, IsPlayList, chosen, most_played, number_at, places_below, value_at}
 use Rattle.cy_reader.specs.declared.error.LoadError.TheVariants.{TooManyPlayed}
-use Rattle.cy_reader.proofs.Playing.{length-tokens}
+use Rattle.cy_play_list.proofs.Playing.{length-tokens}
 use Rattle.cy_timer.specs.Merged.{IsMerged, by_time, merged, with_ticks}
 use Rattle.cy_timer.specs.Ticks.{last_time, multiples, ticks_of}
 use Rattle.cy_timer.specs.Timers.{AreApart, timers_of}

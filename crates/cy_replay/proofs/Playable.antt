@@ -28,7 +28,8 @@ use Rattle.cy_dag.proofs.NameSteps.{has_contains, contains_has, behind_has}
 use Rattle.cy_request.specs.Request.{StopAt}
 use Rattle.cy_reader.specs.declared.known.Known.{Known}
 use Rattle.cy_reader.specs.Record.{Contents, named_only}
-use Rattle.cy_reader.specs.Play.{Choice, IsPlayList, AreNamed, chosen, is_played, is_written, passes, all_places, number_at, number_in, name_of, message_at, places_below, token_behind, tokens_behind, value_at}
+use Rattle.cy_play_list.specs.Play.{Choice, IsPlayList, AreNamed, chosen, is_played, is_written, passes, all_places, number_at, number_in, name_of, places_below, token_behind, tokens_behind, value_at}
+use Rattle.cy_reader.specs.Named.{message_at}
 use Rattle.wake_core.specs.Run.{route_of, routes_of, writes_from}
 use Rattle.wake_core.specs.TapeLaws.{PutLaws}
 use Rattle.wake_core.specs.Plain.{lists, opening_world}

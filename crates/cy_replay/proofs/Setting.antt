@@ -28,7 +28,7 @@ use Rattle.cy_reader.specs.Record.{Contents, named_only}
 use Rattle.cy_value.specs.declared.values.ChannelValue.{ChannelValue}
 use Rattle.cy_reader.specs.declared.error.LoadError.{LoadError}
 use Rattle.cy_reader.specs.declared.error.LoadError.TheVariants as load_error
-use Rattle.cy_reader.specs.Play.{Choice, PlayAnswer, AreNamed, IsTooMany, chosen, most_played}
+use Rattle.cy_play_list.specs.Play.{Choice, PlayAnswer, AreNamed, IsTooMany, chosen, most_played}
 use Rattle.wake_core.specs.Run.{routes_of}
 use Rattle.wake_core.specs.Planned.{planned}
 use Rattle.wake_core.specs.declared.entries.TheConstants.{MOST_PLANNED}

@@ -11,10 +11,10 @@ use Rattle.std.proofs.lemmas.List.Sums.{sum_by-cons}
 use Rattle.cy_msg.specs.Tokens.{IsTimed, on_channel}
 use Rattle.cy_msg.specs.declared.play_list.PlayList.{PlayList}
 use Rattle.cy_msg.specs.declared.token.Token.{Token}
-use Rattle.cy_reader.specs.Info.{greatest, least}
+use Rattle.cy_info.specs.Info.{greatest, least}
 use Rattle.cy_reader.specs.Record.{Contents}
-use Rattle.cy_reader.specs.Play.{Choice, IsPlayList, chosen, number_at, time_at, tokens_behind, value_at}
-use Rattle.cy_reader.proofs.Playing.{length-tokens}
+use Rattle.cy_play_list.specs.Play.{Choice, IsPlayList, chosen, number_at, time_at, tokens_behind, value_at}
+use Rattle.cy_play_list.proofs.Playing.{length-tokens}
 use Rattle.cy_timer.specs.Merged.{merged, with_ticks}
 use Rattle.cy_timer.specs.Ticks.{last_time, multiples, ticks_at, ticks_between, ticks_of}
 use Rattle.cy_timer.specs.declared.timer.Timer.{Timer}

@@ -11,12 +11,12 @@ use Rattle.cy_timer.specs.Merged.{IsMerged}
 use Rattle.cy_timer.specs.Ticks.{ticks_between}
 use Rattle.cy_timer.specs.Timers.{timers_of}
 use Rattle.cy_timer.specs.declared.timer.Timer.{Timer}
-use Rattle.cy_reader.specs.Info.{greatest, least}
+use Rattle.cy_info.specs.Info.{greatest, least}
 use Rattle.cy_reader.specs.declared.error.LoadError.TheVariants.{TooManyPlayed}
 use Rattle.cy_request.specs.declared.filter.Filter.{Filter}
 use Rattle.cy_reader.specs.Record.{Contents}
-use Rattle.cy_reader.specs.Play.{Choice, IsPlayList, most_played, chosen, number_at, places_below}
-use Rattle.cy_reader.specs.Play.{time_at}
+use Rattle.cy_play_list.specs.Play.{Choice, IsPlayList, most_played, chosen, number_at}
+use Rattle.cy_play_list.specs.Play.{places_below, time_at}
 use Rattle.wake_core.specs.Run.{routes_of}
 use Rattle.wake_core.specs.Planned.{planned}
 use Rattle.wake_core.specs.declared.entries.TheConstants.{MOST_PLANNED}

@@ -2,7 +2,7 @@
 use Rattle.std.specs.Prelude.{ℕ, ⊤, List, [], ◌∷◌, Option, Some, None}
 use Rattle.cy_store.specs.Files.{Files}
 use Rattle.cy_store.specs.Reads.{Reads, Accepts, Refuses, ◌>>=◌}
-use Rattle.cy_reader.specs.Joined.{Gathered, first_differing, no_records, record_joined}
+use Rattle.cy_salvage.specs.Joined.{Gathered, first_differing, no_records, record_joined}
 use Rattle.cy_reader.specs.Record.{Contents}
 use Rattle.cy_replay.specs.Faults.{in_file}
 use Rattle.cy_replay.specs.RecordFile.{record_in}

@@ -1,7 +1,7 @@
 // The record of a replay, and all that is played.
 ghost use Rattle.std.specs.Prelude.{◌≡◌, ◌≤◌, ◌++◌, length, map, IfOk, OnOk, IsOkUnless};
 ghost use Rattle.cy_msg.specs.Tokens.{most_played};
-ghost use Rattle.cy_reader.specs.Play.{AreNamed, IsPlayList};
+ghost use Rattle.cy_play_list.specs.Play.{AreNamed, IsPlayList};
 ghost use Rattle.cy_timer.specs.Merged.{IsMerged, merged};
 ghost use Rattle.cy_timer.specs.Timers.{AreApart, AreTimers, timers_of};
 ghost use Rattle.cy_replay.specs.Comes.{ComesTo, IsJudged};
@@ -14,7 +14,8 @@ use crate::values::values_in;
 use crate::{Fault, SetupError};
 use cy_comp::Wiring;
 use cy_msg::{NamesError, PlayList, Text};
-use cy_reader::{ChannelSet, LoadError, Record, load};
+use cy_play_list::{ChannelSet, play_list};
+use cy_reader::{LoadError, Record, load};
 use cy_request::Filter;
 use cy_store::Store;
 use cy_timer::{Timer, TimerError, merge, timers};
@@ -104,7 +105,7 @@ fn list_messages(
 {
     let written = written_by(alloc, wiring, timers)?;
     let values = values_in(alloc, wiring.plans.as_slice())?;
-    match recorded.play_list(alloc, &wiring.names, filter, &written, &values) {
+    match play_list(alloc, recorded, &wiring.names, filter, &written, &values) {
         Ok(list) => Ok(list),
         Err(fault) => Err(record_fault(alloc, name, fault)),
     }

@@ -2,7 +2,7 @@
 use Rattle.std.proofs.Common.{◌≡◌, ℕ, List, length, ap, sym, subst, ◌∙◌, Option, None, Result}
 use Rattle.std.specs.Prelude.{IfOk, IfSome}
 use Rattle.cy_store.specs.Store.{StoreView}
-use Rattle.cy_reader.specs.Joined.{Gathered}
+use Rattle.cy_salvage.specs.Joined.{Gathered}
 use Rattle.cy_reader.specs.Record.{Met, Message}
 use Rattle.cy_reader.specs.Said.{StandOnChannels}
 use Rattle.cy_writer.specs.Writes.{Makes}

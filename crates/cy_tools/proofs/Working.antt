@@ -8,7 +8,7 @@ use Rattle.cy_store.specs.Store.{StoreView, HasWriteCauses}
 use Rattle.cy_store.specs.Write.{Write, after_writes}
 use Rattle.cy_reader.specs.Load.{LoadAnswer}
 use Rattle.cy_reader.specs.Record.{Contents, Met, Message, record_of}
-use Rattle.cy_reader.specs.Salvage.{Salvage, SalvageAnswer, salvage_of}
+use Rattle.cy_salvage.specs.Salvage.{Salvage, SalvageAnswer, salvage_of}
 use Rattle.cy_reader.specs.declared.error.LoadError.{LoadError}
 use Rattle.cy_reader.specs.declared.error.LoadError.TheVariants as load_error
 use Rattle.cy_writer.specs.Writes.{Makes}

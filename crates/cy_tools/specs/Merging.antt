@@ -1,7 +1,7 @@
 -- What is answered where records that are joined are written as one.
 use Rattle.std.specs.Prelude.{ℕ, ◌≡◌, List, length, Result, IfOk, IsErrOf}
 use Rattle.cy_store.specs.Store.{StoreView, HasWriteCauses}
-use Rattle.cy_reader.specs.Joined.{Gathered}
+use Rattle.cy_salvage.specs.Joined.{Gathered}
 use Rattle.cy_tools.specs.Kept.{IsKeptText, kept_writes}
 use Rattle.cy_writer.specs.Writes.{Makes}
 use Rattle.cy_writer.specs.declared.error.WriteError.{WriteError}

@@ -2,7 +2,7 @@
 use Rattle.std.specs.Prelude.{List, length}
 use Rattle.cy_request.specs.declared.filter.Filter.{Filter}
 use Rattle.cy_reader.specs.Record.{Met, Message, Contents}
-use Rattle.cy_reader.specs.Salvage.{Salvage}
+use Rattle.cy_salvage.specs.Salvage.{Salvage}
 use Rattle.cy_tools.specs.declared.recovering.Recovered.{Recovered}
 use Rattle.cy_tools.specs.declared.splitting.Parted.{Parted}
 use Rattle.cy_tools.specs.Kept.{passing}

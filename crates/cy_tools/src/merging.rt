@@ -3,7 +3,7 @@ ghost use Rattle.cy_tools.specs.Merging.{MergeAnswer};
 
 use crate::kept::Kept;
 use crate::writing::write_kept;
-use cy_reader::Merged;
+use cy_salvage::Merged;
 use cy_store::Store;
 use cy_writer::WriteError;
 use std::alloc::Global;

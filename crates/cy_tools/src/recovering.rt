@@ -1,6 +1,6 @@
 // A record of what stands before the first fault of a file.
 ghost use Rattle.cy_reader.specs.Said.{StandOnChannels};
-ghost use Rattle.cy_reader.specs.Salvage.{salvage_of};
+ghost use Rattle.cy_salvage.specs.Salvage.{salvage_of};
 ghost use Rattle.cy_tools.specs.Answer.{ToolAnswer};
 ghost use Rattle.cy_tools.specs.Tools.{recovering};
 ghost use Rattle.cy_tools.specs.private.Giving.{DoesWork};
@@ -8,7 +8,7 @@ ghost use Rattle.cy_tools.specs.private.Giving.{DoesWork};
 use crate::ToolError;
 use crate::kept::Kept;
 use crate::writing::write_kept;
-use cy_reader::{Salvaged, salvage_record};
+use cy_salvage::{Salvaged, salvage_record};
 use cy_store::Store;
 use cy_writer::WriteError;
 use std::alloc::Global;
@@ -50,7 +50,7 @@ fn write_salvaged<S: Store>(
 /// After `ToolError::Load`, and where the store failed at the input, no file is changed. Where it
 /// failed at the output, or memory ran out, the writes before that are done.
 ///
-/// [`salvage_record`]: cy_reader::salvage_record
+/// [`salvage_record`]: cy_salvage::salvage_record
 pub fn recover<S: Store, R: Threads + Sync>(
     rt: &R,
     alloc: Global,

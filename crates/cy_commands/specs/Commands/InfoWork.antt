@@ -3,7 +3,7 @@ use Rattle.std.specs.Prelude.{◌≡◌, []}
 use Rattle.cy_store.specs.Files.{Files}
 use Rattle.cy_store.specs.Reads.{Reads}
 use Rattle.cy_reader.specs.Record.{Contents}
-use Rattle.cy_reader.specs.Info.{info_text}
+use Rattle.cy_info.specs.Info.{info_text}
 use Rattle.cy_replay.specs.declared.error.Refusal.{Refusal}
 use Rattle.cy_replay.specs.Listing.{record_in}
 use Rattle.cy_words.specs.Command.{InfoWords}

@@ -2,7 +2,8 @@
 use Rattle.std.specs.Prelude.{ℕ, ◌≡◌, ⊤, List, [], ◌∷◌, length, codes}
 use Rattle.cy_store.specs.Files.{Files}
 use Rattle.cy_store.specs.Reads.{Reads, ◌>>=◌}
-use Rattle.cy_reader.specs.Joined.{Gathered, IsInTime}
+use Rattle.cy_salvage.specs.Joined.{Gathered}
+use Rattle.cy_reader.specs.United.{IsInTime}
 use Rattle.cy_reader.specs.Record.{Message, Met}
 use Rattle.cy_replay.specs.Apart.{apart_from, standard_output}
 use Rattle.cy_replay.specs.Merging.{merged_in}

@@ -6,7 +6,7 @@ use Rattle.cy_store.specs.Reads.{Reads, file_in, ◌>>=◌}
 use Rattle.cy_store.specs.Write.{after_writes}
 use Rattle.cy_section.specs.RecordText.{record_bytes}
 use Rattle.cy_reader.specs.Record.{Message, Met}
-use Rattle.cy_reader.specs.Salvage.{Salvage, salvage_of}
+use Rattle.cy_salvage.specs.Salvage.{Salvage, salvage_of}
 use Rattle.cy_reader.specs.declared.error.LoadError.{LoadError}
 use Rattle.cy_replay.specs.Apart.{apart_from, standard_output}
 use Rattle.cy_replay.specs.declared.error.Fault.TheVariants as fault

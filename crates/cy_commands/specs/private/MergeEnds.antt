@@ -4,7 +4,7 @@ use Rattle.std.specs.List.{Contains}
 use Rattle.cy_store.specs.Files.{Files}
 use Rattle.cy_store.specs.Reads.{Accepts, Refuses}
 use Rattle.cy_store.specs.Store.{StoreView}
-use Rattle.cy_reader.specs.Joined.{Gathered}
+use Rattle.cy_salvage.specs.Joined.{Gathered}
 use Rattle.cy_writer.specs.declared.error.WriteError.{WriteError}
 use Rattle.cy_writer.specs.declared.error.WriteError.TheVariants as write_error
 use Rattle.cy_replay.specs.Comes.{ComesTo}

@@ -9,6 +9,7 @@ use crate::due::{Due, out_of_memory};
 use crate::line::Line;
 use crate::status::Status;
 use crate::unset::due_unset;
+use cy_info::info_text;
 use cy_replay::read_record;
 use cy_store::Store;
 use cy_words::Info;
@@ -30,7 +31,7 @@ pub fn run_info<'a, S: Store, R: Threads + Sync>(
         Ok(record) => record,
         Err(error) => return due_unset(alloc, error),
     };
-    let text = record.info(alloc);
+    let text = info_text(alloc, &record);
     drop(record);
     match text {
         Ok(text) => Due {

@@ -1,6 +1,6 @@
 // The command `merge`.
 ghost use Rattle.std.specs.Prelude.{◌≡◌, ◌≤◌, [], length, map, vec_capacity};
-ghost use Rattle.cy_reader.specs.Joined.{Gathered, IsOrdered};
+ghost use Rattle.cy_salvage.specs.Joined.{Gathered, IsOrdered};
 ghost use Rattle.cy_commands.specs.declared.kept.TheConstants.{LINE_ROOM};
 ghost use Rattle.cy_store.specs.Store.{StoreView};
 ghost use Rattle.cy_words.specs.Command as command;
@@ -13,8 +13,8 @@ ghost use Rattle.cy_words.specs.Views.{merge_words_of};
 use crate::due::{Due, out_of_memory, store_failed};
 use crate::kept::{LINE_ROOM, due_kept};
 use crate::unset::due_unset;
-use cy_reader::Merged;
 use cy_replay::{STANDARD_OUTPUT, SetupError, read_merged, test_apart};
+use cy_salvage::Merged;
 use cy_store::Store;
 use cy_tools::write_merged;
 use cy_words::Merge;

@@ -6,7 +6,7 @@ use Rattle.cy_wire.specs.Field.{fields_of}
 use Rattle.cy_section.specs.Reading.{messages_of}
 use Rattle.cy_reader.specs.declared.error.LoadError.{LoadError}
 use Rattle.cy_reader.specs.declared.known.Known.{Known}
-use Rattle.cy_reader.specs.declared.cutting.Part.{Part}
+use Rattle.cy_cut.specs.declared.cutting.Part.{Part}
 use Rattle.cy_reader.specs.declared.decoding.Alone.{Alone}
 use Rattle.cy_reader.specs.declared.loading.Message.{Message}
 use Rattle.cy_reader.specs.Record as meaning

@@ -7,15 +7,15 @@ use Rattle.cy_store.specs.Store.{StoreView, HasCauses}
 use Rattle.cy_section.specs.declared.error.SectionError.{SectionError}
 use Rattle.cy_reader.specs.declared.error.LoadError.{LoadError}
 use Rattle.cy_reader.specs.declared.error.LoadError.TheVariants.{Store}
-use Rattle.cy_reader.specs.declared.cutting.CutFile.{CutFile}
+use Rattle.cy_cut.specs.declared.cutting.CutFile.{CutFile}
 use Rattle.cy_reader.specs.declared.front.Front.{Front}
-use Rattle.cy_reader.specs.declared.heads.KeptIndex.{KeptIndex}
-use Rattle.cy_reader.specs.Heads.{PlacedIndex, header_head, index_head}
+use Rattle.cy_cut.specs.declared.heads.KeptIndex.{KeptIndex}
+use Rattle.cy_cut.specs.Heads.{PlacedIndex, header_head, index_head, seen_index}
 use Rattle.cy_reader.specs.Load.{IsRefusal}
-use Rattle.cy_reader.specs.Record.{◌>>=◌, Contents, Source, file_header, header_end, longest_file}
-use Rattle.cy_reader.specs.Record.{sections_met, nothing, shown}
-use Rattle.cy_reader.specs.private.Cutting.{seen_part, fault_in}
-use Rattle.cy_reader.specs.private.Kept.{seen_index}
+use Rattle.cy_reader.specs.Record.{◌>>=◌, Contents, Source, file_header, sections_met, nothing}
+use Rattle.cy_reader.specs.Record.{shown}
+use Rattle.cy_cut.specs.Sections.{header_end, longest_file}
+use Rattle.cy_cut.specs.Cutting.{seen_part, fault_in}
 
 -- This is the front of a file.
 pub record IsFront (file : List ℕ) (f : Front) : Type 0 where

@@ -13,7 +13,8 @@ use Rattle.cy_reader.specs.declared.channels.Channels.{Channels}
 use Rattle.cy_reader.specs.declared.loading.Body.{Body}
 use Rattle.cy_reader.specs.declared.loading.Message.{Message}
 use Rattle.cy_reader.specs.declared.loading.Loading.{Loading}
-use Rattle.cy_reader.specs.declared.sections.SectionView.{SectionView}
+use Rattle.cy_cut.specs.declared.sections.SectionView.{SectionView}
+use Rattle.cy_cut.specs.Stands.{Stands}
 use Rattle.cy_reader.specs.Record as meaning
 use Rattle.cy_reader.specs.Record.{Met, size_of, number_of, most_channels}
 use Rattle.cy_reader.specs.Record.{largest_channels}
@@ -81,6 +82,11 @@ pub record IsShort (b : Body) : Type 0 where
   pub few : length b.before.now < 2 ^ 32
   pub short : length b.bytes.now < 2 ^ 32
   pub inside : b.at + length b.bytes.now < 2 ^ 64
+
+-- These bytes stand at a place of the file, of which these are kept, from another place on.
+pub record IsWithin (from : ℕ) (kept : List ℕ) (at : ℕ) (bytes : List ℕ) : Type 0 where
+  pub behind : from ≤ at
+  pub stands : Stands kept (at - from) bytes
 
 -- A section whose places and whose bytes numbers of these sizes count.
 pub record IsShortSection (s : SectionView) : Type 0 where

@@ -1,5 +1,6 @@
 // The text that tells what a record is.
 use cy_msg::Bytes;
+use cy_info::info_text;
 use cy_reader::load;
 use cy_store::{MemStore, Store};
 use std::alloc::Global;
@@ -44,7 +45,7 @@ fn text_of(
     store.create("in.rec")?;
     store.put_at("in.rec", 0, bytes.as_slice())?;
     let record = load(rt, alloc, &mut store, "in.rec")?;
-    Ok(record.info(alloc)?)
+    Ok(info_text(alloc, &record)?)
 }
 
 #[test]

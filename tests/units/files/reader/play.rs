@@ -1,6 +1,7 @@
 // The messages of a record that are played.
 use cy_msg::{Items, Names, NamesError, PlayList, Text, Token};
-use cy_reader::{ChannelSet, Record, load};
+use cy_play_list::{ChannelSet, play_list};
+use cy_reader::{Record, load};
 use cy_request::Filter;
 use cy_store::{MemStore, Store};
 use cy_value::{ChannelValue, ScalarKind, ValueForm};
@@ -109,7 +110,7 @@ fn played_by(
     let mut names = Names::new(alloc);
     names.add(alloc, "b")?;
     add_channels(alloc, &record, &mut names)?;
-    Ok(record.play_list(alloc, &names, &filter, &written, values)?)
+    Ok(play_list(alloc, &record, &names, &filter, &written, values)?)
 }
 
 // The same with no form.

@@ -1,4 +1,5 @@
 // Records that are read section by section, and whole.
+use cy_info::info_text;
 use cy_reader::{LoadError, Record, load, load_whole};
 use cy_section::SectionError;
 use cy_store::{MemStore, Store, StoreError};
@@ -127,7 +128,7 @@ fn answers(
     match (read, whole) {
         (Ok(one), Ok(other)) => {
             assert!(rt; are_alike(&one, &other));
-            let (one, other) = (one.info(alloc)?, other.info(alloc)?);
+            let (one, other) = (info_text(alloc, &one)?, info_text(alloc, &other)?);
             assert_eq!(rt; one.as_slice(), other.as_slice());
             Ok(None)
         }

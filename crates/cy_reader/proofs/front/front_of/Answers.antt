@@ -1,5 +1,6 @@
 use Rattle.std.proofs.Common.{inr}
-use Rattle.cy_reader.proofs.Refusals.{too_large, no_err}
+use Rattle.cy_reader.proofs.Refusals.{too_large}
+use Rattle.cy_cut.proofs.Outcomes.{no_err}
 use Rattle.cy_reader.proofs.FrontRead.{front_answered}
 use Rattle.cy_reader.proofs.front.front_of.Goals as goal
 

@@ -1,6 +1,6 @@
 use Rattle.std.proofs.Common.{length, ap, arith}
-use Rattle.cy_reader.specs.Sections.{WholeSection}
-use Rattle.cy_reader.specs.private.Found.{seen_section}
+use Rattle.cy_cut.specs.Sections.{WholeSection}
+use Rattle.cy_cut.specs.Found.{seen_section}
 use Rattle.cy_reader.proofs.Bodies.{chunk_leads}
 use Rattle.cy_reader.proofs.gathering.chunk_met.Goals as goal
 

@@ -1,11 +1,12 @@
 use Rattle.std.proofs.Common.{◌≡◌, ◌≤◌, ◌+◌, ◌∷◌, length, arith, rules}
 use Rattle.std.specs.Vec.Iter.{into_iter_items, into_iter_len}
-use Rattle.cy_reader.specs.declared.cutting.Part.{Part}
-use Rattle.cy_reader.specs.Record.{longest_file}
+use Rattle.cy_cut.specs.declared.cutting.Part.{Part}
+use Rattle.cy_cut.specs.Sections.{longest_file}
 use Rattle.cy_reader.specs.private.Loading.{met_of}
-use Rattle.cy_reader.specs.private.Cutting.{seen_part}
+use Rattle.cy_cut.specs.Cutting.{seen_part}
 use Rattle.cy_reader.proofs.Bodies.{one_met, rest_within}
-use Rattle.cy_reader.proofs.Growing.{bytes_one, kept_grown}
+use Rattle.cy_cut.proofs.PartBytes.{bytes_one}
+use Rattle.cy_reader.proofs.Growing.{kept_grown}
 use Rattle.cy_reader.proofs.Moved.{one_decoded}
 use Rattle.cy_reader.proofs.gathering.join.Goals as goal
 

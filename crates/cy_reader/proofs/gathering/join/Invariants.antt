@@ -1,9 +1,10 @@
 use Rattle.std.proofs.Common.{◌≡◌, ◌≤◌, ◌+◌, length, None}
 use Rattle.std.specs.Prelude.{All, map}
 use Rattle.std.specs.Vec.Iter.{into_iter_items, into_iter_len}
-use Rattle.cy_reader.specs.Record.{sections_met, longest_file}
+use Rattle.cy_reader.specs.Record.{sections_met}
+use Rattle.cy_cut.specs.Sections.{longest_file}
 use Rattle.cy_reader.specs.private.Alone.{AreDecoded}
-use Rattle.cy_reader.specs.private.Cutting.{bytes_of, seen_part}
+use Rattle.cy_cut.specs.Cutting.{bytes_of, seen_part}
 use Rattle.cy_reader.specs.private.Loading.{IsSound, met_of}
 use Rattle.cy_reader.proofs.gathering.join.Given as goal
 

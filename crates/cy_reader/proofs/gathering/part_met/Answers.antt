@@ -1,4 +1,4 @@
-use Rattle.cy_reader.specs.private.Cutting.{seen_part}
+use Rattle.cy_cut.specs.Cutting.{seen_part}
 use Rattle.cy_reader.specs.private.Loading.{met_of}
 use Rattle.cy_reader.proofs.Bodies.{chunk_section}
 use Rattle.cy_reader.proofs.gathering.part_met.Goals as goal

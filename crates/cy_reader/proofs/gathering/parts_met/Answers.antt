@@ -1,13 +1,14 @@
 use Rattle.std.proofs.Common.{◌≡◌, ◌≤◌, ◌+◌, ◌∙◌, length, inl, inr, refl, ap, arith, Result, Ok}
 use Rattle.std.specs.Vec.Iter.{into_iter_items}
 use Rattle.std.proofs.lemmas.Result.{err_from_is_err_and}
-use Rattle.cy_reader.specs.declared.cutting.Part.{Part}
+use Rattle.cy_cut.specs.declared.cutting.Part.{Part}
 use Rattle.cy_reader.specs.declared.error.LoadError.{LoadError}
 use Rattle.cy_reader.specs.declared.loading.Loading.{Loading}
-use Rattle.cy_reader.specs.Record.{Met, longest_file}
+use Rattle.cy_reader.specs.Record.{Met}
+use Rattle.cy_cut.specs.Sections.{longest_file}
 use Rattle.cy_reader.specs.private.Loading.{met_of}
 use Rattle.cy_reader.proofs.Bodies.{group_met, group_wrong, group_within, behind_within}
-use Rattle.cy_reader.proofs.Growing.{bytes_both}
+use Rattle.cy_cut.proofs.PartBytes.{bytes_both}
 use Rattle.cy_reader.proofs.Moved.{sound_same, met_same}
 use Rattle.cy_reader.proofs.gathering.parts_met.Goals as goal
 

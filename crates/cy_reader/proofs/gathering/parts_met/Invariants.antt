@@ -1,8 +1,9 @@
 use Rattle.std.proofs.Common.{◌≡◌, ◌≤◌, ◌+◌, length, None}
 use Rattle.std.specs.Prelude.{All, map}
 use Rattle.std.specs.Vec.Iter.{into_iter_items}
-use Rattle.cy_reader.specs.Record.{sections_met, nothing, longest_file}
-use Rattle.cy_reader.specs.private.Cutting.{bytes_of, seen_part}
+use Rattle.cy_reader.specs.Record.{sections_met, nothing}
+use Rattle.cy_cut.specs.Sections.{longest_file}
+use Rattle.cy_cut.specs.Cutting.{bytes_of, seen_part}
 use Rattle.cy_reader.specs.private.Loading.{HasRoom, IsSound, met_of}
 use Rattle.cy_reader.proofs.gathering.parts_met.Given as goal
 

@@ -1,5 +1,5 @@
 use Rattle.std.proofs.Common.{arith}
-use Rattle.cy_reader.specs.private.Found.{seen_section}
+use Rattle.cy_cut.specs.Found.{seen_section}
 use Rattle.cy_reader.specs.private.Loading.{met_with}
 use Rattle.cy_reader.proofs.Slices.{channel_short, self_within}
 use Rattle.cy_reader.proofs.Meeting.{channel_section, channel_leads}

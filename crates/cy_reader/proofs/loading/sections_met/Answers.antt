@@ -1,10 +1,11 @@
 use Rattle.std.proofs.Common.{◌<◌, ◌+◌, ◌-◌, ◌∷◌, [], suc, length, refl, ap, arith, inl, inr}
 use Rattle.std.proofs.lemmas.Result.{err_from_is_err_and}
-use Rattle.cy_reader.specs.private.Found.{seen_section}
+use Rattle.cy_cut.specs.Found.{seen_section}
 use Rattle.cy_reader.specs.private.Loading.{met_of}
 use Rattle.cy_reader.proofs.Growing.{kept_grown}
 use Rattle.cy_reader.proofs.Moved.{nothing_sound, met_nothing}
-use Rattle.cy_reader.proofs.Meeting.{section_read, section_wrong, sections_end, sections_fault, one_less}
+use Rattle.cy_reader.proofs.Meeting.{section_read, section_wrong, sections_end, sections_fault}
+use Rattle.cy_cut.proofs.Ahead.{one_less}
 use Rattle.cy_reader.proofs.loading.sections_met.Goals as goal
 
 pub loop-loading-init : goal.loop-loading-init

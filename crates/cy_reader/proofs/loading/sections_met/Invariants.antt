@@ -1,6 +1,6 @@
 use Rattle.std.proofs.Common.{◌≡◌, ◌-◌, ◌<◌, ◌≤◌, ◌∷◌, [], ℕ, length}
-use Rattle.cy_reader.specs.Sections.{sections_in, sections_from}
-use Rattle.cy_reader.specs.Record.{header_end, nothing}
+use Rattle.cy_cut.specs.Sections.{sections_in, sections_from, header_end}
+use Rattle.cy_reader.specs.Record.{nothing}
 use Rattle.cy_reader.specs.private.Loading.{IsSound, met_of}
 use Rattle.cy_reader.proofs.Meeting.{finish}
 use Rattle.cy_reader.proofs.loading.sections_met.Given as goal

@@ -1,5 +1,6 @@
 use Rattle.std.proofs.Common.{inr}
-use Rattle.cy_reader.proofs.Refusals.{too_large, no_err}
+use Rattle.cy_reader.proofs.Refusals.{too_large}
+use Rattle.cy_cut.proofs.Outcomes.{no_err}
 use Rattle.cy_reader.proofs.record.file_bytes.Goals as goal
 
 pub returns-in-Longer : goal.returns-in-Longer

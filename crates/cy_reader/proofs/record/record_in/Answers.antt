@@ -1,9 +1,9 @@
 use Rattle.std.proofs.Common.{◌≡◌, ◌∷◌, [], ℕ, List, Ok, length, ap, sym, subst, ◌∙◌, inl, inr}
 use Rattle.std.specs.Option.{option_map}
 use Rattle.std.proofs.lemmas.Result.{err_from_is_err_and}
-use Rattle.cy_reader.specs.Record.{parts_of, header_end}
-use Rattle.cy_reader.specs.Heads.{heads_of, index_of}
-use Rattle.cy_reader.specs.private.Kept.{seen_index}
+use Rattle.cy_reader.specs.Record.{parts_of}
+use Rattle.cy_cut.specs.Sections.{header_end}
+use Rattle.cy_cut.specs.Heads.{heads_of, index_of, seen_index}
 use Rattle.cy_reader.specs.private.Loading.{met_of}
 use Rattle.cy_reader.proofs.Keeping.{parts_refused, kept_is}
 use Rattle.cy_reader.proofs.record.record_in.Goals as goal

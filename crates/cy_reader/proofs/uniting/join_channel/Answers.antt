@@ -1,5 +1,5 @@
 use Rattle.std.proofs.Common.{rules}
-use Rattle.cy_reader.proofs.JoinedChannels.{mentions_last, mentions_same}
+use Rattle.cy_reader.proofs.JoinedChannels.{mentions_last}
 use Rattle.cy_reader.proofs.uniting.join_channel.Goals as goal
 
 pub returns-clause-kept : goal.returns-clause-kept

@@ -1,7 +1,7 @@
-use Rattle.std.proofs.Common.{◌≡◌, ◌<◌, ◌≤◌, ◌+◌, ◌∷◌, [], suc, length, drop, get_or, sym, ap, ◌∙◌, arith, add-one, drop-cons, length-append}
+use Rattle.std.proofs.Common.{◌≡◌, ◌<◌, ◌+◌, ◌∷◌, [], suc, length, drop, sym, ap, ◌∙◌, arith, add-one, drop-cons, length-append}
 use Rattle.std.proofs.lemmas.List.{get_or_read}
 use Rattle.cy_reader.specs.declared.known.Known.{Known}
-use Rattle.cy_reader.specs.Record.{named_only, size_of, largest_channels}
+use Rattle.cy_reader.specs.Record.{named_only}
 use Rattle.cy_reader.specs.private.Alone.{name_in}
 use Rattle.cy_reader.proofs.Behind.{below_grow}
 use Rattle.cy_reader.proofs.JoinedChannels.{joined_one, numbers_more, one_small}

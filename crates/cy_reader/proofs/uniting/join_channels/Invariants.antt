@@ -1,6 +1,6 @@
 use Rattle.std.proofs.Common.{◌≡◌, ◌<◌, ◌≤◌, ℕ, length, drop, Some, All}
 use Rattle.std.specs.Prelude.{slice_index}
-use Rattle.cy_reader.specs.Joined.{channels_joined}
+use Rattle.cy_reader.specs.United.{channels_joined}
 use Rattle.cy_reader.specs.Record.{number_of}
 use Rattle.cy_reader.specs.private.Alone.{name_in}
 use Rattle.cy_reader.specs.private.Loading.{AreSmall, IsTied}

@@ -1,4 +1,3 @@
-use Rattle.std.proofs.Common.{rules}
 use Rattle.cy_reader.proofs.JoinedChannels.{joined_same, joined_united, united_small, united_there}
 use Rattle.cy_reader.proofs.uniting.unite.Goals as goal
 

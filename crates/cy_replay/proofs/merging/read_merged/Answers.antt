@@ -1,5 +1,5 @@
 use Rattle.std.proofs.lemmas.Result.{err_from_is_err_and}
-use Rattle.cy_reader.specs.Joined.{Gathered}
+use Rattle.cy_salvage.specs.Joined.{Gathered}
 use Rattle.cy_replay.proofs.JoinedRecords.{all_joined, join_stops, record_joins, record_stops}
 use Rattle.cy_replay.proofs.merging.read_merged.Goals as goal
 

@@ -2,8 +2,8 @@ use Rattle.std.proofs.Common.{ℕ, ◌<◌, length, subst}
 use Rattle.std.proofs.lemmas.List.Elements.{All-filter, All-get_or}
 use Rattle.std.proofs.lemmas.List.Sorted.{All-permutation}
 use Rattle.std.proofs.lemmas.Option.{slice_get_within, get_or_from_slice_get}
-use Rattle.cy_reader.specs.Play.{all_places, chosen, is_played}
-use Rattle.cy_reader.proofs.Playing.{places-below}
+use Rattle.cy_play_list.specs.Play.{all_places, chosen, is_played}
+use Rattle.cy_play_list.proofs.Playing.{places-below}
 use Rattle.cy_recording.proofs.recording.laws.played_places_are_there.Goals as goal
 
 pub returns : goal.returns

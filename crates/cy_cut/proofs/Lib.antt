@@ -1,0 +1,9 @@
+pub mod Outcomes
+pub mod PartBytes
+pub mod SectionRows
+pub mod Tiled
+pub mod Windows
+pub mod Ahead
+pub mod Judged
+pub mod CutTo
+pub mod Walked

@@ -1,0 +1,4 @@
+pub mod QuietParts
+pub mod SalvageNamed
+pub mod Salvaging
+pub mod JoinedOnce
