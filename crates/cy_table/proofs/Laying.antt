@@ -27,14 +27,14 @@ use Rattle.wake_core.specs.Parts.{routine_in, shown_by, AreFit}
 use Rattle.cy_table.specs.declared.part.Part.{Part}
 use Rattle.cy_table.specs.declared.part.Part.TheVariants as part
 use Rattle.cy_table.specs.Layout.{state_number, yes_or_no, stop_number}
-use Rattle.cy_table.specs.Seats.{Seat, TapeView}
+use Rattle.cy_table.specs.Seats.{Seat, Sight, TapeView}
 use Rattle.cy_table.specs.Seats.{AreSeen}
 use Rattle.cy_table.specs.Shown.{Rooms, AreRoomy, LiesOpen, kind_at, roles_at, queue_at, overflow_at, out_in, pending_at, routine_at, visitor_at, tape_at}
-use Rattle.cy_table.specs.Rule.{WereSo}
+use Rattle.cy_table.specs.Rule.{Way, AreSo, IsMarked}
 use Rattle.cy_table.specs.Plays.{calls_from, rule_for, seat_for}
+use Rattle.cy_table.specs.Sights.{first_sight, sight_for}
 use Rattle.cy_table.specs.Laws.{TableEnds}
 use Rattle.wake_core.specs.Laws.{FoundLaws, ThreadLaws}
-use Rattle.wake_core.specs.Laws.Events.{none}
 use Rattle.wake_core.specs.Rest.{IsAtRest, at_rest}
 use Rattle.wake_core.specs.Sound.{Sound}
 use Rattle.cy_table.specs.Ends.{AreWords, AreSlots, HaveFewCalls, laid}
@@ -295,15 +295,19 @@ are_roomy : (p : Parts) → AreFit p → AreRoomy (shown_by p).routes (shown_by 
 unfolding shown_by
 are_roomy p fit = record { tape = fit.roomy.messages; calls = fit.roomy.calls; arrivals = fit.roomy.arrivals }
 
--- A first seat that noted nothing.
-none_noted : (w : Plain) (v : Seat) → v.note ≡ [] → (j : ℕ) (u : Seat) → get_elem? (v ∷ []) j ≡ some u → WereSo w w u.note
-none_noted w v e zero u at = subst (λ (y : Seat). WereSo w w y.note) (some-injective v u at) (subst (WereSo w w) (sym e) tt)
+-- A way of no step, and a first seat that noted nothing.
+no_way : (w : Plain) → Way w w
+no_way w = record { at = λ k. w; steps = 0; starts = refl; ends = refl; each = λ k less. absurd (omega (arith, less)) }
+
+none_noted : (w : Plain) (v : Seat) → v.note ≡ [] → (j : ℕ) (u : Sight) → get_elem? (first_sight v ∷ []) j ≡ some u → IsMarked (no_way w) u
+none_noted w v e zero u at = subst (λ (y : Sight). IsMarked (no_way w) y) (some-injective (first_sight v) u at)
+    record { last = omega arith; own = record { rising = omega arith; so = subst (λ l. AreSo (no_way w).at l []) (sym e) tt }; others = tt }
 none_noted w v e (suc j) u at = absurd (some-ne-none u (sym at))
 
 -- A table of these words and slots meets its rule.
 pub begins : TableEnds → ThreadLaws → (key : World) (p : Parts) (words : List ℕ) (t : TapeView) → AreFit p → IsFixed (routes_in p.fixed) (counts_in p.fixed) → IsAtRest (plain_of key) → shown_by p ≡ at_rest (plain_of key)
     → AreWords (shown_by p) words → t ≡ record { messages = p.tape.items; room = vec_capacity p.tape }
-    → rule_for key (opening words (part.Tape t ∷ laid p.routines p.visitors) (seat_for key))
+    → rule_for key (opening words (part.Tape t ∷ laid p.routines p.visitors) (sight_for key))
 begins law threads key p words t fit fixed idle shown open_words is =
     let w = plain_of key in
     let slots = part.Tape t ∷ laid p.routines p.visitors in
@@ -317,7 +321,7 @@ begins law threads key p words t fit fixed idle shown open_words is =
       components = refl;
       planned = refl;
       stop = refl;
-      reached = none;
+      way = no_way w;
       noted = λ j v e. none_noted w (seat_for key) refl j v e;
       rules = law.start (rooms_of p) w words (map some slots) (calls_from w (length w.routes)) sound idle fixed_so roomy lies_so (all_seen w (length w.routes));
     }

@@ -14,6 +14,7 @@ pub mod Leaving
 pub mod Lying
 pub mod Laying
 pub mod Unpacking
+pub mod Marking
 pub mod Allowing
 pub mod Slots
 pub mod Counting

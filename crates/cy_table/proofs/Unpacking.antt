@@ -6,6 +6,7 @@ use mathlib.Core.Bool.{false≢true}
 use mathlib.Core.Option.{some, some-injective, some-ne-none}
 use lib.ListN.{get_elem?}
 use Rattle.atomic_table.specs.Table.{Final, Seen}
+use Rattle.atomic_table.proofs.Lists.{at_map}
 use Rattle.cy_msg.specs.declared.token.Token.{Token}
 use Rattle.cy_msg.specs.Tokens.{on_channel}
 use Rattle.cy_fuse.specs.declared.overflow.Overflow.TheVariants.{Newest}
@@ -23,7 +24,7 @@ use Rattle.wake_core.specs.Sound.{Sound}
 use Rattle.wake_core.specs.Fields.{read, no_routine, no_visitor, IsFixed, IsVisited, IsRoomy, queue_of}
 use Rattle.wake_core.specs.WorldOf.{routes_in, counts_in, stop_in}
 use Rattle.wake_core.specs.WorldCalls.{IsRoutineOf}
-use Rattle.wake_core.specs.Laws.{IsIdle, Events, ThreadLaws, OutsideLaws, AgreesWithin, SaysNothing}
+use Rattle.wake_core.specs.Laws.{IsIdle, ThreadLaws, OutsideLaws, AgreesWithin, SaysNothing}
 use Rattle.wake_core.specs.Way.{Replaces}
 use Rattle.wake_core.specs.TapeLaws.{UnsentLaws}
 use Rattle.wake_core.specs.Rest.{at_rest}
@@ -31,10 +32,10 @@ use Rattle.wake_core.specs.Parts.{routine_in, shown_by, AreFit}
 use Rattle.cy_table.specs.declared.part.Part.{Part}
 use Rattle.cy_table.specs.declared.part.Part.TheVariants as part
 use Rattle.cy_table.specs.Layout.{yes_or_no, named_by, stop_number}
-use Rattle.cy_table.specs.Seats.{Seat, Seen as Sight, TapeView}
+use Rattle.cy_table.specs.Seats.{Sight, Seen as SeenCalls, TapeView}
 use Rattle.cy_table.specs.Seats.{AreSeen, IsEmpty}
 use Rattle.cy_table.specs.Shown.{Rooms, AreRoomy, out_in, pending_at, routine_at, visitor_at, tape_at}
-use Rattle.cy_table.specs.Rule.{Ruled, WereSo, Knows}
+use Rattle.cy_table.specs.Rule.{Ruled, Way, IsMarked, Knows, seats_of}
 use Rattle.cy_table.specs.Steps.{Sits}
 use Rattle.cy_table.specs.Plays.{HasSeen}
 use Rattle.cy_table.specs.Laws.{TableEnds}
@@ -44,43 +45,44 @@ use Rattle.cy_table.proofs.Places.{place}
 use Rattle.cy_table.proofs.Laying.{read_of, some_route}
 
 -- A table that lies open, as its words and slots show it.
-pub record Ends (made : Plain) (v : Seat) (words : List ℕ) (slots : List Part) : Type 0 where
+pub record Ends (made : Plain) (v : Sight) (words : List ℕ) (slots : List Part) : Type 0 where
   pub world : Plain
   pub rooms : Rooms
   pub components : world.routes ≡ made.routes
   pub planned : world.counts ≡ made.counts
   pub given : world.stop ≡ made.stop
-  pub reached : Events made world
-  pub noted : WereSo made world v.note
+  pub way : Way made world
+  pub noted : IsMarked way v
   pub sound : Sound world
   pub idle : (p : ℕ) → IsIdle p world
   pub fixed : IsFixed world.routes world.counts
   pub roomy : AreRoomy world.routes world.counts rooms
-  pub knows : Knows world 0 v
+  pub knows : Knows world 0 v.seat
   pub words_are : AreWords world words
   pub slots_are : AreSlots rooms world slots
 
-pub shuts : TableEnds → (made : Plain) (id : ℕ) (v : Seat) (words : List ℕ) (slots : List Part) → id ≡ 0 → v.live ≢ 0 → IsEmpty v → v.split ≡ 0
+pub shuts : TableEnds → (made : Plain) (id : ℕ) (v : Sight) (words : List ℕ) (slots : List Part) → id ≡ 0 → v.seat.live ≢ 0 → IsEmpty v.seat → v.seat.split ≡ 0
     → Final (Seen (Ruled made) id v) words slots → Ends made v words slots
 shuts law made id v words slots player live empty alone f =
     let s = f.0 in
     let k = f.1.0 in
     let first = subst (λ j. get_elem? s.views j ≡ some v) player f.1.1 in
-    let sits : Sits k.rooms k.world s 0 v = record { rules = k.rules; at = first; live = live } in
-    let lies = law.open_table k.rooms k.world s v sits empty alone in
+    let seat = at_map (λ (u : Sight). u.seat) s.views 0 v first in
+    let sits : Sits k.rooms k.world (seats_of s) 0 v.seat = record { rules = k.rules; at = seat; live = live } in
+    let lies = law.open_table k.rooms k.world (seats_of s) v.seat sits empty alone in
     record {
       world = k.world;
       rooms = k.rooms;
       components = k.components;
       planned = k.planned;
       given = k.stop;
-      reached = k.reached;
+      way = k.way;
       noted = k.noted 0 v first;
       sound = k.rules.sound;
-      idle = law.idle k.rooms k.world s v sits empty alone;
+      idle = law.idle k.rooms k.world (seats_of s) v.seat sits empty alone;
       fixed = k.rules.fixed;
       roomy = k.rules.roomy;
-      knows = k.rules.knows 0 v first;
+      knows = k.rules.knows 0 v.seat seat;
       words_are = subst (AreWords k.world) f.2 record {
         wide = lies.wide;
         clock_is = lies.clock_is;
@@ -148,6 +150,16 @@ taken_more {words} {slots} {k} {rs} {vs} {bs} r v b h at_routine at_visitor at_f
     | inl e ↦ read_behind true bs b c (e ∙ sym h.spent_many) ∙ at_flag ∙ ap (λ j. slice_index words (4 * j + 6) == 1) (sym e)
     | inr l ↦ read_before true bs b c (omega (arith, l, h.spent_many)) ∙ h.flag c l
   ];
+}
+
+pub none_taken : {words : List ℕ} {slots : List Part} {rs : List RoutineView} {vs : List VisitorView} {bs : List Bool} → rs ≡ [] → vs ≡ [] → bs ≡ [] → TakenOut words slots 0 rs vs bs
+none_taken a b d = record {
+  routines_many = ap length a;
+  visitors_many = ap length b;
+  spent_many = ap length d;
+  routine = λ c less. absurd (omega (arith, less));
+  visitor = λ c less. absurd (omega (arith, less));
+  flag = λ c less. absurd (omega (arith, less));
 }
 
 pub taken_as : {words words' : List ℕ} {slots slots' : List Part} {n n' : ℕ} {rs rs' : List RoutineView} {vs vs' : List VisitorView} {bs bs' : List Bool} → words ≡ words' → slots ≡ slots' → n ≡ n' → rs' ≡ rs → vs' ≡ vs → bs' ≡ bs
@@ -223,7 +235,7 @@ read_past g d [] i le = refl
 read_past g d (x ∷ xs) zero le = absurd (omega (arith, le))
 read_past g d (x ∷ xs) (suc i) le = read_past g d xs i (omega (arith, le))
 
-seen_in : (calls : ℕ → List Call) (c : ℕ) (xs : List Sight) → AreSeen calls xs → HasSeen c (calls c) xs
+seen_in : (calls : ℕ → List Call) (c : ℕ) (xs : List SeenCalls) → AreSeen calls xs → HasSeen c (calls c) xs
 seen_in calls c [] all = tt
 seen_in calls c (x ∷ xs) all = ((λ e. subst (λ k. take (length x.calls) (calls k) ≡ x.calls) e all.0), seen_in calls c xs all.1)
 
@@ -238,7 +250,7 @@ few_played routes tape = fewer (λ (t : Token). not (Rattle.std.proofs.Common.is
         go true l = omega (arith, l)
         go false l = omega (arith, l)
 
-module _ {made : Plain} {v : Seat} {words : List ℕ} {slots : List Part} (e : Ends made v words slots) (p : Parts)
+module _ {made : Plain} {v : Sight} {words : List ℕ} {slots : List Part} (e : Ends made v words slots) (p : Parts)
     (taken : TakenOut words slots (length made.routes) p.routines p.visitors p.spent) (rest : AreRest (length made.routes) words slots p) (fr : routes_in p.fixed ≡ made.routes) (fc : counts_in p.fixed ≡ made.counts) (fs : stop_in p.fixed ≡ made.stop) where
   inside : (c : ℕ) → c < length e.world.routes → c < length made.routes
   inside c less = omega (arith, less, ap length e.components)
@@ -383,22 +395,22 @@ module _ {made : Plain} {v : Seat} {words : List ℕ} {slots : List Part} (e : E
     sound = sound_of threads outside;
   }
 
-  pub calls_seen : (c : ℕ) → c < length (shown_by p).routes → HasSeen c ((shown_by p).calls c) v.seen
+  pub calls_seen : (c : ℕ) → c < length (shown_by p).routes → HasSeen c ((shown_by p).calls c) v.seat.seen
   unfolding shown_by
-  calls_seen c less = subst (λ (l : List Call). HasSeen c l v.seen) (sym (ap (λ (r : RoutineView). r.calls) (its_routine c (omega (arith, less, ap length routes_same))))) (seen_in e.world.calls c v.seen e.knows.calls)
+  calls_seen c less = subst (λ (l : List Call). HasSeen c l v.seat.seen) (sym (ap (λ (r : RoutineView). r.calls) (its_routine c (omega (arith, less, ap length routes_same))))) (seen_in e.world.calls c v.seat.seen e.knows.calls)
 
-  pub played_left : played_of (shown_by p).routes (shown_by p).tape ≡ v.played
+  pub played_left : played_of (shown_by p).routes (shown_by p).tape ≡ v.seat.played
   unfolding shown_by
   played_left = ap₂ played_of routes_same tape_same ∙ sym (e.knows.player refl).0
 
-  pub clock_left : (shown_by p).clock ≡ v.clock
+  pub clock_left : (shown_by p).clock ≡ v.seat.clock
   unfolding shown_by
   clock_left = clock_same ∙ sym (e.knows.player refl).1
 
-  pub closing_left : (shown_by p).closing ≡ v.closing
+  pub closing_left : (shown_by p).closing ≡ v.seat.closing
   unfolding shown_by
   closing_left = closing_same ∙ sym (e.knows.player refl).2
 
-  pub raised_left : (shown_by p).raised ≡ v.raised
+  pub raised_left : (shown_by p).raised ≡ v.seat.raised
   unfolding shown_by
   raised_left = raised_same ∙ sym (e.knows.player refl).3

@@ -1,10 +1,10 @@
 -- What the steps of an update may do, by their laws.
-use Rattle.std.proofs.Common.{ℕ, ◌+◌, ◌*◌, ◌==◌, ◌≡◌, ◌≢◌, ◌&&◌, not, cond, Bool, true, false, refl, sym, ◌∙◌, ap, subst, inr, Some, slice_index, arith}
+use Rattle.std.proofs.Common.{ℕ, ◌+◌, ◌*◌, ◌==◌, ◌≡◌, ◌≢◌, ◌&&◌, not, cond, Bool, true, false, refl, sym, ◌∙◌, ap, subst, inl, inr, Some, slice_index, arith}
 use Rattle.std.proofs.lemmas.Bool.Decides.{nat_tests}
 use mathlib.Core.Option as maybe
 use mathlib.Core.Option.{some}
 use lib.ListN.{get_elem?}
-use Rattle.atomic_table.specs.Table.{State as Table, Allows, stepped, step, keeps}
+use Rattle.atomic_table.specs.Table.{State as Table, stepped, step, keeps}
 use Rattle.cy_comp.specs.declared.state.State.{State}
 use Rattle.cy_comp.specs.declared.state.State.TheVariants.{Ready, DataWait, Sleep, Finished}
 use Rattle.cy_comp.specs.Routine.{RoutineView}
@@ -12,59 +12,63 @@ use Rattle.wake_core.specs.declared.phase.Phase.TheVariants.{Woken, Known}
 use Rattle.wake_core.specs.Plain.{Plain}
 use Rattle.wake_core.specs.Events.{IsDue, is_waiting, phase_after_spend}
 use Rattle.wake_core.specs.Laws.Event.{ready, spend}
-use Rattle.wake_core.specs.Laws.Events.{none, more}
 use Rattle.wake_core.specs.Turns.{is_due}
 use Rattle.cy_table.specs.declared.part.Part.{Part}
 use Rattle.cy_table.specs.Seats.{Seat, Grip}
 use Rattle.cy_table.specs.Seats.Entry.{Found}
-use Rattle.cy_table.specs.Rule.{Ruled, WasSo, WereSo}
 use Rattle.cy_table.specs.Steps.{Sits, readying, MayReady, spent_note, spending, MaySpend}
 use Rattle.cy_table.specs.Laws.{StateStores, FlagSwaps}
 use Rattle.cy_table.specs.Plays.{Thread, in_hand, readied, spent}
 use Rattle.cy_table.proofs.Places.{there}
 use Rattle.cy_table.proofs.Holding.{routine_known}
-use Rattle.cy_table.proofs.Allowing.{were_then, were_more, ruled_by, ruled_noting}
+use Rattle.cy_table.proofs.Marking.{ShowsFor, Notes, Leaves, Plays}
+use Rattle.cy_table.proofs.Allowing.{noting_then}
 
--- The rule after a store of READY: the croutine is so.
-readied_then : StateStores → {made : Plain} {s : Table Part Seat} (k : Ruled made s) (id : ℕ) (m : Thread) → get_elem? s.views id ≡ some m.0 → m.0.live ≢ 0 → m.0.hand ≡ Some (in_hand m.0) → MayReady m.0 (in_hand m.0)
-    → Ruled made (stepped s (4 * (in_hand m.0).croutine + 5) 0 id m.1 (readying m.0 (in_hand m.0)) keeps)
+-- What a store of READY leaves: the croutine is so.
+readied_then : StateStores → {made : Plain} {s : Table Part Seat} (k : ShowsFor made s) (id : ℕ) (m : Thread) → get_elem? s.views id ≡ some m.0 → m.0.live ≢ 0 → m.0.hand ≡ Some (in_hand m.0) → MayReady m.0 (in_hand m.0)
+    → Leaves k.rooms k.world m.0 (readying m.0 (in_hand m.0)) (stepped s (4 * (in_hand m.0).croutine + 5) 0 id m.1 (readying m.0 (in_hand m.0)) keeps)
 readied_then law k id m at live has may =
     let g = in_hand m.0 in
     let b = law.ready k.rooms k.world _ id m.0 g m.1 record { rules = k.rules; at = at; live = live } has may in
-    ruled_noting k id (readying m.0 g) refl m.0 at (λ w u e. ready e) b (Found g.croutine Ready) refl (inr (ap (λ (w : Plain). w.states g.croutine) b.happens.effect ∙ there g.croutine Ready k.world.states g.croutine refl))
+    noting_then k m.0 (readying m.0 g) (λ w u e. ready e) b (Found g.croutine Ready) refl (ap (λ (w : Plain). w.states g.croutine) b.happens.effect ∙ there g.croutine Ready k.world.states g.croutine refl)
 
--- .. and after a swap of a flag: it is in the state that was found, where it was not woken.
-noted_so : (from to : Plain) (v : Seat) (g : Grip) (woken : Bool) → WereSo from to v.note → WasSo from to (Found g.croutine g.routine.state) → WereSo from to (spent_note v g (cond woken Woken Known))
-noted_so from to v g true so one = so
-noted_so from to v g false so one = were_more from to v.note (Found g.croutine g.routine.state) so one
+-- .. and a swap of a flag: it is in the state that was found, where it was not woken.
+spent_notes : (w : Plain) (v v' : Seat) (g : Grip) (woken : Bool) → v'.note ≡ spent_note v g (cond woken Woken Known) → w.states g.croutine ≡ g.routine.state → Notes w v v'
+spent_notes w v v' g true is so = inl is
+spent_notes w v v' g false is so = inr (Found g.croutine g.routine.state, is, so)
 
-spent_then : FlagSwaps → {made : Plain} {s : Table Part Seat} (k : Ruled made s) (id : ℕ) (m : Thread) → get_elem? s.views id ≡ some m.0 → m.0.live ≢ 0 → m.0.hand ≡ Some (in_hand m.0) → MaySpend m.0 (in_hand m.0)
-    → Ruled made (stepped s (4 * (in_hand m.0).croutine + 6) 1 id m.1 (spending m.0 (in_hand m.0) (slice_index s.words (4 * (in_hand m.0).croutine + 6) == 1)) keeps)
+spent_then : FlagSwaps → {made : Plain} {s : Table Part Seat} (k : ShowsFor made s) (id : ℕ) (m : Thread) → get_elem? s.views id ≡ some m.0 → m.0.live ≢ 0 → m.0.hand ≡ Some (in_hand m.0) → MaySpend m.0 (in_hand m.0)
+    → let v' = spending m.0 (in_hand m.0) (slice_index s.words (4 * (in_hand m.0).croutine + 6) == 1) in Leaves k.rooms k.world m.0 v' (stepped s (4 * (in_hand m.0).croutine + 6) 1 id m.1 v' keeps)
 spent_then law {made} {s} k id m at live has may =
     let g = in_hand m.0 in
     let sits : Sits k.rooms k.world s id m.0 = record { rules = k.rules; at = at; live = live } in
     let b = law.spend k.rooms k.world s id m.0 g m.1 sits has may in
     let found : k.world.states g.croutine ≡ g.routine.state = sym (ap (λ (x : RoutineView). x.state) (routine_known k.rooms k.world s id m.0 sits g has)) in
-    let v' = spending m.0 g (slice_index s.words (4 * g.croutine + 6) == 1) in
-    let noted : (o : Bool) → WereSo made b.world (spent_note m.0 g (cond o Woken Known)) = λ o.
-    noted_so made b.world m.0 g o (were_then made (spend b.happens) m.0.note (k.noted id m.0 at)) record { world = k.world; before = k.reached; behind = more (spend b.happens) none; is_so = found } in
-    ruled_by k id v' refl (λ w u e. spend e) b (noted (is_waiting g.routine.state && not (slice_index s.words (4 * g.croutine + 6) == 1)))
+    let was_spent = slice_index s.words (4 * g.croutine + 6) == 1 in record {
+      world = b.world;
+      routes = b.routes;
+      counts = b.counts;
+      stop = b.stop;
+      moves = inr (spend b.happens);
+      notes = spent_notes b.world m.0 (spending m.0 g was_spent) g (is_waiting g.routine.state && not was_spent) refl (ap (λ (w : Plain). w.states g.croutine) b.happens.effect ∙ found);
+      rules = b.rules;
+    }
 
 pub readies : StateStores → (made : Plain) (slots id c : ℕ) (m : Thread) → m.0.live ≢ 0 → m.0.hand ≡ Some (in_hand m.0) → (in_hand m.0).croutine ≡ c → MayReady m.0 (in_hand m.0)
-    → Allows (Ruled made) slots id m (4 * c + 5) (λ _. 0) (λ _. readied (step slots (4 * c + 5) 0 0 maybe.none) m 0)
-readies law made slots id c m live has same may = subst (λ d. Allows (Ruled made) slots id m (4 * d + 5) (λ _. 0) (λ _. readied (step slots (4 * d + 5) 0 0 maybe.none) m 0)) same
-    (λ s k deep at bound. (readying m.0 (in_hand m.0), keeps, tt, readied_then law k id m at live has may, refl))
+    → Plays made slots id m (4 * c + 5) (λ _. 0) (λ _. readied (step slots (4 * c + 5) 0 0 maybe.none) m 0)
+readies law made slots id c m live has same may = subst (λ d. Plays made slots id m (4 * d + 5) (λ _. 0) (λ _. readied (step slots (4 * d + 5) 0 0 maybe.none) m 0)) same
+    record { each = λ s k deep at bound. (readying m.0 (in_hand m.0), keeps, tt, readied_then law k id m at live has may, refl) }
 
 pub spends : FlagSwaps → (made : Plain) (slots id c : ℕ) (m : Thread) → m.0.live ≢ 0 → m.0.hand ≡ Some (in_hand m.0) → (in_hand m.0).croutine ≡ c → MaySpend m.0 (in_hand m.0)
-    → Allows (Ruled made) slots id m (4 * c + 6) (λ _. 1) (spent (step slots (4 * c + 6) 1 0 maybe.none) m)
-spends law made slots id c m live has same may = subst (λ d. Allows (Ruled made) slots id m (4 * d + 6) (λ _. 1) (spent (step slots (4 * d + 6) 1 0 maybe.none) m)) same
-    (λ s k deep at bound. (
+    → Plays made slots id m (4 * c + 6) (λ _. 1) (spent (step slots (4 * c + 6) 1 0 maybe.none) m)
+spends law made slots id c m live has same may = subst (λ d. Plays made slots id m (4 * d + 6) (λ _. 1) (spent (step slots (4 * d + 6) 1 0 maybe.none) m)) same
+    record { each = λ s k deep at bound. (
       spending m.0 (in_hand m.0) (slice_index s.words (4 * (in_hand m.0).croutine + 6) == 1),
       keeps,
       tt,
       spent_then law k id m at live has may,
       refl,
-    ))
+    ) }
 
 -- A croutine is due where the judgement says so.
 pub due_is : (st : State) (time : ℕ) → is_due st time ≡ true → IsDue st time

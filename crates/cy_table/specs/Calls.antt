@@ -19,7 +19,7 @@ use Rattle.cy_table.specs.declared.hold.Found.{Found}
 use Rattle.cy_table.specs.declared.hold.Hold.{Hold}
 use Rattle.cy_table.specs.declared.table.FlagTable.{FlagTable}
 use Rattle.cy_table.specs.Layout.{routine_slot, visitor_slot, tape_slot}
-use Rattle.cy_table.specs.Seats.{Seat, TapeView}
+use Rattle.cy_table.specs.Seats.{Seat, Sight, TapeView}
 use Rattle.cy_table.specs.Seats.{IsEmpty}
 use Rattle.cy_table.specs.Shown.{roles_at, queue_at, overflow_at}
 use Rattle.cy_comp.specs.declared.state.State.{State}
@@ -28,6 +28,7 @@ use Rattle.cy_table.specs.Steps.{MayReady, readying, MaySpend, spending, seeing}
 use Rattle.cy_table.specs.Steps.{acquiring, failing, MayAsk, MayYield, next_state, MayRelease}
 use Rattle.cy_table.specs.Steps.{MayClose, MayCheck, MayRaise}
 use Rattle.cy_table.specs.Plays.{Thread, in_hand, HasSeen, but_first, later_fills, MayPut}
+use Rattle.cy_table.specs.Sights.{thread_in, Since}
 use Rattle.cy_table.specs.Hold.{with_found}
 
 -- The world that a table was made of.
@@ -36,10 +37,13 @@ made_of t = plain_of t.table.shared.key.value
 
 -- The thread of a pass, and what it knows; the thread's number, of which 0 is the player's.
 abbrev pub thread_of : Pass → Thread
-thread_of p = p.seat.me
+thread_of p = thread_in p.seat.me
 
 abbrev pub seat_of : Pass → Seat
-seat_of p = p.seat.me.0
+seat_of p = p.seat.me.0.seat
+
+abbrev pub sight_of : Pass → Sight
+sight_of p = p.seat.me.0
 
 abbrev pub pass_number : Pass → ℕ
 pass_number p = p.seat.id
@@ -76,6 +80,11 @@ pub record IsAt (t : FlagTable) (p : Pass) : Type 0 where
 pub record Stays (t : FlagTable) (p q : Pass) : Type 0 where
   pub at : IsAt t q
   pub number : pass_number q ≡ pass_number p
+
+-- What a call noted, in order: each entry by a step of the pass in that call, so the rule of the
+-- table says that it was so behind the last step of the pass before the call.
+abbrev pub NotedSince : (p q : Pass) → Type 0
+NotedSince p q = Since (sight_of p) (sight_of q)
 
 -- The component in hand was stepped on each tuple that a fetch gave.
 abbrev pub IsStepped : Hold → Type 0

@@ -26,8 +26,8 @@ use Rattle.cy_table.specs.Layout.{stop_number}
 use Rattle.cy_table.specs.Seats.{IsEmpty}
 use Rattle.cy_table.specs.Shown.{Rooms, routine_at, visitor_at, tape_at}
 use Rattle.cy_table.specs.Plays.{HasSeen, seat_for}
-use Rattle.cy_table.specs.Rule.{WereSo}
-use Rattle.cy_table.specs.Calls.{made_of, thread_of, seat_of, IsPlayer}
+use Rattle.cy_table.specs.Rule.{Way, IsMarked}
+use Rattle.cy_table.specs.Calls.{made_of, thread_of, seat_of, sight_of, IsPlayer}
 
 -- A table that was made of a world, with the player's pass, which has seen the world's calls. The
 -- table's rule says that it shows this world, until events lead to others.
@@ -50,13 +50,14 @@ pub record IsReached (from w : Plain) : Type 0 where
   pub replaced : Replaces world w
 
 -- A world that a table leaves to the player: one at rest, which events reached from the world that
--- the table was made of, with its components, counts and stop; what the player noted was so on the
--- way. It has the played messages, the clock and the closing that the player knows, and its stop is
+-- the table was made of, with its components, counts and stop. What the player noted, and the
+-- threads that were joined, was so on one way to it, each note in its order. It has the played messages, the clock and the closing that the player knows, and its stop is
 -- raised just where the player knows so; and each component with all calls that the player has
 -- seen, those of the passes that were joined among them.
 pub record IsLeft (t : FlagTable) (p : Pass) (w : Plain) : Type 0 where
   pub reached : IsReached (made_of t) w
-  pub noted : WereSo (made_of t) reached.world (seat_of p).note
+  pub way : Way (made_of t) reached.world
+  pub noted : IsMarked way (sight_of p)
   pub routes : w.routes ≡ (made_of t).routes
   pub counts : w.counts ≡ (made_of t).counts
   pub stop : w.stop ≡ (made_of t).stop

@@ -5,6 +5,7 @@ pub mod Rule
 pub mod Steps
 pub mod Laws
 pub mod Plays
+pub mod Sights
 pub mod Hold
 pub mod Calls
 pub mod Ends

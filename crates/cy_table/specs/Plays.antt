@@ -21,7 +21,7 @@ use Rattle.cy_table.specs.declared.part.Part.{Part}
 use Rattle.cy_table.specs.declared.part.Part.TheVariants as part
 use Rattle.cy_table.specs.Layout.{hold_word, routine_slot, visitor_door, visitor_slot}
 use Rattle.cy_table.specs.Layout.{tape_slot}
-use Rattle.cy_table.specs.Seats.{Seat, Seen, Grip, Visit, TapeView}
+use Rattle.cy_table.specs.Seats.{Seat, Sight, Seen, Grip, Visit, TapeView}
 use Rattle.cy_table.specs.Shown.{roles_at, queue_at, overflow_at}
 use Rattle.cy_table.specs.Rule.{Ruled}
 use Rattle.cy_table.specs.Steps.{acquiring, failing, releasing, asking, yielding, first_seat}
@@ -36,7 +36,7 @@ calls_from w Rattle.std.specs.Prelude.zero = []
 calls_from w (Rattle.std.specs.Prelude.suc c) =
     record { component = c; calls = w.calls c } ∷ calls_from w c
 
-abbrev pub rule_for : World → Table Part Seat → Type 0
+abbrev pub rule_for : World → Table Part Sight → Type 0
 rule_for w = Ruled (plain_of w)
 
 abbrev pub seat_for : World → Seat

@@ -1,8 +1,9 @@
 -- The rule of the table: between any two steps, the words, the values at home in the slots and the
--- seats of all threads show one plain world, to which events led from the world that the table was
--- made of.
-use Rattle.std.specs.Prelude.{ℕ, ◌+◌, ◌≡◌, ◌≢◌, ◌≤◌, ◌<◌, Bool, true, List, [], ◌∷◌, length}
-use Rattle.std.specs.Prelude.{Option}
+-- seats of all threads show one plain world. A way leads to it from the world that the table was
+-- made of, by at most one event a step, and what a thread noted was so behind the step that noted
+-- it.
+use Rattle.std.specs.Prelude.{ℕ, ◌+◌, ◌≡◌, ◌≢◌, ◌≤◌, ◌<◌, ◌⊎◌, Bool, true, List, [], ◌∷◌}
+use Rattle.std.specs.Prelude.{length, map, Option}
 use mathlib.Core.Option.{some}
 use lib.ListN.{get_elem?}
 use Rattle.atomic_table.specs.Table.{State as Table}
@@ -16,13 +17,14 @@ use Rattle.wake_core.specs.Run.{played_of}
 use Rattle.wake_core.specs.Plain.{Plain, hand}
 use Rattle.wake_core.specs.Fields.{IsFixed}
 use Rattle.wake_core.specs.Sound.{Sound}
-use Rattle.wake_core.specs.Laws.{Events}
+use Rattle.wake_core.specs.Laws.{Event}
 use Rattle.cy_table.specs.declared.part.Part.{Part}
 use Rattle.cy_table.specs.Layout.{clock_word, closing_word, tape_door, hold_word, state_word}
 use Rattle.cy_table.specs.Layout.{flag_word, visitor_door, tape_slot, routine_slot, visitor_slot}
 use Rattle.cy_table.specs.Layout.{words_for, slots_for, state_number, yes_or_no, stop_word}
 use Rattle.cy_table.specs.Layout.{stop_number}
-use Rattle.cy_table.specs.Seats.{Seat, Entry, TapeView, IsEmpty, AreSeen, total_live}
+use Rattle.cy_table.specs.Seats.{Seat, Entry, Noted, Sight, TapeView, IsEmpty, AreSeen}
+use Rattle.cy_table.specs.Seats.{Rise, total_live}
 use Rattle.cy_table.specs.Seats.Entry.{Busy, Found, Saw, Clock, Closing}
 use Rattle.cy_table.specs.Shown.{Spread, spread, routine_in, visitor_in, tape_in, routine_of}
 use Rattle.cy_table.specs.Shown.{visitor_of, hand_of, Kept, Rooms, AreRoomy, roles_at, queue_at}
@@ -108,25 +110,54 @@ IsSo w (Saw c visitor) = IsVisitorOf w c visitor
 IsSo w (Clock time) = w.clock ≡ time
 IsSo w (Closing closing) = w.closing ≡ closing
 
--- It was so in a world on the way from one world to another; and so was each entry of a note.
-pub record WasSo (from to : Plain) (entry : Entry) : Type 0 where
-  pub world : Plain
-  pub before : Events from world
-  pub behind : Events world to
-  pub is_so : IsSo world entry
+-- A way from one world to another, step by step. Each step is one event, or leaves the world as it
+-- is.
+abbrev pub Moves : Plain → Plain → Type 0
+Moves w v = (v ≡ w) ⊎ Event w v
 
-abbrev pub WereSo : (from to : Plain) → List Entry → Type 0
-WereSo from to [] = Unit {0}
-WereSo from to (x ∷ rest) = WasSo from to x × WereSo from to rest
+pub record Way (from to : Plain) : Type 0 where
+  pub at : ℕ → Plain
+  pub steps : ℕ
+  pub starts : at 0 ≡ from
+  pub ends : at steps ≡ to
+  pub each : (k : ℕ) → k < steps → Moves (at k) (at (k + 1))
 
--- The rule of a table that was made of a world: events led from this to the world that the table
--- shows, and whatever a thread noted was so in a world on the way.
-pub record Ruled (made : Plain) (s : Table Part Seat) : Type 0 where
+-- There are as many marks as entries, and each entry is so in the world behind the step of its
+-- mark.
+abbrev pub AreSo : (ℕ → Plain) → List Entry → List ℕ → Type 0
+AreSo at [] [] = Unit {0}
+AreSo at [] (k ∷ marks) = ⊥
+AreSo at (x ∷ entries) [] = ⊥
+AreSo at (x ∷ entries) (k ∷ marks) = IsSo (at k) x × AreSo at entries marks
+
+-- .. and they were noted in order, up to a step.
+pub record WereSo (at : ℕ → Plain) (last : ℕ) (entries : List Entry) (marks : List ℕ) : Type 0 where
+  pub rising : Rise 0 last marks
+  pub so : AreSo at entries marks
+
+abbrev pub AllWereSo : (ℕ → Plain) → (last : ℕ) → List Noted → Type 0
+AllWereSo at last [] = Unit {0}
+AllWereSo at last (n ∷ rest) = WereSo at last n.entries n.marks × AllWereSo at last rest
+
+-- What a thread noted was so on a way, and so was what was handed on to it.
+pub record IsMarked {from to : Plain} (way : Way from to) (v : Sight) : Type 0 where
+  pub last : v.last ≤ way.steps
+  pub own : WereSo way.at v.last v.seat.note v.marks
+  pub others : AllWereSo way.at way.steps v.handed
+
+-- The table without the numbers of steps.
+abbrev pub seats_of : Table Part Sight → Table Part Seat
+seats_of s = record { words = s.words; homes = s.homes; views = map (λ v. v.seat) s.views }
+
+-- The rule of a table that was made of a world: there is a way from this to the world that the
+-- table shows, with a step for each step of a thread, and each entry that a thread noted was so on
+-- it behind the step that noted it.
+pub record Ruled (made : Plain) (s : Table Part Sight) : Type 0 where
   pub world : Plain
   pub rooms : Rooms
   pub components : world.routes ≡ made.routes
   pub planned : world.counts ≡ made.counts
   pub stop : world.stop ≡ made.stop
-  pub reached : Events made world
-  pub noted : (j : ℕ) (v : Seat) → get_elem? s.views j ≡ some v → WereSo made world v.note
-  pub rules : Rules rooms world s
+  pub way : Way made world
+  pub noted : (j : ℕ) (v : Sight) → get_elem? s.views j ≡ some v → IsMarked way v
+  pub rules : Rules rooms world (seats_of s)

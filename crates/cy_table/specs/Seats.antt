@@ -1,5 +1,6 @@
 -- What a thread at the table knows: plain data, which each of its steps changes.
-use Rattle.std.specs.Prelude.{ℕ, ◌+◌, ◌≡◌, Bool, false, List, [], ◌∷◌, length, take, Option, None}
+use Rattle.std.specs.Prelude.{ℕ, ◌+◌, ◌≡◌, ◌≤◌, ◌<◌, Bool, false, List, [], ◌∷◌, length, take}
+use Rattle.std.specs.Prelude.{Option, None}
 use Rattle.cy_msg.specs.declared.stop.Stop.{Stop}
 use Rattle.cy_msg.specs.declared.token.Token.{Token}
 use Rattle.cy_fuse.specs.Visitor.{VisitorView}
@@ -73,6 +74,22 @@ pub record Seat : Type 0 where
   pub split : ℕ
   pub live : ℕ
 
+-- What a thread noted, as it is handed on when the thread is joined: the entries in order, and the
+-- number of the step that noted each.
+pub record Noted : Type 0 where
+  pub entries : List Entry
+  pub marks : List ℕ
+
+-- What a thread knows, with numbers of steps. Each step of any thread has the next number, from 1
+-- on. No thread can read such a number: they are for contracts alone.
+pub record Sight : Type 0 where
+  pub seat : Seat
+  -- The number of the thread's last step, and those of the steps that noted the entries.
+  pub last : ℕ
+  pub marks : List ℕ
+  -- What the threads noted that were joined into this one.
+  pub handed : List Noted
+
 -- A seat that has nothing and owes nothing.
 abbrev pub idle_seat : List Route → (counts : List ℕ) → Option Stop → List Seen → (live : ℕ) → Seat
 idle_seat routes counts stop seen live = record {
@@ -105,6 +122,12 @@ abbrev pub AreSeen : (ℕ → List Call) → List Seen → Type 0
 AreSeen calls [] = Unit {0}
 AreSeen calls (x ∷ rest) =
     (take (length x.calls) (calls x.component) ≡ x.calls) × AreSeen calls rest
+
+-- Numbers rise: the first is above `low`, each other above the one before it, and none is above
+-- `high`.
+abbrev pub Rise : (low high : ℕ) → List ℕ → Type 0
+Rise low high [] = low ≤ high
+Rise low high (k ∷ rest) = (low < k) × Rise k high rest
 
 -- A seat has nothing and owes nothing.
 pub record IsEmpty (v : Seat) : Type 0 where

@@ -14,7 +14,7 @@ use wake_core::CoreError;
 pub struct Pass {
     pub(crate) seat: Seat<Part, View>,
     pub(crate) split_off: u32,
-    ghost counted: { split_off ≡ seat.me.0.split },
+    ghost counted: { split_off ≡ seat.me.0.seat.split },
 }
 
 impl Pass {

@@ -1,10 +1,9 @@
 // The rule of the table as a type, and what each of its steps tells the thread that makes it.
-ghost use Rattle.cy_table.specs.Plays.{rule_for, seat_for, acquired, released, asked, yielded};
+ghost use Rattle.cy_table.specs.Plays.{rule_for, acquired, released, asked, yielded};
 ghost use Rattle.cy_table.specs.Plays.{saw, ticked, heeded, closed, looked, cleared};
 ghost use Rattle.cy_table.specs.Plays.{readied, spent, visited, filled, fetched, entered, taped};
 ghost use Rattle.cy_table.specs.Plays.{sent, checked, stopped};
-ghost use Rattle.cy_table.specs.Steps.{splitting, split_off, joining};
-ghost use Rattle.cy_table.specs.Seats.{no_seat};
+ghost use Rattle.cy_table.specs.Sights.{counted, sight_for, staying, leaving, uniting, no_sight};
 
 use crate::part::Part;
 use crate::view::View;
@@ -18,163 +17,163 @@ pub struct Flags;
 impl TableRule<Part, View, Snapshot<World>> for Flags {
     ghost holds = { λ key. rule_for key.value };
 
-    ghost first = { λ key. seat_for key.value };
+    ghost first = { λ key. sight_for key.value };
 }
 
 // The swap of a hold word.
 pub struct Acquire;
 
 impl Play<Part, View> for Acquire {
-    ghost then = { acquired };
+    ghost then = { counted acquired };
 }
 
 // The store of a hold word.
 pub struct Release;
 
 impl Play<Part, View> for Release {
-    ghost then = { released };
+    ghost then = { counted released };
 }
 
 // The store of a state before a fetch.
 pub struct Ask;
 
 impl Play<Part, View> for Ask {
-    ghost then = { asked };
+    ghost then = { counted asked };
 }
 
 // The store of what the croutine in hand is to do next.
 pub struct Yield;
 
 impl Play<Part, View> for Yield {
-    ghost then = { yielded };
+    ghost then = { counted yielded };
 }
 
 // The load of the clock.
 pub struct See;
 
 impl Play<Part, View> for See {
-    ghost then = { saw };
+    ghost then = { counted saw };
 }
 
 // The player's store of the clock.
 pub struct Tick;
 
 impl Play<Part, View> for Tick {
-    ghost then = { ticked };
+    ghost then = { counted ticked };
 }
 
 // The load of the word that says whether the run is closing.
 pub struct Heed;
 
 impl Play<Part, View> for Heed {
-    ghost then = { heeded };
+    ghost then = { counted heeded };
 }
 
 // The player's store of that word.
 pub struct Close;
 
 impl Play<Part, View> for Close {
-    ghost then = { closed };
+    ghost then = { counted closed };
 }
 
 // The load of the stop word.
 pub struct Check;
 
 impl Play<Part, View> for Check {
-    ghost then = { checked };
+    ghost then = { counted checked };
 }
 
 // The player's store of that word.
 pub struct Raise;
 
 impl Play<Part, View> for Raise {
-    ghost then = { stopped };
+    ghost then = { counted stopped };
 }
 
 // The load of a state by who filled the component's visitor.
 pub struct Look;
 
 impl Play<Part, View> for Look {
-    ghost then = { looked };
+    ghost then = { counted looked };
 }
 
 // The store of a flag.
 pub struct Clear;
 
 impl Play<Part, View> for Clear {
-    ghost then = { cleared };
+    ghost then = { counted cleared };
 }
 
 // A seat is split off the player's.
 pub struct Off;
 
 impl Split<View> for Off {
-    ghost left = { splitting };
+    ghost left = { staying };
 
-    ghost right = { split_off };
+    ghost right = { leaving };
 }
 
 // A seat is joined into the player's.
 pub struct Into;
 
 impl Join<View> for Into {
-    ghost both = { joining };
+    ghost both = { uniting };
 
-    ghost spent = { no_seat };
+    ghost spent = { no_sight };
 }
 
 // The store of READY.
 pub struct Ready;
 
 impl Play<Part, View> for Ready {
-    ghost then = { readied };
+    ghost then = { counted readied };
 }
 
 // The swap of a flag.
 pub struct Spend;
 
 impl Play<Part, View> for Spend {
-    ghost then = { spent };
+    ghost then = { counted spent };
 }
 
 // The swap of a visitor's door.
 pub struct Visit;
 
 impl Play<Part, View> for Visit {
-    ghost then = { visited };
+    ghost then = { counted visited };
 }
 
 // The store of a visitor's door after a fill.
 pub struct Fill;
 
 impl Play<Part, View> for Fill {
-    ghost then = { filled };
+    ghost then = { counted filled };
 }
 
 // The store of a visitor's door after a fetch.
 pub struct Find;
 
 impl Play<Part, View> for Find {
-    ghost then = { fetched };
+    ghost then = { counted fetched };
 }
 
 // The swap of the tape's door.
 pub struct Enter;
 
 impl Play<Part, View> for Enter {
-    ghost then = { entered };
+    ghost then = { counted entered };
 }
 
 // The player's store of the tape's door.
 pub struct Played;
 
 impl Play<Part, View> for Played {
-    ghost then = { taped };
+    ghost then = { counted taped };
 }
 
 // A holder's store of the tape's door.
 pub struct Output;
 
 impl Play<Part, View> for Output {
-    ghost then = { sent };
+    ghost then = { counted sent };
 }

@@ -14,7 +14,7 @@ impl FlagTable {
     ghost use Rattle.std.specs.Prelude.{◌≡◌, IfOk, IfErr};
     ghost use Rattle.cy_table.specs.Steps.{releasing, checking, asking, yielding};
     ghost use Rattle.cy_table.specs.Plays.{in_hand};
-    ghost use Rattle.cy_table.specs.Calls.{seat_of, Stays, HasNoHold, Holds, IsStepped, MayAcquire};
+    ghost use Rattle.cy_table.specs.Calls.{seat_of, Stays, NotedSince, HasNoHold, Holds, IsStepped, MayAcquire};
     ghost use Rattle.cy_table.specs.Calls.{Acquired, FoundHeld, CanRelease, CanResume, CanAsk};
     ghost use Rattle.cy_table.specs.Calls.{CanYield, ShowsTheSame};
 
@@ -24,6 +24,7 @@ impl FlagTable {
     pub fn acquire(&self, pass: &mut Pass, component: u32) -> Result<Hold, Busy>
         requires { MayAcquire self.now pass.old component }
         ensures same { Stays self.now pass.old pass.new }
+        ensures noted { NotedSince pass.old pass.new }
         ensures taken { IfOk result (λ h. Acquired self.now pass.old component pass.new h) }
         ensures busy { IfErr result (λ _. FoundHeld pass.old component pass.new) }
     {
@@ -53,6 +54,7 @@ impl FlagTable {
     pub fn resume(&self, pass: &mut Pass, hold: &mut Hold) -> bool
         requires { CanResume self.now pass.old hold.old }
         ensures same { Stays self.now pass.old pass.new }
+        ensures noted { NotedSince pass.old pass.new }
         ensures seat { seat_of pass.new
             ≡ checking (seat_of pass.old) (in_hand (seat_of pass.old)) result }
         ensures holds { Holds self.now pass.new hold.new × ShowsTheSame hold.old hold.new
@@ -69,6 +71,7 @@ impl FlagTable {
     pub fn ask(&self, pass: &mut Pass, hold: &mut Hold)
         requires { CanAsk self.now pass.old hold.old }
         ensures same { Stays self.now pass.old pass.new }
+        ensures noted { NotedSince pass.old pass.new }
         ensures seat { seat_of pass.new ≡ asking (seat_of pass.old) (in_hand (seat_of pass.old)) }
         ensures holds { Holds self.now pass.new hold.new × IsStepped hold.new }
     {
@@ -84,6 +87,7 @@ impl FlagTable {
     pub fn yield_as(&self, pass: &mut Pass, hold: &mut Hold, state: State)
         requires { CanYield self.now pass.old hold.old state }
         ensures same { Stays self.now pass.old pass.new }
+        ensures noted { NotedSince pass.old pass.new }
         ensures seat { seat_of pass.new
             ≡ yielding (seat_of pass.old) (in_hand (seat_of pass.old)) }
         ensures holds { Holds self.now pass.new hold.new × IsStepped hold.new }
@@ -100,6 +104,7 @@ impl FlagTable {
     pub fn release(&self, pass: &mut Pass, hold: Hold)
         requires { CanRelease self.now pass.old hold }
         ensures same { Stays self.now pass.old pass.new }
+        ensures noted { NotedSince pass.old pass.new }
         ensures seat { seat_of pass.new ≡ releasing (seat_of pass.old) }
         ensures free { HasNoHold pass.new }
     {

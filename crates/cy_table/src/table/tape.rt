@@ -12,7 +12,7 @@ use std::sync::Wait;
 impl FlagTable {
     ghost use Rattle.std.specs.Prelude.{◌≡◌, IfSome, IfNone};
     ghost use Rattle.cy_table.specs.Steps.{taping};
-    ghost use Rattle.cy_table.specs.Calls.{seat_of, thread_of, knowing, Stays, CanTape, CanSend};
+    ghost use Rattle.cy_table.specs.Calls.{seat_of, thread_of, knowing, Stays, NotedSince, CanTape, CanSend};
     ghost use Rattle.cy_table.specs.Calls.{Sent, CanEnter, Entered};
 
     /// The player puts a message onto the tape, the next one of its channel, and owes it to the
@@ -20,6 +20,7 @@ impl FlagTable {
     pub fn tape<R: Wait>(&self, rt: &R, pass: &mut Pass, token: Token)
         requires { CanTape self.now pass.old token }
         ensures same { Stays self.now pass.old pass.new }
+        ensures noted { NotedSince pass.old pass.new }
         ensures thread { thread_of pass.new ≡ knowing pass.old (taping (seat_of pass.old) token) }
     {
         laws::tape_stores();
@@ -36,6 +37,7 @@ impl FlagTable {
     pub fn send<R: Wait>(&self, rt: &R, pass: &mut Pass, hold: &mut Hold) -> Token
         requires { CanSend self.now pass.old hold.old }
         ensures same { Stays self.now pass.old pass.new }
+        ensures noted { NotedSince pass.old pass.new }
         ensures sent { Sent self.now pass.old hold.old result pass.new hold.new }
     {
         laws::tape_stores();
@@ -56,6 +58,7 @@ impl FlagTable {
     fn enter_at_last<R: Wait>(&self, rt: &R, pass: &mut Pass) -> Tape
         requires { CanEnter self.now pass.old }
         ensures same { Stays self.now pass.old pass.new }
+        ensures noted { NotedSince pass.old pass.new }
         ensures entered { Entered pass.old result pass.new }
     {
         let backoff = Backoff::new();
@@ -72,6 +75,7 @@ impl FlagTable {
     fn enter(&self, pass: &mut Pass) -> Option<Tape>
         requires { CanEnter self.now pass.old }
         ensures same { Stays self.now pass.old pass.new }
+        ensures noted { NotedSince pass.old pass.new }
         ensures entered { IfSome result (λ x. Entered pass.old x pass.new) }
         ensures shut { IfNone result (thread_of pass.new ≡ thread_of pass.old) }
     {

@@ -14,7 +14,7 @@ impl FlagTable {
     ghost use Rattle.std.specs.Prelude.{◌≡◌, ◌≤◌};
     ghost use Rattle.cy_table.specs.Steps.{readying, spending, seeing};
     ghost use Rattle.cy_table.specs.Plays.{in_hand};
-    ghost use Rattle.cy_table.specs.Calls.{seat_of, thread_of, knowing, IsAt, Stays, Holds};
+    ghost use Rattle.cy_table.specs.Calls.{seat_of, thread_of, knowing, IsAt, Stays, NotedSince, Holds};
     ghost use Rattle.cy_table.specs.Calls.{IsStepped, CanUpdate, Updated, CanReady, CanSpend};
     ghost use Rattle.cy_table.specs.Calls.{after_spend};
 
@@ -24,6 +24,7 @@ impl FlagTable {
     pub fn update(&self, pass: &mut Pass, hold: &mut Hold) -> State
         requires { CanUpdate self.now pass.old hold.old }
         ensures same { Stays self.now pass.old pass.new }
+        ensures noted { NotedSince pass.old pass.new }
         ensures updated { Updated (seat_of pass.old) result (seat_of pass.new) }
         ensures holds { Holds self.now pass.new hold.new × IsStepped hold.new }
     {
@@ -41,6 +42,7 @@ impl FlagTable {
     fn see_clock(&self, pass: &mut Pass) -> u64
         requires { IsAt self.now pass.old }
         ensures same { Stays self.now pass.old pass.new }
+        ensures noted { NotedSince pass.old pass.new }
         ensures thread { thread_of pass.new ≡ knowing pass.old (seeing (seat_of pass.old) result) }
         ensures past { (seat_of pass.old).clock ≤ result }
     {
@@ -53,6 +55,7 @@ impl FlagTable {
     fn ready(&self, pass: &mut Pass, hold: &mut Hold)
         requires { CanReady self.now pass.old hold.old }
         ensures same { Stays self.now pass.old pass.new }
+        ensures noted { NotedSince pass.old pass.new }
         ensures seat { seat_of pass.new
             ≡ readying (seat_of pass.old) (in_hand (seat_of pass.old)) }
         ensures holds { Holds self.now pass.new hold.new × IsStepped hold.new }
@@ -68,6 +71,7 @@ impl FlagTable {
     fn spend(&self, pass: &mut Pass, hold: &Hold) -> bool
         requires { CanSpend self.now pass.old hold.now }
         ensures same { Stays self.now pass.old pass.new }
+        ensures noted { NotedSince pass.old pass.new }
         ensures seat { seat_of pass.new
             ≡ spending (seat_of pass.old) (in_hand (seat_of pass.old)) result }
         ensures holds { Holds self.now pass.new hold.now }
@@ -84,6 +88,7 @@ impl FlagTable {
     fn wake(&self, pass: &mut Pass, hold: &mut Hold) -> bool
         requires { CanSpend self.now pass.old hold.old }
         ensures same { Stays self.now pass.old pass.new }
+        ensures noted { NotedSince pass.old pass.new }
         ensures seat { seat_of pass.new ≡ after_spend (seat_of pass.old) result }
         ensures holds { Holds self.now pass.new hold.new × IsStepped hold.new }
     {

@@ -7,6 +7,8 @@ use Rattle.wake_core.specs.WorldOf.{plain_of, routes_in}
 use Rattle.cy_table.specs.declared.part.Part.TheVariants as part
 use Rattle.cy_table.specs.Steps.{acquiring}
 use Rattle.cy_table.specs.Plays.{Thread, in_hand, HasSeen}
+use Rattle.cy_table.specs.Sights.{thread_in}
+use Rattle.cy_table.proofs.Marking.{allowed}
 use Rattle.cy_table.proofs.Allowing.{acquires}
 use Rattle.cy_table.proofs.Channels.{out_is}
 use Rattle.cy_table.proofs.Slots.{in_front, exchanged, routine_or}
@@ -17,23 +19,23 @@ swap-found-requires c =
     let table = c.args.self.now.table.shared in
     let made = plain_of table.key.value in
     let seat = c.args.pass.now.seat in
-    (c.requires.at.table, omega (arith, c.args.self.now.words, c.requires.inside), acquires c.hold_swaps.ensures c.rooms_left.ensures made table.table_id.slots seat.id c.args.component seat.me c.requires.at.live c.requires.free.hand c.requires.inside)
+    (c.requires.at.table, omega (arith, c.args.self.now.words, c.requires.inside), allowed seat.me (acquires c.hold_swaps.ensures c.rooms_left.ensures made table.table_id.slots seat.id c.args.component (thread_in seat.me) c.requires.at.live c.requires.free.hand c.requires.inside))
 
 pub exchange-taken-requires : goal.exchange-taken-requires
 exchange-taken-requires c =
-    let t = (c.swap-found.ensures.2 c.args.component refl).free c.if-found-eq0.true in
+    let t = (c.swap-found.ensures.2.0 c.args.component refl).free c.if-found-eq0.true in
     (c.swap-found.ensures.0 ∙ c.requires.at.table, in_front _ _ _ _ _ t.1)
 
 pub unreachable-requires : goal.unreachable-requires
 unreachable-requires c =
-    let t = (c.swap-found.ensures.2 c.args.component refl).free c.if-found-eq0.true in
-    let e = exchanged _ c.exchange-taken.new.seat.me _ _ _ _ _ _ t.1 c.exchange-taken.ensures.2 c.exchange-taken.ensures.3 in
+    let t = (c.swap-found.ensures.2.0 c.args.component refl).free c.if-found-eq0.true in
+    let e = exchanged c.swap-found.new.seat.me c.exchange-taken.new.seat.me _ _ _ _ _ _ t.1 c.exchange-taken.ensures.2 c.exchange-taken.ensures.3 in
     c.in_default.not-Routine t.0 (sym e.0)
 
 pub returns-in-Routine-clause-same : goal.returns-in-Routine-clause-same
 returns-in-Routine-clause-same c =
-    let t = (c.swap-found.ensures.2 c.args.component refl).free c.if-found-eq0.true in
-    let e = exchanged _ c.exchange-taken.new.seat.me _ _ _ _ _ _ t.1 c.exchange-taken.ensures.2 c.exchange-taken.ensures.3 in
+    let t = (c.swap-found.ensures.2.0 c.args.component refl).free c.if-found-eq0.true in
+    let e = exchanged c.swap-found.new.seat.me c.exchange-taken.new.seat.me _ _ _ _ _ _ t.1 c.exchange-taken.ensures.2 c.exchange-taken.ensures.3 in
     record {
       at = record {
         table = c.exchange-taken.ensures.0 ∙ (c.swap-found.ensures.0 ∙ c.requires.at.table);
@@ -44,10 +46,10 @@ returns-in-Routine-clause-same c =
 
 pub returns-in-Routine-clause-taken : goal.returns-in-Routine-clause-taken
 returns-in-Routine-clause-taken c =
-    let t = (c.swap-found.ensures.2 c.args.component refl).free c.if-found-eq0.true in
-    let e = exchanged _ c.exchange-taken.new.seat.me _ _ _ _ _ _ t.1 c.exchange-taken.ensures.2 c.exchange-taken.ensures.3 in
+    let t = (c.swap-found.ensures.2.0 c.args.component refl).free c.if-found-eq0.true in
+    let e = exchanged c.swap-found.new.seat.me c.exchange-taken.new.seat.me _ _ _ _ _ _ t.1 c.exchange-taken.ensures.2 c.exchange-taken.ensures.3 in
     let b : t.0 ≡ c.in-Routine.routine = ap (routine_or t.0) (e.0 ∙ c.in-Routine.is) in
-    let v = c.args.pass.now.seat.me.0 in
+    let v = c.args.pass.now.seat.me.0.seat in
     let i = c.args.component in
     let made = plain_of c.args.self.now.table.shared.key.value in
     let at = e.1 ∙ (λ j. (acquiring v i (b j), (2 * i + 1, part.Away) ∷ c.requires.free.out j)) in
@@ -68,7 +70,7 @@ returns-in-Routine-clause-taken c =
 
 pub returns-else-found-eq0-clause-same : goal.returns-else-found-eq0-clause-same
 returns-else-found-eq0-clause-same c =
-    let t = (c.swap-found.ensures.2 c.args.component refl).held c.if-found-eq0.false in
+    let t = (c.swap-found.ensures.2.0 c.args.component refl).held c.if-found-eq0.false in
     record {
       at = record {
         table = c.swap-found.ensures.0 ∙ c.requires.at.table;
@@ -79,7 +81,7 @@ returns-else-found-eq0-clause-same c =
 
 pub returns-else-found-eq0-clause-busy : goal.returns-else-found-eq0-clause-busy
 returns-else-found-eq0-clause-busy c =
-    let t = (c.swap-found.ensures.2 c.args.component refl).held c.if-found-eq0.false in
+    let t = (c.swap-found.ensures.2.0 c.args.component refl).held c.if-found-eq0.false in
     record {
       seat = ap (λ (m : Thread). m.0) t;
       free = record {
@@ -90,18 +92,18 @@ returns-else-found-eq0-clause-busy c =
 
 pub invariant_of-pass : goal.invariant_of-pass
 invariant_of-pass c =
-    let t = (c.swap-found.ensures.2 c.args.component refl).free c.if-found-eq0.true in
-    let e = exchanged _ c.exchange-taken.new.seat.me _ _ _ _ _ _ t.1 c.exchange-taken.ensures.2 c.exchange-taken.ensures.3 in
+    let t = (c.swap-found.ensures.2.0 c.args.component refl).free c.if-found-eq0.true in
+    let e = exchanged c.swap-found.new.seat.me c.exchange-taken.new.seat.me _ _ _ _ _ _ t.1 c.exchange-taken.ensures.2 c.exchange-taken.ensures.3 in
     record { counted = c.args.pass.now.counted ∙ ap (λ (m : Thread). m.0.split) (sym e.1) }
 
 pub invariant_of-pass-else-found-eq0 : goal.invariant_of-pass-else-found-eq0
 invariant_of-pass-else-found-eq0 c =
-    let t = (c.swap-found.ensures.2 c.args.component refl).held c.if-found-eq0.false in
+    let t = (c.swap-found.ensures.2.0 c.args.component refl).held c.if-found-eq0.false in
     record { counted = c.args.pass.now.counted ∙ ap (λ (m : Thread). m.0.split) (sym t) }
 
 pub invariant_of-result : goal.invariant_of-result
 invariant_of-result c =
-    let t = (c.swap-found.ensures.2 c.args.component refl).free c.if-found-eq0.true in
-    let e = exchanged _ c.exchange-taken.new.seat.me _ _ _ _ _ _ t.1 c.exchange-taken.ensures.2 c.exchange-taken.ensures.3 in
+    let t = (c.swap-found.ensures.2.0 c.args.component refl).free c.if-found-eq0.true in
+    let e = exchanged c.swap-found.new.seat.me c.exchange-taken.new.seat.me _ _ _ _ _ _ t.1 c.exchange-taken.ensures.2 c.exchange-taken.ensures.3 in
     let b : t.0 ≡ c.in-Routine.routine = ap (routine_or t.0) (e.0 ∙ c.in-Routine.is) in
     record { fits = λ f none. absurd (none-some f none); few = subst (λ (x : RoutineView). length x.calls ≤ MOST_PLANNED) b t.3 }

@@ -1,6 +1,8 @@
 -- The store of a state before a fetch.
 use Rattle.std.proofs.Common.{arith}
 use Rattle.wake_core.specs.WorldOf.{plain_of}
+use Rattle.cy_table.specs.Sights.{thread_in}
+use Rattle.cy_table.proofs.Marking.{allowed}
 use Rattle.cy_table.proofs.Allowing.{asks}
 use Rattle.cy_table.proofs.table.FlagTable.ask.Goals as goal
 
@@ -11,5 +13,5 @@ store-requires c =
     let seat = c.args.pass.now.seat in (
       c.requires.at.table,
       omega (arith, c.args.self.now.words, c.requires.holds.inside),
-      asks c.state_stores.ensures made table.table_id.slots seat.id c.args.hold.now.component seat.me c.requires.at.live c.requires.holds.hand c.requires.holds.croutine c.requires.may,
+      allowed seat.me (asks c.state_stores.ensures made table.table_id.slots seat.id c.args.hold.now.component (thread_in seat.me) c.requires.at.live c.requires.holds.hand c.requires.holds.croutine c.requires.may),
     )

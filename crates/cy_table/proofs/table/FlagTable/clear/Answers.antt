@@ -1,6 +1,8 @@
 -- The store of a flag.
 use Rattle.std.proofs.Common.{arith}
 use Rattle.wake_core.specs.WorldOf.{plain_of}
+use Rattle.cy_table.specs.Sights.{thread_in}
+use Rattle.cy_table.proofs.Marking.{allowed}
 use Rattle.cy_table.proofs.Words.{clears}
 use Rattle.cy_table.proofs.table.FlagTable.clear.Goals as goal
 
@@ -9,4 +11,4 @@ store-requires c =
     let table = c.args.self.now.table.shared in
     let made = plain_of table.key.value in
     let seat = c.args.pass.now.seat in
-    (c.requires.at.table, omega (arith, c.args.self.now.words, c.requires.inside), clears c.flag_stores.ensures made table.table_id.slots seat.id c.args.component seat.me c.requires.at.live c.requires.last c.requires.inside)
+    (c.requires.at.table, omega (arith, c.args.self.now.words, c.requires.inside), allowed seat.me (clears c.flag_stores.ensures made table.table_id.slots seat.id c.args.component (thread_in seat.me) c.requires.at.live c.requires.last c.requires.inside))

@@ -2,6 +2,8 @@
 use Rattle.std.proofs.Common.{sym, ap, ◌∙◌, arith}
 use Rattle.cy_table.specs.Plays.{Thread}
 use Rattle.wake_core.specs.WorldOf.{plain_of}
+use Rattle.cy_table.specs.Sights.{thread_in}
+use Rattle.cy_table.proofs.Marking.{allowed}
 use Rattle.cy_table.proofs.Words.{looks}
 use Rattle.cy_table.proofs.table.FlagTable.look.Goals as goal
 
@@ -10,11 +12,11 @@ load-found-requires c =
     let table = c.args.self.now.table.shared in
     let made = plain_of table.key.value in
     let seat = c.args.pass.now.seat in
-    (c.requires.at.table, omega (arith, c.args.self.now.words, c.requires.inside), looks c.state_loads.ensures made table.table_id.slots seat.id c.args.component seat.me c.requires.at.live c.requires.filled c.requires.news c.requires.inside)
+    (c.requires.at.table, omega (arith, c.args.self.now.words, c.requires.inside), allowed seat.me (looks c.state_loads.ensures made table.table_id.slots seat.id c.args.component (thread_in seat.me) c.requires.at.live c.requires.filled c.requires.news c.requires.inside))
 
 pub returns-clause-same : goal.returns-clause-same
 returns-clause-same c =
-    let told = c.load-found.ensures.2 c.args.component c.requires.news in
+    let told = c.load-found.ensures.2.0 c.args.component c.requires.news in
     record {
       at = record {
         table = c.load-found.ensures.0 ∙ c.requires.at.table;
@@ -25,5 +27,5 @@ returns-clause-same c =
 
 pub invariant_of-pass : goal.invariant_of-pass
 invariant_of-pass c =
-    let told = c.load-found.ensures.2 c.args.component c.requires.news in
+    let told = c.load-found.ensures.2.0 c.args.component c.requires.news in
     record { counted = c.args.pass.now.counted ∙ ap (λ (m : Thread). m.0.split) (sym told) }

@@ -12,6 +12,7 @@ use Rattle.cy_table.specs.declared.part.Part.{Part}
 use Rattle.cy_table.specs.declared.part.Part.TheVariants as part
 use Rattle.cy_table.specs.Layout.{words_for, slots_for}
 use Rattle.cy_table.specs.Plays.{Thread, rule_for, seat_for}
+use Rattle.cy_table.specs.Sights.{thread_in, sight_for}
 use Rattle.cy_table.specs.Ends.{HaveFewCalls, laid}
 use Rattle.cy_table.proofs.Laying.{begins, slots_are, few_calls}
 use Rattle.cy_table.proofs.table.FlagTable.new.Goals as goal
@@ -30,9 +31,9 @@ new-requires c =
     let slots = c.in_ok-slots.slots.items in
     let slots_are : slots ≡ part.Tape t ∷ laid p.routines p.visitors =
     c.in_ok-slots.ensures ∙ ap₂ (λ (rs : List RoutineView) (vs : List VisitorView). part.Tape t ∷ laid rs vs) c.into_vec.ensures c.into_vec-2.ensures in
-    subst (λ (w : World). rule_for w (opening c.as_slice.result.now slots (seat_for w))) (sym c.of-key.ensures)
-    (subst (λ (ws : List ℕ). rule_for world (opening ws slots (seat_for world))) (sym c.as_slice.ensures.value)
-    (subst (λ (xs : List Part). rule_for world (opening words xs (seat_for world))) (sym slots_are)
+    subst (λ (w : World). rule_for w (opening c.as_slice.result.now slots (sight_for w))) (sym c.of-key.ensures)
+    (subst (λ (ws : List ℕ). rule_for world (opening ws slots (sight_for world))) (sym c.as_slice.ensures.value)
+    (subst (λ (xs : List Part). rule_for world (opening words xs (sight_for world))) (sym slots_are)
     (begins c.table_ends.ensures c.threads.ensures world p words t c.apart-parts.ensures.fit p.fixed.lawful c.requires c.apart-parts.ensures.shown c.in_ok-words.ensures c.new-tape.ensures)))
 
 pub invariant_of-result : goal.invariant_of-result
@@ -58,7 +59,7 @@ pub returns-in-Ok : goal.returns-in-Ok
 returns-in-Ok c =
     let ok = c.in-Ok.ensures.ok in
     let key : c.in-Ok.table.shared.key.value ≡ c.args.world = ap (λ k. k.value) ok.5 ∙ c.of-key.ensures in
-    let thread = ok.4 ∙ ap (λ (w : World). let n : Thread = (seat_for w, []) in n) c.of-key.ensures in
+    let thread = ap thread_in ok.4 ∙ ap (λ (w : World). let n : Thread = (seat_for w, []) in n) c.of-key.ensures in
     let live = ap (λ (m : Thread). m.0.live) thread in
     record {
       made = ap plain_of key;

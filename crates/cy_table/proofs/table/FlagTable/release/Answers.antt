@@ -3,6 +3,8 @@ use Rattle.std.proofs.Common.{ap, ◌∙◌, arith}
 use Rattle.wake_core.specs.WorldOf.{plain_of}
 use Rattle.cy_table.specs.Plays.{in_hand}
 use Rattle.cy_table.specs.Hold.{with_found}
+use Rattle.cy_table.specs.Sights.{thread_in}
+use Rattle.cy_table.proofs.Marking.{allowed}
 use Rattle.cy_table.proofs.Allowing.{releases_as}
 use Rattle.cy_table.proofs.Slots.{put_back}
 use Rattle.cy_table.proofs.table.FlagTable.release.Goals as goal
@@ -17,6 +19,6 @@ store-requires c =
     let p = put_back old c.exchange-left.new.seat.me _ _ _ _ _ c.requires.holds.out e.2 e.3 in (
       e.0 ∙ c.requires.at.table,
       omega (arith, c.args.self.now.words, c.requires.holds.inside),
-      releases_as c.hold_stores.ensures made table.table_id.slots c.exchange-left.new.seat.id h.component h.routine old.0 (in_hand old.0) c.exchange-left.new.seat.me c.requires.at.live c.requires.holds.hand c.requires.may
-          c.requires.holds.croutine (c.requires.holds.routine ∙ ap (with_found h.routine) c.requires.stepped) p.1,
+      allowed c.exchange-left.new.seat.me (releases_as c.hold_stores.ensures made table.table_id.slots c.exchange-left.new.seat.id h.component h.routine old.0.seat (in_hand old.0.seat) (thread_in c.exchange-left.new.seat.me) c.requires.at.live c.requires.holds.hand c.requires.may
+          c.requires.holds.croutine (c.requires.holds.routine ∙ ap (with_found h.routine) c.requires.stepped) p.1),
     )

@@ -1,6 +1,8 @@
 -- The player's store of that word.
 use Rattle.std.proofs.Common.{arith}
 use Rattle.wake_core.specs.WorldOf.{plain_of}
+use Rattle.cy_table.specs.Sights.{thread_in}
+use Rattle.cy_table.proofs.Marking.{allowed}
 use Rattle.cy_table.proofs.Words.{closes}
 use Rattle.cy_table.proofs.table.FlagTable.set_closing.Goals as goal
 
@@ -9,4 +11,4 @@ store-requires c =
     let table = c.args.self.now.table.shared in
     let made = plain_of table.key.value in
     let seat = c.args.pass.now.seat in
-    (c.requires.at.table, omega (arith, c.args.self.now.words), closes c.closing_steps.ensures made table.table_id.slots seat.id seat.me c.requires.at.live c.requires.player c.requires.may)
+    (c.requires.at.table, omega (arith, c.args.self.now.words), allowed seat.me (closes c.closing_steps.ensures made table.table_id.slots seat.id (thread_in seat.me) c.requires.at.live c.requires.player c.requires.may))

@@ -1,8 +1,8 @@
 -- The slots of a closed table are taken out one by one, and show the world that it leaves.
-use Rattle.std.proofs.Common.{ℕ, ◌≡◌, ◌+◌, ◌*◌, ◌/◌, ◌<◌, ◌==◌, Bool, false, not, List, length, slice_index, set, refl, sym, ap, ◌∙◌, subst, arith}
+use Rattle.std.proofs.Common.{ℕ, ◌≡◌, ◌+◌, ◌*◌, ◌/◌, ◌<◌, ◌==◌, Bool, false, not, List, length, slice_index, set, get_or, refl, sym, ap, ◌∙◌, subst, arith}
 use mathlib.Core.Option.{some}
 use lib.ListN.{get_elem?}
-use Rattle.std.specs.Mem.Slots.{slots_items, slots_len, slots_filled}
+use Rattle.std.specs.Mem.Slots.{slots_items, slots_len, slots_filled, IsFull}
 use Rattle.cy_msg.specs.declared.token.Token.{Token}
 use Rattle.cy_fuse.specs.Visitor.{VisitorView}
 use Rattle.cy_comp.specs.Routine.{RoutineView}
@@ -14,7 +14,8 @@ use Rattle.cy_table.specs.declared.part.Part.{Part}
 use Rattle.cy_table.specs.declared.part.Part.TheVariants as part
 use Rattle.cy_table.specs.Seats.{TapeView}
 use Rattle.cy_table.specs.Shown.{routine_at, visitor_at, tape_at}
-use Rattle.cy_table.proofs.Unpacking.{TakenOut, AreRest, IsFrom, shuts, same_part, same_tape, taken_as, taken_more, index_of, from_more, few_played, replaced, parts_fit, played_left, clock_left, closing_left, raised_left, calls_seen}
+use Rattle.cy_table.proofs.Marking.{reached}
+use Rattle.cy_table.proofs.Unpacking.{TakenOut, AreRest, IsFrom, shuts, same_part, same_tape, taken_as, none_taken, taken_more, index_of, from_more, few_played, replaced, parts_fit, played_left, clock_left, closing_left, raised_left, calls_seen}
 use Rattle.cy_table.proofs.table.FlagTable.unpack.Goals as goal
 
 pub unreachable-requires : goal.unreachable-requires
@@ -51,6 +52,57 @@ unreachable-requires-in_default-take-2 c =
     let is : slots_items c.take-in-loop-c.new.self.slots ≡ slots_items closed.slots = c.take-in-loop-c.ensures.others.0 ∙ (c.loop-c.invariant.same ∙ c.take.ensures.others.0) in
     c.in_default-take-2.not-Visitor (visitor_at e.rooms e.world k)
     (same_part (slots_items closed.slots) (2 * k + 2) c.take-in-loop-c-2.result (part.Visitor (visitor_at e.rooms e.world k)) (ap (λ (l : List Part). get_elem? l (2 * k + 2)) (sym is) ∙ c.take-in-loop-c-2.ensures.value) (e.slots_are.visitor k less))
+
+pub loop-c-init : goal.loop-c-init
+loop-c-init c =
+    let full = c.close_with-closed.ensures.values.1 in
+    let first = c.take.ensures.others in
+    record {
+      same = refl;
+      long = refl;
+      words = refl;
+      full = subst (λ (fs : List Bool). IsFrom 1 fs (slots_len c.take.new.self.slots)) (sym first.1)
+          (from_more 0 1 (slots_len c.take.new.self.slots) (slots_filled c.close_with-closed.result.slots) refl (omega (arith, c.close_with-closed.ensures.counts.1, c.args.self.slots, first.2))
+          record { gone = λ i less. absurd (omega (arith, less)); left = λ i le less. full i le (omega (arith, less, first.2)) });
+      taken = none_taken c.requires.room.routines_none c.requires.room.visitors_none c.requires.room.spent_none;
+      routines_room = omega (arith, c.requires.room.routines_room, c.slot_count-count.ensures, c.close_with-closed.ensures.counts.1, c.args.self.slots);
+      visitors_room = omega (arith, c.requires.room.visitors_room, c.slot_count-count.ensures, c.close_with-closed.ensures.counts.1, c.args.self.slots);
+      spent_room = omega (arith, c.requires.room.spent_room, c.slot_count-count.ensures, c.close_with-closed.ensures.counts.1, c.args.self.slots);
+    }
+
+pub take-requires-in-loop-c-2 : goal.take-requires-in-loop-c-2
+take-requires-in-loop-c-2 c =
+    let i = c.loop-c.invariant in
+    let k = c.loop-c.c in
+    let a = c.take-in-loop-c.ensures.others in
+    let n = slots_len c.take.new.self.slots in
+    let within : 2 * k + 2 < n = omega (arith, c.loop-c-test.true, c.slot_count-count.ensures, c.take.ensures.others.2, c.close_with-closed.ensures.counts.1, c.args.self.slots) in
+    let next = from_more (2 * k + 1) (2 * k + 2) n (slots_filled c.loop-c.closed.slots) (omega arith) (omega (arith, within)) i.full in
+    (omega (arith, within, a.2, i.long), ap (λ (fs : List Bool). get_or fs (2 * k + 2) false) a.1 ∙ next.left (2 * k + 2) (omega arith) within)
+
+pub word-requires : goal.word-requires
+word-requires c =
+    let words = c.take-in-loop-c-2.ensures.others.3 ∙ (c.take-in-loop-c.ensures.others.3 ∙ (c.loop-c.invariant.words ∙ c.take.ensures.others.3)) in
+    let closed = c.close_with-closed.ensures in
+    (omega (arith, c.loop-c-test.true, c.slot_count-count.ensures, ap slots_len words, closed.counts.0, closed.counts.1, c.args.self.words, c.args.self.slots), subst IsFull (sym words) closed.values.0)
+
+pub word-clock-requires : goal.word-clock-requires
+word-clock-requires c =
+    let words = c.loop-c.invariant.words ∙ c.take.ensures.others.3 in
+    let closed = c.close_with-closed.ensures in
+    (omega (arith, ap slots_len words, closed.counts.0, c.args.self.words), subst IsFull (sym words) closed.values.0)
+
+pub word-closing-requires : goal.word-closing-requires
+word-closing-requires c =
+    let words = c.loop-c.invariant.words ∙ c.take.ensures.others.3 in
+    let closed = c.close_with-closed.ensures in
+    (omega (arith, ap slots_len words, closed.counts.0, c.args.self.words), subst IsFull (sym words) closed.values.0)
+
+pub word-raised-requires : goal.word-raised-requires
+word-raised-requires c =
+    let words = c.loop-c.invariant.words ∙ c.take.ensures.others.3 in
+    let closed = c.close_with-closed.ensures in
+    (omega (arith, c.slot_count-count.ensures, ap slots_len words, closed.counts.0, closed.counts.1, c.args.self.words, c.args.self.slots), subst IsFull (sym words) closed.values.0)
 
 pub loop-c-preserved : goal.loop-c-preserved
 loop-c-preserved c =
@@ -167,9 +219,10 @@ returns-clause-left c =
     record {
       reached = record {
         world = e.world;
-        events = e.reached;
+        events = reached e.way;
         replaced = replaced e p taken rest c.args.self.made c.args.self.counted c.args.self.given;
       };
+      way = e.way;
       noted = e.noted;
       routes = c.args.self.made;
       counts = c.args.self.counted;
