@@ -37,6 +37,7 @@ rise_to low mid high (k ∷ ks) r less = (r.0, rise_to k mid high ks r.1 less)
 
 -- From one sight to a later one, and on to another.
 pub since_on : (v u w : Sight) → Since v u → Since u w → Since v w
+unfolding Since
 since_on v u w a b = record {
   entries = a.entries ++ b.entries;
   marks = a.marks ++ b.marks;
@@ -48,6 +49,7 @@ since_on v u w a b = record {
 }
 
 pub since_still : (v : Sight) → Since v v
+unfolding Since
 since_still v = record {
   entries = [];
   marks = [];
@@ -62,6 +64,7 @@ pub since_is : (v u w : Sight) → Since v u → w ≡ u → Since v w
 since_is v u w since is = subst (Since v) (sym is) since
 
 pub since_split : (v : Sight) → Since v (staying v)
+unfolding Since
 since_split v = record { entries = []; marks = []; each = refl; note = sym (append-nil v.seat.note); marked = sym (append-nil v.marks); rising = omega arith; handed = refl }
 
 -- A way with one step more.
@@ -134,8 +137,8 @@ pub record ShowsFor (made : Plain) (s : Table Part Seat) : Type 0 where
   pub rules : Rules rooms world s
 
 -- What a step left: an event led on, or none; and its seat noted nothing, or what is so then.
-abbrev pub Notes : Plain → (v v' : Seat) → Type 0
-Notes w v v' = (v'.note ≡ v.note) ⊎ ((x : Entry) × (v'.note ≡ v.note ++ x ∷ []) × IsSo w x)
+abbrev pub NotesOne : Plain → (v v' : Seat) → Type 0
+NotesOne w v v' = (v'.note ≡ v.note) ⊎ ((x : Entry) × (v'.note ≡ v.note ++ x ∷ []) × IsSo w x)
 
 pub record Leaves (r : Rooms) (w : Plain) (v v' : Seat) (s' : Table Part Seat) : Type 0 where
   pub world : Plain
@@ -143,7 +146,7 @@ pub record Leaves (r : Rooms) (w : Plain) (v v' : Seat) (s' : Table Part Seat) :
   pub counts : world.counts ≡ w.counts
   pub stop : world.stop ≡ w.stop
   pub moves : Moves w world
-  pub notes : Notes world v v'
+  pub notes : NotesOne world v v'
   pub rules : Rules r world s'
 
 pub record Plays (made : Plain) (slots id : ℕ) (m : Thread) (i : ℕ) (f : ℕ → ℕ) (tells : ℕ → Thread → Type 0) : Type 0 where
@@ -159,7 +162,7 @@ record Added (w : Plain) (v v' : Seat) (n : ℕ) : Type 0 where
   pub rising : (low : ℕ) → low < n → Rise low n marks
   pub so : (at : ℕ → Plain) → at n ≡ w → AreSo at entries marks
 
-added : (w : Plain) (v v' : Seat) (n : ℕ) → Notes w v v' → Added w v v' n
+added : (w : Plain) (v v' : Seat) (n : ℕ) → NotesOne w v v' → Added w v v' n
 added w v v' n (inl same) = record {
   entries = [];
   marks = [];
@@ -218,6 +221,7 @@ module _ {made : Plain} {s : Table Part Sight} (k : Ruled made s) (id : ℕ) (m 
   sight_then = record { seat = v'; last = k.way.steps + 1; marks = m.0.marks ++ its.marks; handed = m.0.handed }
 
   since : Since m.0 sight_then
+  unfolding Since
   since = let le = (k.noted id m.0 at).last in record {
     entries = its.entries;
     marks = its.marks;

@@ -21,7 +21,7 @@ use Rattle.cy_table.specs.Laws.{StateStores, FlagSwaps}
 use Rattle.cy_table.specs.Plays.{Thread, in_hand, readied, spent}
 use Rattle.cy_table.proofs.Places.{there}
 use Rattle.cy_table.proofs.Holding.{routine_known}
-use Rattle.cy_table.proofs.Marking.{ShowsFor, Notes, Leaves, Plays}
+use Rattle.cy_table.proofs.Marking.{ShowsFor, NotesOne, Leaves, Plays}
 use Rattle.cy_table.proofs.Allowing.{noting_then}
 
 -- What a store of READY leaves: the croutine is so.
@@ -33,7 +33,7 @@ readied_then law k id m at live has may =
     noting_then k m.0 (readying m.0 g) (λ w u e. ready e) b (Found g.croutine Ready) refl (ap (λ (w : Plain). w.states g.croutine) b.happens.effect ∙ there g.croutine Ready k.world.states g.croutine refl)
 
 -- .. and a swap of a flag: it is in the state that was found, where it was not woken.
-spent_notes : (w : Plain) (v v' : Seat) (g : Grip) (woken : Bool) → v'.note ≡ spent_note v g (cond woken Woken Known) → w.states g.croutine ≡ g.routine.state → Notes w v v'
+spent_notes : (w : Plain) (v v' : Seat) (g : Grip) (woken : Bool) → v'.note ≡ spent_note v g (cond woken Woken Known) → w.states g.croutine ≡ g.routine.state → NotesOne w v v'
 spent_notes w v v' g true is so = inl is
 spent_notes w v v' g false is so = inr (Found g.croutine g.routine.state, is, so)
 

@@ -10,7 +10,7 @@ use Rattle.cy_table.specs.Plays.{Thread, seat_for}
 -- What a thread noted from one sight to a later one: each entry by a step behind its last one at
 -- the first sight, one entry behind the other, and none behind its last step at the later sight.
 -- What was handed on to it stays.
-pub record Since (v u : Sight) : Type 0 where
+pub record Notes (v u : Sight) : Type 0 where
   pub entries : List Entry
   pub marks : List ℕ
   pub each : length marks ≡ length entries
@@ -18,6 +18,10 @@ pub record Since (v u : Sight) : Type 0 where
   pub marked : u.marks ≡ v.marks ++ marks
   pub rising : Rise v.last u.last marks
   pub handed : u.handed ≡ v.handed
+
+-- .. as one thing, which proofs open where they need it.
+unfoldable pub Since : (v u : Sight) → Type 0
+Since v u = Notes v u
 
 -- A thread without the numbers of steps.
 abbrev pub thread_in : Me Part Sight → Thread
