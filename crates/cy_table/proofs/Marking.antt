@@ -258,7 +258,8 @@ module _ {made : Plain} {s : Table Part Sight} (k : Ruled made s) (id : ℕ) (m 
   }
 
 pub allowed : {made : Plain} {slots id : ℕ} (m : Me Part Sight) {i : ℕ} {f : ℕ → ℕ} {tells : ℕ → Thread → Type 0} → Plays made slots id (thread_in m) i f tells
-    → Allows (Ruled made) slots id m i f (λ found n. tells found (thread_in n) × Since m.0 n.0)
+    → Allows (Ruled made) slots id m i f (λ found n. tells found (thread_in n) × Since m.0 n.0 × (m.0.last < n.0.last))
 allowed {id = id} m plays s k deep at bound =
     let p = plays.each (seats_of s) (shows_for k) deep (at_map (λ (v : Sight). v.seat) s.views id m.0 at) bound in
-    (sight_then k id m at p.0 p.3, p.1, p.2, ruled_then k id m at p.0 p.3 refl, (p.4, since k id m at p.0 p.3))
+    let le = (k.noted id m.0 at).last in
+    (sight_then k id m at p.0 p.3, p.1, p.2, ruled_then k id m at p.0 p.3 refl, (p.4, since k id m at p.0 p.3, omega (arith, le)))

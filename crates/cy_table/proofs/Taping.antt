@@ -55,11 +55,13 @@ pub tapes : TapeStores → (made : Plain) (slots id : ℕ) (t : Token) (x : Tape
     → m ≡ (entering v x, (0, part.Tape (with_message x t)) ∷ more)
     → Plays made slots id m 3 (λ _. 0) (λ _. taped (step slots 3 0 0 none) m 0)
 tapes law made slots id t x v more m live player may is = subst (λ (y : ℕ × Thread). Plays made slots y.0 y.1 3 (λ _. 0) (λ _. taped (step slots 3 0 0 none) y.1 0)) (λ i. (sym player i, sym is i))
-    record { each = λ s k deep at bound.
-    let u = entering v x in
-    let sits : Sits k.rooms k.world s 0 u = record { rules = k.rules; at = at; live = live } in
-    let may_now : MayTape u t = record { owes = record { filled = may.owes.filled; looked = may.owes.looked; cleared = may.owes.cleared }; raised = may.raised; unwritten = may.unwritten; next = may.next; within = may.within; now = may.now } in
-    (taping u t, gives, tt, moved_then k u (taping u t) (λ w u e. tape e) (law.play k.rooms k.world s u x t more sits refl may_now) refl, ap (λ (d : Token). let n : Thread = (taping u d, more) in n) (sym (last_is x.messages t))) }
+    record {
+      each = λ s k deep at bound.
+          let u = entering v x in
+          let sits : Sits k.rooms k.world s 0 u = record { rules = k.rules; at = at; live = live } in
+          let may_now : MayTape u t = record { owes = record { filled = may.owes.filled; looked = may.owes.looked; cleared = may.owes.cleared }; raised = may.raised; unwritten = may.unwritten; next = may.next; within = may.within; now = may.now } in
+          (taping u t, gives, tt, moved_then k u (taping u t) (λ w u e. tape e) (law.play k.rooms k.world s u x t more sits refl may_now) refl, ap (λ (d : Token). let n : Thread = (taping u d, more) in n) (sym (last_is x.messages t)));
+    }
 
 -- What is the last on the tape after a message was put there.
 pub last_here : (x : TapeView) (t : Token) (more : List (ℕ × Part)) → last_put ((0, part.Tape (with_message x t)) ∷ more) ≡ t
@@ -79,14 +81,16 @@ pub sends : TapeStores → (made : Plain) (slots id channel : ℕ) (x : TapeView
     → m ≡ (entering v x, (0, part.Tape (with_message x (output channel (length (outs channel (in_hand v).routine.calls)) o))) ∷ more)
     → Plays made slots id m 3 (λ _. 0) (λ _. sent (step slots 3 0 0 none) m 0)
 sends law made slots id channel x o v more m live has pends may writes is = subst (λ (z : Thread). Plays made slots id z 3 (λ _. 0) (λ _. sent (step slots 3 0 0 none) z 0)) (sym is)
-    record { each = λ s k deep at bound.
-    let u = entering v x in
-    let g = in_hand v in
-    let t : Token = output channel (length (outs channel g.routine.calls)) o in
-    let sits : Sits k.rooms k.world s id u = record { rules = k.rules; at = at; live = live } in
-    let may_now : MaySend u g = record { owes = record { filled = may.owes.filled; looked = may.owes.looked; cleared = may.owes.cleared }; sends = may.sends } in
-    let routes_are : v.routes ≡ made.routes = ((k.rules.knows id u at).made live).0 ∙ k.components in
-    let channel_is : channel ≡ out_at v.routes g.croutine = writes ∙ ap (λ (l : List Route). out_at l g.croutine) (sym routes_are) in
-    let same : t ≡ output_at v.routes g.croutine x.messages o = numbered_so law k.rooms k.world s id channel u g x o sits has refl pends channel_is in
-    let becomes = λ (y : Token). Becomes k.rooms (Sends id g.croutine (phase_sent g.phase) y) k.world (stepped s 3 0 id ((0, part.Tape (with_message x y)) ∷ more) (sending u g y) gives) in
-    (sending u g t, gives, tt, moved_then k u (sending u g t) (λ w u e. send e) (subst becomes (sym same) (law.send k.rooms k.world s id u g x o more sits has refl pends may_now)) refl, ap (λ (d : Token). let n : Thread = (sending u g d, more) in n) (sym (last_is x.messages t))) }
+    record {
+      each = λ s k deep at bound.
+          let u = entering v x in
+          let g = in_hand v in
+          let t : Token = output channel (length (outs channel g.routine.calls)) o in
+          let sits : Sits k.rooms k.world s id u = record { rules = k.rules; at = at; live = live } in
+          let may_now : MaySend u g = record { owes = record { filled = may.owes.filled; looked = may.owes.looked; cleared = may.owes.cleared }; sends = may.sends } in
+          let routes_are : v.routes ≡ made.routes = ((k.rules.knows id u at).made live).0 ∙ k.components in
+          let channel_is : channel ≡ out_at v.routes g.croutine = writes ∙ ap (λ (l : List Route). out_at l g.croutine) (sym routes_are) in
+          let same : t ≡ output_at v.routes g.croutine x.messages o = numbered_so law k.rooms k.world s id channel u g x o sits has refl pends channel_is in
+          let becomes = λ (y : Token). Becomes k.rooms (Sends id g.croutine (phase_sent g.phase) y) k.world (stepped s 3 0 id ((0, part.Tape (with_message x y)) ∷ more) (sending u g y) gives) in
+          (sending u g t, gives, tt, moved_then k u (sending u g t) (λ w u e. send e) (subst becomes (sym same) (law.send k.rooms k.world s id u g x o more sits has refl pends may_now)) refl, ap (λ (d : Token). let n : Thread = (sending u g d, more) in n) (sym (last_is x.messages t)));
+    }

@@ -62,13 +62,15 @@ readies law made slots id c m live has same may = subst (λ d. Plays made slots 
 pub spends : FlagSwaps → (made : Plain) (slots id c : ℕ) (m : Thread) → m.0.live ≢ 0 → m.0.hand ≡ Some (in_hand m.0) → (in_hand m.0).croutine ≡ c → MaySpend m.0 (in_hand m.0)
     → Plays made slots id m (4 * c + 6) (λ _. 1) (spent (step slots (4 * c + 6) 1 0 maybe.none) m)
 spends law made slots id c m live has same may = subst (λ d. Plays made slots id m (4 * d + 6) (λ _. 1) (spent (step slots (4 * d + 6) 1 0 maybe.none) m)) same
-    record { each = λ s k deep at bound. (
-      spending m.0 (in_hand m.0) (slice_index s.words (4 * (in_hand m.0).croutine + 6) == 1),
-      keeps,
-      tt,
-      spent_then law k id m at live has may,
-      refl,
-    ) }
+    record {
+      each = λ s k deep at bound. (
+        spending m.0 (in_hand m.0) (slice_index s.words (4 * (in_hand m.0).croutine + 6) == 1),
+        keeps,
+        tt,
+        spent_then law k id m at live has may,
+        refl,
+      );
+    }
 
 -- A croutine is due where the judgement says so.
 pub due_is : (st : State) (time : ℕ) → is_due st time ≡ true → IsDue st time

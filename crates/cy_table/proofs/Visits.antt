@@ -68,17 +68,19 @@ pub fills : FillStores → (made : Plain) (slots id c j : ℕ) (x : VisitorView)
     → m ≡ (visiting v c x, (2 * c + 2, part.Visitor (arrived x j v.token)) ∷ more)
     → Plays made slots id m (4 * c + 7) (λ _. 0) (λ _. filled (step slots (4 * c + 7) 0 0 none) m 0)
 fills law made slots id c j x v more m live owes less is = subst (λ z. Plays made slots id z (4 * c + 7) (λ _. 0) (λ _. filled (step slots (4 * c + 7) 0 0 none) z 0)) (sym is)
-    record { each = λ s k deep at bound.
-    let u = visiting v c x in
-    let a : Visit = record { component = c; visitor = x } in
-    let inside : c < length k.world.routes = subst (λ (l : List Route). c < length l) (sym k.components) less in
-    let sits : Sits k.rooms k.world s id u = record { rules = k.rules; at = at; live = live } in (
-      filling u c j (later_fills v.fills),
-      gives,
-      tt,
-      moved_then k u (filling u c j (later_fills v.fills)) (λ w u e. fill e) (law.fill k.rooms k.world s id u a j (later_fills v.fills) more sits refl owes inside) refl,
-      ap (λ (l : List (ℕ × ℕ)). let n : Thread = (filling u (first_fill l).0 (first_fill l).1 (later_fills l), more) in n) (sym owes),
-    ) }
+    record {
+      each = λ s k deep at bound.
+          let u = visiting v c x in
+          let a : Visit = record { component = c; visitor = x } in
+          let inside : c < length k.world.routes = subst (λ (l : List Route). c < length l) (sym k.components) less in
+          let sits : Sits k.rooms k.world s id u = record { rules = k.rules; at = at; live = live } in (
+            filling u c j (later_fills v.fills),
+            gives,
+            tt,
+            moved_then k u (filling u c j (later_fills v.fills)) (λ w u e. fill e) (law.fill k.rooms k.world s id u a j (later_fills v.fills) more sits refl owes inside) refl,
+            ap (λ (l : List (ℕ × ℕ)). let n : Thread = (filling u (first_fill l).0 (first_fill l).1 (later_fills l), more) in n) (sym owes),
+          );
+    }
 
 -- How many calls the croutine in hand has; and how many after a fetch.
 calls_in_hand : (r : Rooms) (w : Plain) (s : Table Part Seat) (id : ℕ) (v : Seat) (g : Grip) → Sits r w s id v → RoomsLeft → v.hand ≡ Some g → length g.routine.calls ≤ MOST_PLANNED
@@ -103,26 +105,28 @@ pub fetches : FetchStores → RoomsLeft → (made : Plain) (slots id c : ℕ) (x
     → (in_hand v).phase ≡ Asked → c < length made.routes → m ≡ (visiting v c x, (2 * c + 2, part.Visitor x) ∷ more)
     → Plays made slots id m (4 * c + 7) (λ _. 0) (λ _. fetched (step slots (4 * c + 7) 0 0 none) m 0)
 fetches law rooms made slots id c x v more m live has same asked less is = subst (λ z. Plays made slots id z (4 * c + 7) (λ _. 0) (λ _. fetched (step slots (4 * c + 7) 0 0 none) z 0)) (sym is)
-    record { each = λ s k deep at bound.
-    let u = visiting v c x in
-    let g = in_hand v in
-    let a : Visit = record { component = c; visitor = x } in
-    let inside : c < length k.world.routes = subst (λ (l : List Route). c < length l) (sym k.components) less in
-    let sits : Sits k.rooms k.world s id u = record { rules = k.rules; at = at; live = live } in
-    let fits = λ (f : Tuple × ℕ × ℕ) (e : finding u ≡ Some f). rooms.fetch k.rooms k.world s id u g a f sits has asked refl (sym same) e in
-    let calls = calls_in_hand k.rooms k.world s id u g sits rooms has in
-    let is : x ≡ visitor_at k.rooms k.world g.croutine = visitor_known k.rooms k.world s id u sits a refl inside ∙ ap (visitor_at k.rooms k.world) (sym same) in
-    let b = law.fetch k.rooms k.world s id u g a more sits has asked refl (sym same) in
-    let arrivals = ap (λ (w : Plain). w.arrivals g.croutine) b.happens.effect ∙ arrivals_kept id g.croutine (next_call k.world g.croutine) k.world in
-    let saw : IsVisitorOf b.world g.croutine x = record {
-      arrivals = ap (λ (y : VisitorView). y.arrivals) is ∙ sym arrivals;
-      roles = ap (λ (y : VisitorView). y.roles) is ∙ ap (λ (l : List Route). roles_at l g.croutine) (sym b.routes);
-      queue = ap (λ (y : VisitorView). y.queue) is ∙ ap₂ (λ (l : List Route) (n : List ℕ). queue_at l n g.croutine) (sym b.routes) (sym b.counts);
-      overflow = ap (λ (y : VisitorView). y.overflow) is ∙ ap (λ (l : List Route). overflow_at l g.croutine) (sym b.routes);
-    } in (
-      fetching u g x (finding u),
-      gives,
-      tt,
-      noting_then k u (fetching u g x (finding u)) (λ w u e. fetch e) b (Saw g.croutine x) refl saw,
-      record { thread = refl; fits = λ f e. (fits f e).0; few = few_then g (finding u) calls (λ f e. (fits f e).1) },
-    ) }
+    record {
+      each = λ s k deep at bound.
+          let u = visiting v c x in
+          let g = in_hand v in
+          let a : Visit = record { component = c; visitor = x } in
+          let inside : c < length k.world.routes = subst (λ (l : List Route). c < length l) (sym k.components) less in
+          let sits : Sits k.rooms k.world s id u = record { rules = k.rules; at = at; live = live } in
+          let fits = λ (f : Tuple × ℕ × ℕ) (e : finding u ≡ Some f). rooms.fetch k.rooms k.world s id u g a f sits has asked refl (sym same) e in
+          let calls = calls_in_hand k.rooms k.world s id u g sits rooms has in
+          let is : x ≡ visitor_at k.rooms k.world g.croutine = visitor_known k.rooms k.world s id u sits a refl inside ∙ ap (visitor_at k.rooms k.world) (sym same) in
+          let b = law.fetch k.rooms k.world s id u g a more sits has asked refl (sym same) in
+          let arrivals = ap (λ (w : Plain). w.arrivals g.croutine) b.happens.effect ∙ arrivals_kept id g.croutine (next_call k.world g.croutine) k.world in
+          let saw : IsVisitorOf b.world g.croutine x = record {
+            arrivals = ap (λ (y : VisitorView). y.arrivals) is ∙ sym arrivals;
+            roles = ap (λ (y : VisitorView). y.roles) is ∙ ap (λ (l : List Route). roles_at l g.croutine) (sym b.routes);
+            queue = ap (λ (y : VisitorView). y.queue) is ∙ ap₂ (λ (l : List Route) (n : List ℕ). queue_at l n g.croutine) (sym b.routes) (sym b.counts);
+            overflow = ap (λ (y : VisitorView). y.overflow) is ∙ ap (λ (l : List Route). overflow_at l g.croutine) (sym b.routes);
+          } in (
+            fetching u g x (finding u),
+            gives,
+            tt,
+            noting_then k u (fetching u g x (finding u)) (λ w u e. fetch e) b (Saw g.croutine x) refl saw,
+            record { thread = refl; fits = λ f e. (fits f e).0; few = few_then g (finding u) calls (λ f e. (fits f e).1) },
+          );
+    }

@@ -34,8 +34,10 @@ sees law made slots id m live = record {
 
 pub ticks : ClockSteps → (made : Plain) (slots id time : ℕ) (m : Thread) → m.0.live ≢ 0 → id ≡ 0 → m.0.clock ≤ time → Plays made slots id m 1 (λ _. time) (λ _. ticked (step slots 1 time 0 none) m time)
 ticks law made slots id time m live player later = subst (λ j. Plays made slots j m 1 (λ _. time) (λ _. ticked (step slots 1 time 0 none) m time)) (sym player)
-    record { each = λ s k deep at bound. let b = law.tick k.rooms k.world s m.0 time m.1 (sits_at k 0 m.0 at live) later in
-    (ticking m.0 time, keeps, tt, noting_then k m.0 (ticking m.0 time) (λ w u e. tick e) b (Clock time) refl (ap (λ (w : Plain). w.clock) b.happens.effect), refl) }
+    record {
+      each = λ s k deep at bound. let b = law.tick k.rooms k.world s m.0 time m.1 (sits_at k 0 m.0 at live) later in
+          (ticking m.0 time, keeps, tt, noting_then k m.0 (ticking m.0 time) (λ w u e. tick e) b (Clock time) refl (ap (λ (w : Plain). w.clock) b.happens.effect), refl);
+    }
 
 pub heeds : ClosingSteps → (made : Plain) (slots id : ℕ) (m : Thread) → m.0.live ≢ 0 → Plays made slots id m 2 (λ n. n) (heeded (step slots 2 0 0 none) m)
 heeds law made slots id m live = record {
@@ -52,8 +54,10 @@ heeds law made slots id m live = record {
 pub closes : ClosingSteps → (made : Plain) (slots id : ℕ) (m : Thread) → m.0.live ≢ 0 → id ≡ 0 → MayClose m.0
     → Plays made slots id m 2 (λ _. 1) (λ _. closed (step slots 2 1 0 none) m 1)
 closes law made slots id m live player may = subst (λ j. Plays made slots j m 2 (λ _. 1) (λ _. closed (step slots 2 1 0 none) m 1)) (sym player)
-    record { each = λ s k deep at bound. let b = law.close k.rooms k.world s m.0 m.1 (sits_at k 0 m.0 at live) may in
-    (closing_all m.0, keeps, tt, noting_then k m.0 (closing_all m.0) (λ w u e. close e) b (Closing true) refl (ap (λ (w : Plain). w.closing) b.happens.effect), refl) }
+    record {
+      each = λ s k deep at bound. let b = law.close k.rooms k.world s m.0 m.1 (sits_at k 0 m.0 at live) may in
+          (closing_all m.0, keeps, tt, noting_then k m.0 (closing_all m.0) (λ w u e. close e) b (Closing true) refl (ap (λ (w : Plain). w.closing) b.happens.effect), refl);
+    }
 
 -- The load and the store of the stop word, at its place.
 pub checks : StopLoads → (made : Plain) (slots id i : ℕ) (m : Thread) → m.0.live ≢ 0 → m.0.hand ≡ Some (in_hand m.0) → MayCheck (in_hand m.0) → i ≡ 4 * length made.routes + 4
@@ -71,12 +75,14 @@ checks law made slots id i m live has may place = record {
 pub raises : StopStores → (made : Plain) (slots id i x : ℕ) (m : Thread) → m.0.live ≢ 0 → id ≡ 0 → MayRaise m.0 → i ≡ 4 * length made.routes + 4 → x ≡ stop_number made.stop true
     → Plays made slots id m i (λ _. x) (λ _. stopped (step slots i x 0 none) m x)
 raises law made slots id i x m live player may place number = subst (λ j. Plays made slots j m i (λ _. x) (λ _. stopped (step slots i x 0 none) m x)) (sym player)
-    record { each = λ s k deep at bound.
-    let becomes = λ (j y : ℕ). Becomes k.rooms Stops k.world (stepped s j y 0 m.1 (raising m.0) keeps) in
-    let there : 4 * length k.world.routes + 4 ≡ i = ap (λ (l : List Route). 4 * length l + 4) k.components ∙ sym place in
-    let says : stop_number k.world.stop true ≡ x = ap (λ o. stop_number o true) k.stop ∙ sym number in
-    let b = subst (λ y. becomes i y) says (subst (λ j. becomes j (stop_number k.world.stop true)) there (law.stop k.rooms k.world s m.0 m.1 (sits_at k 0 m.0 at live) may)) in
-    (raising m.0, keeps, tt, moved_then k m.0 (raising m.0) (λ w u e. stop e) b refl, refl) }
+    record {
+      each = λ s k deep at bound.
+          let becomes = λ (j y : ℕ). Becomes k.rooms Stops k.world (stepped s j y 0 m.1 (raising m.0) keeps) in
+          let there : 4 * length k.world.routes + 4 ≡ i = ap (λ (l : List Route). 4 * length l + 4) k.components ∙ sym place in
+          let says : stop_number k.world.stop true ≡ x = ap (λ o. stop_number o true) k.stop ∙ sym number in
+          let b = subst (λ y. becomes i y) says (subst (λ j. becomes j (stop_number k.world.stop true)) there (law.stop k.rooms k.world s m.0 m.1 (sits_at k 0 m.0 at live) may)) in
+          (raising m.0, keeps, tt, moved_then k m.0 (raising m.0) (λ w u e. stop e) b refl, refl);
+    }
 
 first_of : ℕ → List ℕ → ℕ
 first_of d [] = d

@@ -81,8 +81,8 @@ pub record Stays (t : FlagTable) (p q : Pass) : Type 0 where
   pub at : IsAt t q
   pub number : pass_number q ≡ pass_number p
 
--- What a call noted, in order: each entry by a step of the pass in that call, so the rule of the
--- table says that it was so behind the last step of the pass before the call.
+-- What a call noted, in order: each entry has a number above that of the last step of the pass
+-- before the call, and the rule of the table says that it was so on a way at that number.
 abbrev pub NotedSince : (p q : Pass) → Type 0
 NotedSince p q = Since (sight_of p) (sight_of q)
 

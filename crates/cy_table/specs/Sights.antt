@@ -1,5 +1,5 @@
 -- How the numbers of steps change that a thread has for contracts.
-use Rattle.std.specs.Prelude.{ℕ, ◌≡◌, List, [], ◌∷◌, ◌++◌, length, max}
+use Rattle.std.specs.Prelude.{ℕ, ◌≡◌, ◌<◌, List, [], ◌∷◌, ◌++◌, length, max}
 use Rattle.atomic_table.specs.Table.{Me, Step}
 use Rattle.cy_table.specs.declared.part.Part.{Part}
 use Rattle.wake_core.specs.declared.world.World.{World}
@@ -27,10 +27,12 @@ Since v u = Notes v u
 abbrev pub thread_in : Me Part Sight → Thread
 thread_in m = (m.0.seat, m.1)
 
--- What a step tells its thread, with the numbers of steps.
+-- What a step tells its thread, with the numbers of steps. Its own is above that of the thread's
+-- last step before it.
 abbrev pub counted : (Step Part → Thread → ℕ → Thread → Type 0) → Step Part → Me Part Sight → ℕ
     → Me Part Sight → Type 0
-counted tells step m found n = tells step (thread_in m) found (thread_in n) × Since m.0 n.0
+counted tells step m found n =
+    tells step (thread_in m) found (thread_in n) × Since m.0 n.0 × (m.0.last < n.0.last)
 
 -- A seat with no step and no entry yet.
 abbrev pub first_sight : Seat → Sight

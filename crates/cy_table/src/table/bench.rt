@@ -7,7 +7,8 @@ use crate::table::FlagTable;
 impl FlagTable {
     ghost use Rattle.std.specs.Prelude.{◌≡◌, [], IfOk, IfErr};
     ghost use Rattle.cy_table.specs.Steps.{splitting, split_off, joining};
-    ghost use Rattle.cy_table.specs.Calls.{seat_of, thread_of, knowing, IsAt, Stays, NotedSince, CanSplit};
+    ghost use Rattle.cy_table.specs.Calls.{seat_of, thread_of, knowing, IsAt, Stays, NotedSince};
+    ghost use Rattle.cy_table.specs.Calls.{CanSplit};
     ghost use Rattle.cy_table.specs.Calls.{CanJoin, sight_of};
     ghost use Rattle.cy_table.specs.Sights.{leaving, uniting};
 
@@ -30,9 +31,9 @@ impl FlagTable {
         Ok(Pass { seat, split_off: 0 })
     }
 
-    /// Takes a pass in that was split off, with the calls that it has seen. What it
-    /// noted is handed on to the player's pass with its numbers, in its order, as a note of its own.
-    /// What the player notes then is behind the last step of both.
+    /// Takes a pass in that was split off, with the calls that it has seen. What it noted is handed
+    /// on to the player's pass, with its numbers and in its order, as a note of its own. What the
+    /// player notes then is behind the last step of both.
     pub fn join(&self, pass: &mut Pass, other: Pass)
         requires { CanJoin self.now pass.old other }
         ensures same { Stays self.now pass.old pass.new }

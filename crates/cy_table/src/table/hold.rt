@@ -14,7 +14,8 @@ impl FlagTable {
     ghost use Rattle.std.specs.Prelude.{◌≡◌, IfOk, IfErr};
     ghost use Rattle.cy_table.specs.Steps.{releasing, checking, asking, yielding};
     ghost use Rattle.cy_table.specs.Plays.{in_hand};
-    ghost use Rattle.cy_table.specs.Calls.{seat_of, Stays, NotedSince, HasNoHold, Holds, IsStepped, MayAcquire};
+    ghost use Rattle.cy_table.specs.Calls.{seat_of, Stays, NotedSince, HasNoHold, Holds, IsStepped};
+    ghost use Rattle.cy_table.specs.Calls.{MayAcquire};
     ghost use Rattle.cy_table.specs.Calls.{Acquired, FoundHeld, CanRelease, CanResume, CanAsk};
     ghost use Rattle.cy_table.specs.Calls.{CanYield, ShowsTheSame};
 

@@ -12,7 +12,8 @@ use std::sync::Wait;
 impl FlagTable {
     ghost use Rattle.std.specs.Prelude.{◌≡◌, IfSome, IfNone};
     ghost use Rattle.cy_table.specs.Steps.{taping};
-    ghost use Rattle.cy_table.specs.Calls.{seat_of, thread_of, knowing, Stays, NotedSince, CanTape, CanSend};
+    ghost use Rattle.cy_table.specs.Calls.{seat_of, thread_of, knowing, Stays, NotedSince, CanTape};
+    ghost use Rattle.cy_table.specs.Calls.{CanSend};
     ghost use Rattle.cy_table.specs.Calls.{Sent, CanEnter, Entered};
 
     /// The player puts a message onto the tape, the next one of its channel, and owes it to the

@@ -14,7 +14,8 @@ impl FlagTable {
     ghost use Rattle.std.specs.Prelude.{◌≡◌, ◌≤◌};
     ghost use Rattle.cy_table.specs.Steps.{readying, spending, seeing};
     ghost use Rattle.cy_table.specs.Plays.{in_hand};
-    ghost use Rattle.cy_table.specs.Calls.{seat_of, thread_of, knowing, IsAt, Stays, NotedSince, Holds};
+    ghost use Rattle.cy_table.specs.Calls.{seat_of, thread_of, knowing, IsAt, Stays, NotedSince};
+    ghost use Rattle.cy_table.specs.Calls.{Holds};
     ghost use Rattle.cy_table.specs.Calls.{IsStepped, CanUpdate, Updated, CanReady, CanSpend};
     ghost use Rattle.cy_table.specs.Calls.{after_spend};
 

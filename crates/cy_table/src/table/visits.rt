@@ -20,7 +20,8 @@ impl FlagTable {
     ghost use Rattle.cy_table.specs.Steps.{visiting, filling};
     ghost use Rattle.cy_table.specs.Shown.{roles_at};
     ghost use Rattle.cy_table.specs.Plays.{later_fills};
-    ghost use Rattle.cy_table.specs.Calls.{seat_of, thread_of, knowing, Stays, NotedSince, CanVisit, CanFill};
+    ghost use Rattle.cy_table.specs.Calls.{seat_of, thread_of, knowing, Stays, NotedSince};
+    ghost use Rattle.cy_table.specs.Calls.{CanVisit, CanFill};
     ghost use Rattle.cy_table.specs.Calls.{Visiting, CanFetch, Fetched};
 
     /// A message comes to a reader of a component, the first of those that the pass owes it to. It

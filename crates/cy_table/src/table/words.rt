@@ -9,7 +9,8 @@ impl FlagTable {
     ghost use Rattle.cy_table.specs.Steps.{ticking, heeding, closing_all, raising, looking};
     ghost use Rattle.cy_table.specs.Steps.{clearing_but};
     ghost use Rattle.cy_table.specs.Plays.{but_first, but_last};
-    ghost use Rattle.cy_table.specs.Calls.{seat_of, thread_of, knowing, IsAt, Stays, NotedSince, CanTick};
+    ghost use Rattle.cy_table.specs.Calls.{seat_of, thread_of, knowing, IsAt, Stays, NotedSince};
+    ghost use Rattle.cy_table.specs.Calls.{CanTick};
     ghost use Rattle.cy_table.specs.Calls.{CanRaise, CanClose, CanLook, after_look, made_of};
 
     /// The player sets the clock forward, to a time in nanoseconds.
