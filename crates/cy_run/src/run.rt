@@ -41,8 +41,8 @@ pub fn run_serial(mut world: World, list: &PlayList, placement: &Placement) -> W
         (scan_of placement.now.contexts) list.now.tokens (run_shown (plain_of result)) }
     ensures lawful { LawfulRun list.now.tokens (plain_of world).routes (plain_of world).stop
         (plain_of result) }
-    ensures stays { StaysMade (plain_of world) (plain_of result)
-        × IsLed (plain_of world) (plain_of result) }
+    ensures stays { StaysMade (plain_of world) (plain_of result) }
+    ensures led { IsLed (plain_of world) (plain_of result) }
 {
     serial(&mut world, list, placement);
     world

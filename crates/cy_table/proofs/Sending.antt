@@ -25,7 +25,7 @@ use Rattle.cy_table.specs.declared.part.Part.TheVariants as part
 use Rattle.cy_table.specs.Seats.{Seat, Grip, TapeView}
 use Rattle.cy_table.specs.Shown.{Rooms, Home, Kept, spread, routine_in, routine_of, hand_of, routine_at, visitor_at, tape_at, out_in}
 use Rattle.cy_table.specs.Rule.{Shows, ShowsParts}
-use Rattle.cy_table.specs.Steps.{Sits, Becomes, with_message, MayTape, taping, MaySend, out_at, output_at, phase_sent, sent_of, sending}
+use Rattle.cy_table.specs.Steps.{Sits, Becomes, with_message, MayTape, taping, MaySend, out_at, output_at, phase_sent, sent_grip, sending}
 use Rattle.cy_table.proofs.Places.{other, shown_still, shown_anew, token_anew, after, spread_gives}
 use Rattle.cy_table.proofs.Parts.{routine_beside, routine_turned, same_words}
 use Rattle.cy_table.proofs.Knowing.{Grows, rules_after}
@@ -217,7 +217,7 @@ module _ (r : Rooms) (w : Plain) (s : Table Part Seat) (id : ℕ) (v : Seat) (si
       let shows : Shows r w' (after t 3 0 id v' h) = record {
         parts = subst (λ (y : TapeView). ShowsParts (length w.routes) y (routine_at r w') (visitor_at r w') (after t 3 0 id v' h)) (ap (λ (y : TapeView). with_message y m) known)
             (tape_given sits.rules.shows.parts id v' x x' (routine_at r w') (ap (λ (z : Seat). z.tape) at ∙ has) refl (ap (λ (z : Seat). z.visit) (sym at))
-            (λ d less. routine_turned sits.rules.shows.parts 3 0 id v' h (routine_at r w') g (sent_of g) (hand_is r w s id v sits g e) refl refl
+            (λ d less. routine_turned sits.rules.shows.parts 3 0 id v' h (routine_at r w') g (sent_grip g) (hand_is r w s id v sits g e) refl refl
             (ap (λ (y : RoutineView). let z : RoutineView = record y { pending = None } in z) routine_is
             ∙ ap (λ (p : Option Out). let z : RoutineView = record (routine_at r w c) { pending = p } in z) (sym (ap (option_map out_in) all)))
             (λ b ne. ap (as_taped r w b) (sym (put.others w c m unsent consistent.wired b ne)))

@@ -1,7 +1,7 @@
 -- A table at its start and at its end: what the calls that make it and close it need, and what they
 -- leave.
 use Rattle.std.specs.Prelude.{ℕ, ◌≡◌, ◌≤◌, ◌<◌, List, [], ◌∷◌, length, slice_index}
-use Rattle.std.specs.Prelude.{slice_get, Some, vec_capacity}
+use Rattle.std.specs.Prelude.{slice_get, Some}
 use mathlib.Core.Option.{some}
 use lib.ListN.{get_elem?}
 use Rattle.cy_fuse.specs.Visitor.{VisitorView}
@@ -18,7 +18,6 @@ use Rattle.cy_table.specs.declared.part.Part.{Part}
 use Rattle.cy_table.specs.declared.part.Part.TheVariants as part
 use Rattle.cy_table.specs.declared.pass.Pass.{Pass}
 use Rattle.cy_table.specs.declared.table.FlagTable.{FlagTable}
-use Rattle.cy_table.specs.declared.table.ends.Taken.{Taken}
 use Rattle.cy_table.specs.Layout.{clock_word, closing_word, tape_door, hold_word, state_word}
 use Rattle.cy_table.specs.Layout.{flag_word, visitor_door, tape_slot, routine_slot, visitor_slot}
 use Rattle.cy_table.specs.Layout.{words_for, slots_for, state_number, yes_or_no, stop_word}
@@ -50,10 +49,11 @@ pub record IsReached (from w : Plain) : Type 0 where
   pub replaced : Replaces world w
 
 -- A world that a table leaves to the player: one at rest, which events reached from the world that
--- the table was made of, with its components, counts and stop. What the player noted, and the
--- threads that were joined, was so on one way to it, each note in its order. It has the played messages, the clock and the closing that the player knows, and its stop is
--- raised just where the player knows so; and each component with all calls that the player has
--- seen, those of the passes that were joined among them.
+-- the table was made of, with its components, counts and stop. What the player and the threads that
+-- were joined noted was so on one way to it, each note in its order. It has the played messages,
+-- the clock and the closing that the player knows, and its stop is raised just where the player
+-- knows so; and each component with all calls that the player has seen, those of the passes that
+-- were joined among them.
 pub record IsLeft (t : FlagTable) (p : Pass) (w : Plain) : Type 0 where
   pub reached : IsReached (made_of t) w
   pub way : Way (made_of t) reached.world
@@ -101,12 +101,3 @@ laid (r ∷ routines) (v ∷ visitors) = part.Routine r ∷ part.Visitor v ∷ l
 pub record HaveFewCalls (routines : List RoutineView) : Type 0 where
   pub each : (c : ℕ) (r : RoutineView) → slice_get routines c ≡ Some r
       → length r.calls ≤ MOST_PLANNED
-
--- Lists with room for so many components.
-pub record HaveRoom (n : ℕ) (t : Taken) : Type 0 where
-  pub routines_none : t.routines.items ≡ []
-  pub visitors_none : t.visitors.items ≡ []
-  pub spent_none : t.spent.items ≡ []
-  pub routines_room : n ≤ vec_capacity t.routines
-  pub visitors_room : n ≤ vec_capacity t.visitors
-  pub spent_room : n ≤ vec_capacity t.spent

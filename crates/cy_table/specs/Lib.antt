@@ -1,3 +1,4 @@
+pub mod private
 pub mod Layout
 pub mod Seats
 pub mod Shown

@@ -272,14 +272,14 @@ phase_sent Running = Running
 phase_sent Stopping = LastSending
 phase_sent phase = Sending
 
-abbrev pub sent_of : Grip → Grip
-sent_of g = record g {
+abbrev pub sent_grip : Grip → Grip
+sent_grip g = record g {
   phase = phase_sent g.phase;
   routine = record g.routine { pending = None };
 }
 
 abbrev pub sending : Seat → Grip → Token → Seat
-sending v g t = record (owing v t) { hand = Some (sent_of g) }
+sending v g t = record (owing v t) { hand = Some (sent_grip g) }
 
 -- A seat is split off the player's, with nothing in hand, nothing owed and no calls seen; and one
 -- is joined, whose calls seen are kept.

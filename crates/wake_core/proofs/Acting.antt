@@ -14,7 +14,7 @@ use Rattle.wake_core.specs.Laws as event
 use Rattle.wake_core.specs.Sound.{Sound}
 use Rattle.wake_core.specs.WorldCalls.{in_hand, phase_sent, MayTape, Taped, IsStepped}
 use Rattle.wake_core.specs.Rest.{IsAtRest}
-use Rattle.wake_core.specs.Turns.{Delivers, Delivered, PlaysOne, MayPut, IsInHand, Calls, IsCalledFrom, MaySendOut, MayGiveBack, GivesBack, SendsOut, IsNamed, Resumes, Finds, is_held}
+use Rattle.wake_core.specs.Turns.{Delivers, OutputDelivered, PlaysOne, MayPut, IsInHand, Calls, IsCalledFrom, MaySendOut, MayGiveBack, GivesBack, SendsOut, IsNamed, Resumes, Finds, is_held}
 use Rattle.wake_core.proofs.Places.{set_at_same, set_at_other}
 use Rattle.wake_core.proofs.Listing.{get_last}
 use Rattle.wake_core.proofs.Playing.{plays_by, idle_by}
@@ -106,7 +106,7 @@ module _ (t : Token) (w : Plain) (may : MaySendOut t w) (s : Sound w) where
     pub send_known : Sound m → t.channel < length m.counts
     send_known = tape_known t w.tape m (ap (λ (x : Plain). x.tape) send_taped.effect)
 
-    pub send_delivered : (v : Plain) → Delivers 0 m v → Delivered (in_hand 0 w) (phase_sent (w.hands 0)) t w v
+    pub send_delivered : (v : Plain) → Delivers 0 m v → OutputDelivered (in_hand 0 w) (phase_sent (w.hands 0)) t w v
     send_delivered v d = delivered_by (in_hand 0 w) (phase_sent (w.hands 0)) t w m v may.alone s.consistent send_taped d
 
 -- One in hand in another phase than Running is not to be stepped.
@@ -137,9 +137,9 @@ module _ (c : ℕ) (t : Token) (w : Plain) (h : IsInHand c Checked w) (ready : w
   pub held_stepped : (to_step : ℕ → Option Tuple) → IsStepped 0 w to_step
   held_stepped to_step = other_stepped c Checked w to_step h.held (λ e. cc)
 
-  module _ (m : Plain) (d : Delivered (in_hand 0 w) (phase_sent (w.hands 0)) t w m) where
-    held_sent : Delivered c Sending t w m
-    held_sent = subst (λ f. Delivered c f t w m) known_sends (subst (λ n. Delivered n (phase_sent (w.hands 0)) t w m) it d)
+  module _ (m : Plain) (d : OutputDelivered (in_hand 0 w) (phase_sent (w.hands 0)) t w m) where
+    held_sent : OutputDelivered c Sending t w m
+    held_sent = subst (λ f. OutputDelivered c f t w m) known_sends (subst (λ n. OutputDelivered n (phase_sent (w.hands 0)) t w m) it d)
 
     sent_it : in_hand 0 m ≡ c
     sent_it = in_hand_is c Sending m held_sent.in_hand.held
@@ -252,8 +252,8 @@ module _ (c : ℕ) (w : Plain) (h : IsInHand c Running w) (outcome : Outcome) (l
           record { owes = h.owes; held = inl (h.held, none_held_back, running_sends); unsent = unsent; effect = refl };
     }
 
-    pub out_sent : (v : Plain) → Delivered (in_hand 0 w) (phase_sent (w.hands 0)) t w v → SendsOut c w v
-    out_sent v d = record { turn = inr (t, none_held_back, unsent, subst (λ f. Delivered c f t w v) running_sends (subst (λ n. Delivered n (phase_sent (w.hands 0)) t w v) running_it d)) }
+    pub out_sent : (v : Plain) → OutputDelivered (in_hand 0 w) (phase_sent (w.hands 0)) t w v → SendsOut c w v
+    out_sent v d = record { turn = inr (t, none_held_back, unsent, subst (λ f. OutputDelivered c f t w v) running_sends (subst (λ n. OutputDelivered n (phase_sent (w.hands 0)) t w v) running_it d)) }
 
   -- It yields as the outcome says.
   module _ (m : Plain) (sends : SendsOut c w m) where

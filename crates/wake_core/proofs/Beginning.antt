@@ -18,7 +18,8 @@ use Rattle.wake_core.specs.Run.{Route, route_of, readers_of, played_of}
 use Rattle.wake_core.specs.Planned.{planned, planned_count, counts_from, first_reader}
 use Rattle.wake_core.specs.Plain.{Plain, Stop, Hand, hand, Phase, State, Ready, blank, opening_world}
 use Rattle.wake_core.specs.Sound.{IsWired, Sound}
-use Rattle.wake_core.specs.Fields.{read, no_visitor, no_routine, shown_calls, calls_at, fills_of, plain_at, queue_of, IsFlagged, IsStepping, IsWaiting, IsVisited, IsRoomy, IsOwing, AreOwing}
+use Rattle.wake_core.specs.Fields.{read, no_visitor, no_routine, queue_of, IsVisited, IsRoomy}
+use Rattle.wake_core.specs.private.Shown.{shown_calls, calls_at, fills_of, plain_at, IsFlagged, IsStepping, IsWaiting, IsOwing, AreOwing}
 use Rattle.wake_core.specs.private.Opening.{first_visitor, first_routine, IsNothing, AreNothing}
 use Rattle.wake_core.proofs.Runs.{opening_sound}
 use Rattle.wake_core.proofs.Listing.{get_snoc}

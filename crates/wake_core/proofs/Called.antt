@@ -15,14 +15,14 @@ use Rattle.cy_comp.specs.Step.{outcome_after, out_of}
 use Rattle.cy_comp.specs.Calls.{tuples_of, last_outcome, held_until, output, outs}
 use Rattle.wake_core.specs.Run.{Route, Run, set_at, put, played_of}
 use Rattle.wake_core.specs.Planned.{planned_count, first_reader}
-use Rattle.wake_core.specs.Serial.{heard_by, is_runnable, resume, follow, send, call_at, call_on}
+use Rattle.wake_core.specs.Serial.{heard_by, is_runnable, resume, follow, send, call_at, with_call}
 use Rattle.wake_core.specs.Plain.{Plain, hand, State, Ready, DataWait, Checked, Stopping, Asked, Empty, Running, Sending, LastSending, stops, last_of, unsent_of, taped_of, made_of, found_by}
 use Rattle.wake_core.specs.Events.{Asks, Fetches, Yields, Releases, next_call, state_after, after_ask, after_fetch, after_call, is_finished}
 use Rattle.wake_core.specs.Laws as event
 use Rattle.wake_core.specs.Laws.{Events}
 use Rattle.wake_core.specs.Sound.{Sound, Consistent}
 use Rattle.wake_core.specs.Rest.{run_shown, StaysFixed}
-use Rattle.wake_core.specs.Turns.{IsInHand, Delivered, IsCalled, Keeps, Resumes, left_of}
+use Rattle.wake_core.specs.Turns.{IsInHand, OutputDelivered, IsCalled, Keeps, Resumes, left_of}
 use Rattle.wake_core.proofs.Places.{place, set_at_same, set_at_there, set_at_other}
 use Rattle.wake_core.proofs.Listing.{get_last}
 use Rattle.wake_core.proofs.Outputs.{last_push}
@@ -199,7 +199,7 @@ module _ (c : ℕ) (call : Call) (w m : Plain) (u : IsMade w c call) (h : IsInHa
   resumed : resume w.routes None (run_shown w) c ≡ follow w.routes u.route c outcome called_run
   resumed =
       let r : Run = run_shown w in
-      let tuple = ap (λ (o : Option Tuple). call_on w.routes u.route c call.position o r) u.tuple in
+      let tuple = ap (λ (o : Option Tuple). with_call w.routes u.route c call.position o r) u.tuple in
       resume_at w.routes None r c u.route u.at ∙ resume_free w.routes None r c u.route (ap is_some k.none_held)
       ∙ ap (λ (o : Option ℕ). call_at w.routes u.route c o r) (finds_shown w c u.route u.at s.consistent ∙ found)
       ∙ tuple
@@ -255,7 +255,7 @@ module _ (c : ℕ) (call : Call) (w m : Plain) (u : IsMade w c call) (h : IsInHa
       silent (Some o) e = absurd (some_none (sym (called_some o e) ∙ none))
 
   -- .. or it is sent at once.
-  module _ (t : Token) (n : Plain) (sent : held_until (Some outcome) ≡ None) (unsent : unsent_of m c ≡ Some t) (d : Delivered c Running t m n) where
+  module _ (t : Token) (n : Plain) (sent : held_until (Some outcome) ≡ None) (unsent : unsent_of m c ≡ Some t) (d : OutputDelivered c Running t m n) where
     sent_run : record (run_shown n) { ended = ended } ≡ resume w.routes None (run_shown w) c
     sent_run =
         delivered_run c Running t m n called_run ended d (ap (λ (y : Plain). y.arrivals) (sym k.same)) (sym called_calls) (ap (λ (y : Plain). y.tape) (sym k.same)) (ap (λ (y : Plain). y.clock) (sym k.same))
@@ -332,7 +332,7 @@ module _ (c : ℕ) (call : Call) (w m : Plain) (u : IsMade w c call) (h : IsInHa
       by (Some u) e = held_called_run (λ no. some_none (sym e ∙ no))
 
   -- After one whose output was sent at once.
-  sent_resumes : FetchesFind → (t : Token) (n : Plain) → held_until (Some outcome) ≡ None → unsent_of m c ≡ Some t → Delivered c Running t m n
+  sent_resumes : FetchesFind → (t : Token) (n : Plain) → held_until (Some outcome) ≡ None → unsent_of m c ≡ Some t → OutputDelivered c Running t m n
       → (state : State) (o v : Plain) → Yields 0 c state n o → Releases 0 c o v → Resumes c w v
   sent_resumes law t n sent unsent d state o v y r = called_ends n d.in_hand (ap (λ (x : Plain). x.states) d.same) (ap (λ (x : Plain). last_of x.routes x.calls c) d.same ∙ called_last) (sent_run t n sent unsent d) (linked k.events d.events) less (stays_by w n
       (ap (λ (x : Plain). x.routes) d.same ∙ called_stays.routes)
@@ -367,7 +367,7 @@ module _ (c : ℕ) (call : Call) (w m : Plain) (h : IsInHand c Checked w) (s : S
       let u = call_made w c call k.found in
       quiet_resumes c call w m u h s ready calm k law (λ e. none (ap held_until (called_last c call w m u h s ready calm k) ∙ e)) state o v y r
 
-  pub called_sent : FetchesFind → (t : Token) (n : Plain) → held_until (last_of m.routes m.calls c) ≡ None → unsent_of m c ≡ Some t → Delivered c Running t m n
+  pub called_sent : FetchesFind → (t : Token) (n : Plain) → held_until (last_of m.routes m.calls c) ≡ None → unsent_of m c ≡ Some t → OutputDelivered c Running t m n
       → (state : State) (o v : Plain) → Yields 0 c state n o → Releases 0 c o v → Resumes c w v
   called_sent law t n sent unsent d state o v y r =
       let u = call_made w c call k.found in

@@ -18,7 +18,8 @@ use Rattle.wake_core.specs.Plain.{Plain, Hand, hand, State, Ready, DataWait, Che
 use Rattle.wake_core.specs.Events.{Asks, Fetches, next_call, after_ask, after_call, after_none, after_fetch}
 use Rattle.wake_core.specs.Sound.{Sound}
 use Rattle.wake_core.specs.WorldOf.{plain_of, to_step}
-use Rattle.wake_core.specs.Fields.{read, no_visitor, no_routine, shown_calls, calls_at, IsWaiting, IsRoomy}
+use Rattle.wake_core.specs.Fields.{read, no_visitor, no_routine, IsRoomy}
+use Rattle.wake_core.specs.private.Shown.{shown_calls, calls_at, IsWaiting}
 use Rattle.wake_core.specs.Turns.{IsInHand, Calls}
 use Rattle.wake_core.specs.Laws.{call_of}
 use Rattle.wake_core.proofs.Places.{place, set_at_same, set_at_there, set_at_other, set_at_again, set_at_itself}

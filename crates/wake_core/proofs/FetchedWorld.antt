@@ -12,7 +12,8 @@ use Rattle.wake_core.specs.Plain.{hand, Asked}
 use Rattle.wake_core.specs.Events.{next_call}
 use Rattle.wake_core.specs.WorldOf.{plain_of, to_step}
 use Rattle.wake_core.specs.WorldCalls.{in_hand, MayFetch}
-use Rattle.wake_core.specs.Fields.{read, no_visitor, no_routine, shown_calls}
+use Rattle.wake_core.specs.Fields.{read, no_visitor, no_routine}
+use Rattle.wake_core.specs.private.Shown.{shown_calls}
 use Rattle.wake_core.proofs.Arriving.{there}
 use Rattle.wake_core.proofs.Reading.{read_is}
 use Rattle.wake_core.specs.Laws.{call_of}

@@ -11,7 +11,8 @@ use Rattle.wake_core.specs.Planned.{planned_count}
 use Rattle.wake_core.specs.Plain.{Plain, blank, reads, lists_reader}
 use Rattle.wake_core.specs.Events.{Fills, after_fill}
 use Rattle.wake_core.specs.private.Owing.{FilledFirst, MayFillFirst}
-use Rattle.wake_core.specs.Fields.{read, fills_of, IsOwing, IsVisited, IsRoomy}
+use Rattle.wake_core.specs.Fields.{read, IsVisited, IsRoomy}
+use Rattle.wake_core.specs.private.Shown.{fills_of, IsOwing}
 use Rattle.wake_core.specs.Sound.{Sound}
 use Rattle.wake_core.proofs.Places.{place, set_at_there, set_at_other}
 use Rattle.wake_core.proofs.Reading.{read-set, read-set_same, read_is, read_within}

@@ -5,7 +5,7 @@ use Rattle.wake_core.specs.Run.{set_at}
 use Rattle.wake_core.specs.Plain.{Hand, hand, Phase, Fresh, Running}
 use Rattle.wake_core.specs.Events.{IsFree}
 use Rattle.wake_core.specs.Sound.{NotRunning}
-use Rattle.wake_core.specs.Fields.{IsFlagged, IsStepping}
+use Rattle.wake_core.specs.private.Shown.{IsFlagged, IsStepping}
 use Rattle.wake_core.proofs.Places.{place, set_at_is, set_at_there, set_at_other}
 
 -- Whom this thread doesn't hold, nor takes, is as free as before.

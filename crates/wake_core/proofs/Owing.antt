@@ -11,7 +11,8 @@ use Rattle.wake_core.specs.Run.{Route, set_at, readers_of}
 use Rattle.wake_core.specs.Plain.{Plain, lists, blank, reads}
 use Rattle.wake_core.specs.Events.{Looks, Clears, after_look, after_clear}
 use Rattle.wake_core.specs.WorldCalls.{MayLook}
-use Rattle.wake_core.specs.Fields.{read, fills_of, IsOwing, AreOwing}
+use Rattle.wake_core.specs.Fields.{read}
+use Rattle.wake_core.specs.private.Shown.{fills_of, IsOwing, AreOwing}
 use Rattle.wake_core.specs.Sound.{Sound}
 use Rattle.wake_core.specs.private.Owing.{MayLookAt, LookedAt, IsTakenOut}
 use Rattle.wake_core.proofs.Places.{place}

@@ -7,7 +7,8 @@ use Rattle.cy_comp.specs.Routine.{RoutineView}
 use Rattle.wake_core.specs.declared.world.World.{World}
 use Rattle.wake_core.specs.Plain.{Hand, Ready, DataWait, unsent_of, found_by, taped_of}
 use Rattle.wake_core.specs.WorldOf.{plain_of}
-use Rattle.wake_core.specs.Fields.{read, no_visitor, no_routine, calls_at}
+use Rattle.wake_core.specs.Fields.{read, no_visitor, no_routine}
+use Rattle.wake_core.specs.private.Shown.{calls_at}
 use Rattle.wake_core.specs.Rest.{IsAtRest}
 use Rattle.wake_core.specs.Turns.{is_ready, finds_nothing, parked_world}
 use Rattle.wake_core.proofs.Reading.{read_is, read-set}

@@ -21,12 +21,13 @@ use Rattle.wake_core.specs.WorldOf.{plain_of, routes_in, counts_in, stop_in}
 use Rattle.wake_core.specs.Run.{Route, readers_of, writes_from}
 use Rattle.wake_core.specs.Plain.{Plain, Stop, Hand, Ready, blank, opening_world, outs_of, taped_of}
 use Rattle.wake_core.specs.Sound.{Sound}
-use Rattle.wake_core.specs.Fields.{read, no_routine, no_visitor, calls_at, shown_calls, fills_of, plain_at, IsFixed, IsStepping, IsWaiting, IsVisited, IsRoomy}
+use Rattle.wake_core.specs.Fields.{read, no_routine, no_visitor, IsFixed, IsVisited, IsRoomy}
+use Rattle.wake_core.specs.private.Shown.{calls_at, shown_calls, fills_of, plain_at, IsStepping, IsWaiting}
 use Rattle.wake_core.specs.private.Opening.{IsNothing, AreNothing}
 use Rattle.wake_core.specs.WorldCalls.{IsRoutineOf}
 use Rattle.wake_core.specs.Rest.{IsAtRest, at_rest}
 use Rattle.wake_core.specs.Parts.{routine_in, shown_by, AreFit}
-use Rattle.wake_core.specs.private.Sent.{outputs_of, waiting_of, sent_of, IsCounted, AreCounted}
+use Rattle.wake_core.specs.private.Sent.{outputs_of, waiting_of, sent_count, IsCounted, AreCounted}
 use Rattle.wake_core.proofs.Reading.{read_at, read_past}
 use Rattle.wake_core.proofs.Listing.{get_in}
 use Rattle.wake_core.proofs.Limits.{count_limit}
@@ -171,7 +172,7 @@ module _ (p : Parts) (fit : AreFit p) where
     all_sent : length (outs x.out (routine_in p c).calls) ≡ taped_of (routes_in p.fixed) p.tape.items c + waiting_of (routine_in p c)
     all_sent = waits_at (outs x.out (routine_in p c).calls) (taped_of (routes_in p.fixed) p.tape.items c) (output x.out (taped_of (routes_in p.fixed) p.tape.items c + 1)) (routine_in p c).pending next_waits few most
 
-    sent_is : sent_of (routine_in p c) ≡ taped_of (routes_in p.fixed) p.tape.items c
+    sent_is : sent_count (routine_in p c) ≡ taped_of (routes_in p.fixed) p.tape.items c
     sent_is = omega (arith, outputs_are x.out (routine_in p c).calls, all_sent)
 
     counted : IsFixed (routes_in p.fixed) (counts_in p.fixed) → IsCounted (routine_in p c)
@@ -193,7 +194,7 @@ module _ (p : Parts) (fit : AreFit p) where
     each = λ c r at. some_route (routes_in p.fixed) c (omega (arith, slice_get_within p.routines c r at, fit.routines_fit)) (IsCounted r) (λ x here. subst IsCounted (routine_there c r at) (counted c x here fixed));
   }
 
-  pub waiting : {found : List (Option Found)} {sent : List ℕ} (n : ℕ) → found ≡ replicate n None → sent ≡ map sent_of p.routines
+  pub waiting : {found : List (Option Found)} {sent : List ℕ} (n : ℕ) → found ≡ replicate n None → sent ≡ map sent_count p.routines
       → IsWaiting (routes_in p.fixed) (routine_in p) (read (λ f. f) None found) (read (λ n. n) 0 sent) p.tape.items
   unfolding shown_by
   waiting {found} {sent} n none is = record {
@@ -204,12 +205,12 @@ module _ (p : Parts) (fit : AreFit p) where
     few = λ c x at. subst (λ k. k ≤ length (outs x.out (routine_in p c).calls)) (sym (at_each c)) (few c x at);
   }
     where
-      sent_at : (c : ℕ) → read (λ n. n) 0 (map sent_of p.routines) c ≡ sent_of (routine_in p c)
+      sent_at : (c : ℕ) → read (λ n. n) 0 (map sent_count p.routines) c ≡ sent_count (routine_in p c)
       sent_at c = by (slice_get p.routines c) refl
         where
-          by : (o : Option RoutineView) → slice_get p.routines c ≡ o → read (λ n. n) 0 (map sent_of p.routines) c ≡ sent_of (routine_in p c)
-          by (Some r) at = read_made sent_of 0 p.routines c r at ∙ ap sent_of (sym (routine_there c r at))
-          by None at = read_beyond sent_of 0 p.routines c at ∙ sym (ap sent_of (read_past (λ r. r) no_routine p.routines c (past at)))
+          by : (o : Option RoutineView) → slice_get p.routines c ≡ o → read (λ n. n) 0 (map sent_count p.routines) c ≡ sent_count (routine_in p c)
+          by (Some r) at = read_made sent_count 0 p.routines c r at ∙ ap sent_count (sym (routine_there c r at))
+          by None at = read_beyond sent_count 0 p.routines c at ∙ sym (ap sent_count (read_past (λ r. r) no_routine p.routines c (past at)))
             where
               past : slice_get p.routines c ≡ None → length p.routines ≤ c
               past none = le_of (λ l. get_in p.routines c l none)
@@ -220,11 +221,11 @@ module _ (p : Parts) (fit : AreFit p) where
       at_each : (c : ℕ) → read (λ n. n) 0 sent c ≡ taped_of (routes_in p.fixed) p.tape.items c
       at_each c = ap (λ l. read (λ n. n) 0 l c) is ∙ sent_at c ∙ by (slice_get (routes_in p.fixed) c) refl
         where
-          by : (o : Option Route) → slice_get (routes_in p.fixed) c ≡ o → sent_of (routine_in p c) ≡ taped_of (routes_in p.fixed) p.tape.items c
+          by : (o : Option Route) → slice_get (routes_in p.fixed) c ≡ o → sent_count (routine_in p c) ≡ taped_of (routes_in p.fixed) p.tape.items c
           by (Some x) at = sent_is c x at
           by None at =
               let nothing : taped_of (routes_in p.fixed) p.tape.items c ≡ 0 = ap (λ (o : Option Route). length (option_map_or (λ (x : Route). on_channel x.out p.tape.items) o [])) at in
-              ap sent_of (read_past (λ r. r) no_routine p.routines c (past at)) ∙ sym nothing
+              ap sent_count (read_past (λ r. r) no_routine p.routines c (past at)) ∙ sym nothing
             where
               past : slice_get (routes_in p.fixed) c ≡ None → length p.routines ≤ c
               past none = le_of (λ l. get_in (routes_in p.fixed) c l none)
@@ -234,7 +235,7 @@ module _ (p : Parts) (fit : AreFit p) where
 
 -- A world that is put together of parts that fit.
 module _ (p : Parts) (fit : AreFit p) {visitors : List VisitorView} {routines : List RoutineView} {spent : List Bool} (a : visitors ≡ p.visitors) (b : routines ≡ p.routines) (d : spent ≡ p.spent) where
-  pub together_waiting : {found : List (Option Found)} {sent : List ℕ} (n : ℕ) → found ≡ replicate n None → sent ≡ map sent_of p.routines
+  pub together_waiting : {found : List (Option Found)} {sent : List ℕ} (n : ℕ) → found ≡ replicate n None → sent ≡ map sent_count p.routines
       → IsWaiting (routes_in p.fixed) (read (λ r. r) no_routine routines) (read (λ f. f) None found) (read (λ n. n) 0 sent) p.tape.items
   together_waiting {found} {sent} n none is = subst (λ (rs : List RoutineView). IsWaiting (routes_in p.fixed) (read (λ r. r) no_routine rs) (read (λ f. f) None found) (read (λ n. n) 0 sent) p.tape.items) (sym b) (waiting p fit n none is)
 

@@ -13,7 +13,7 @@ use Rattle.wake_core.specs.Events.{Asks, Fetches, Yields, Releases, OwesNothing,
 use Rattle.wake_core.specs.Laws as event
 use Rattle.wake_core.specs.Sound.{Sound}
 use Rattle.wake_core.specs.Rest.{IsAtRest, run_shown, StaysFixed}
-use Rattle.wake_core.specs.Turns.{IsAlone, IsInHand, Delivered, IsNamed, IsStep, Keeps, Resumes, sum_below, calls_left, left_of}
+use Rattle.wake_core.specs.Turns.{IsAlone, IsInHand, OutputDelivered, IsNamed, IsStep, Keeps, Resumes, sum_below, calls_left, left_of}
 use Rattle.wake_core.proofs.Places.{place, set_at_same, set_at_other, set_at_again, set_at_itself}
 use Rattle.wake_core.proofs.Taping.{unsent_is}
 use Rattle.wake_core.proofs.Totals.{output_room}
@@ -120,14 +120,14 @@ free_step c w v calm can run None named = record { can = can; run = run }
 free_step c w v calm can run (Some r) named = absurd (true≢false (sym named.0 ∙ calm))
 
 -- What a component keeps while another one sends an output.
-pub delivered_keeps : (c : ℕ) (next : Phase) (t : Token) (w m : Plain) → Delivered c next t w m → (k : ℕ) → k ≢ c → ((u : ℕ) → w.states k ≡ Sleep u → unsent_of w k ≢ None) → Keeps k w m
+pub delivered_keeps : (c : ℕ) (next : Phase) (t : Token) (w m : Plain) → OutputDelivered c next t w m → (k : ℕ) → k ≢ c → ((u : ℕ) → w.states k ≡ Sleep u → unsent_of w k ≢ None) → Keeps k w m
 delivered_keeps c next t w m d k apart sleeps = told_keeps k (readers_of w.routes t.channel) t w m d.arrivals (ap (λ (x : Plain). x.states k) d.same) (d.spent k) (d.others k apart) sleeps
 
 -- What is heard is no less.
 pub same_hears : (w v : Plain) → v.arrivals ≡ w.arrivals → (k : ℕ) → heard_by (w.arrivals k) ≤ heard_by (v.arrivals k)
 same_hears w v e k = let same = ap (λ (f : ℕ → List Arrival). heard_by (f k)) e in omega (arith, same)
 
-pub delivered_hears : (c : ℕ) (next : Phase) (t : Token) (w m v : Plain) → Delivered c next t w m → v.arrivals ≡ m.arrivals → (k : ℕ) → heard_by (w.arrivals k) ≤ heard_by (v.arrivals k)
+pub delivered_hears : (c : ℕ) (next : Phase) (t : Token) (w m v : Plain) → OutputDelivered c next t w m → v.arrivals ≡ m.arrivals → (k : ℕ) → heard_by (w.arrivals k) ≤ heard_by (v.arrivals k)
 delivered_hears c next t w m v d e k =
     let same = ap (λ (f : ℕ → List Arrival). heard_by (f k)) (e ∙ d.arrivals) in
     let more = hears_more (readers_of w.routes t.channel) t w.arrivals k in
@@ -143,7 +143,7 @@ ends_keep c state w m v e k apart a = same_then k w m v a record {
 }
 
 -- What a world shows after an output was put, but for what has ended.
-pub delivered_run : (c : ℕ) (next : Phase) (t : Token) (w m : Plain) (r : Run) (f : ℕ → Bool) → Delivered c next t w m → r.arrivals ≡ w.arrivals → r.calls ≡ w.calls → r.tape ≡ w.tape → r.clock ≡ w.clock
+pub delivered_run : (c : ℕ) (next : Phase) (t : Token) (w m : Plain) (r : Run) (f : ℕ → Bool) → OutputDelivered c next t w m → r.arrivals ≡ w.arrivals → r.calls ≡ w.calls → r.tape ≡ w.tape → r.clock ≡ w.clock
     → r.unsent c ≡ false → ((k : ℕ) → k ≢ c → r.unsent k ≡ is_some (unsent_of w k)) → record (run_shown m) { ended = f } ≡ put w.routes t (record r { ended = f })
 delivered_run c next t w m r f d a k p l none others = run_is m (put w.routes t r) f
     (d.arrivals ∙ ap (arrive (readers_of w.routes t.channel) t) (sym a))
@@ -157,7 +157,7 @@ delivered_run c next t w m r f d a k p l none others = run_is m (put w.routes t 
 
 -- A held output is sent.
 module _ (c : ℕ) (t : Token) (w m n v : Plain) (h : IsInHand c Checked w) (s : Sound w) (ready : w.states c ≡ Ready) (calm : stops w.stop w.raised c ≡ false) (unsent : unsent_of w c ≡ Some t)
-    (d : Delivered c Sending t w m) (y : Yields 0 c Ready m n) (r : Releases 0 c n v) where
+    (d : OutputDelivered c Sending t w m) (y : Yields 0 c Ready m n) (r : Releases 0 c n v) where
   held_some : is_some (unsent_of w c) ≡ true
   held_some = ap is_some unsent
 

@@ -6,12 +6,12 @@ use Rattle.wake_core.specs.Plain.{Plain, hand, Phase, unsent_of, outs_of}
 use Rattle.wake_core.specs.Events.{Sends, after_send}
 use Rattle.wake_core.specs.Laws as event
 use Rattle.wake_core.specs.Sound.{Consistent}
-use Rattle.wake_core.specs.Turns.{Delivers, Delivered, IsAlone, flag_after}
+use Rattle.wake_core.specs.Turns.{Delivers, OutputDelivered, IsAlone, flag_after}
 use Rattle.wake_core.proofs.Places.{set_at_same, set_at_other}
 use Rattle.wake_core.proofs.Taping.{send_taped, send_written, send_all}
 use Rattle.wake_core.proofs.Playing.{idle_by, delivered_owes, delivered_other, delivered_arrivals, played_same}
 
-pub delivered_by : (c : ℕ) (next : Phase) (t : Token) (w m v : Plain) → IsAlone w → Consistent w → Sends 0 c next t w m → Delivers 0 m v → Delivered c next t w v
+pub delivered_by : (c : ℕ) (next : Phase) (t : Token) (w m v : Plain) → IsAlone w → Consistent w → Sends 0 c next t w m → Delivers 0 m v → OutputDelivered c next t w v
 delivered_by c next t w m v alone s send d =
     let sent : Plain = after_send 0 c next t w in
     let d' : Delivers 0 sent v = subst (λ (x : Plain). Delivers 0 x v) send.effect d in

@@ -13,7 +13,8 @@ use Rattle.wake_core.specs.Run.{Route, set_at, roles_of, readers_from, readers_o
 use Rattle.wake_core.specs.Plain.{Plain, Hand, hand, State, Phase, blank, taped_of, outs_of}
 use Rattle.wake_core.specs.Events.{Tapes, Sends, after_tape, after_send}
 use Rattle.wake_core.specs.private.Owing.{HasToFill}
-use Rattle.wake_core.specs.Fields.{read, no_routine, shown_calls, calls_at, fills_of, IsOwing, IsWaiting, IsRoomy}
+use Rattle.wake_core.specs.Fields.{read, no_routine, IsRoomy}
+use Rattle.wake_core.specs.private.Shown.{shown_calls, calls_at, fills_of, IsOwing, IsWaiting}
 use Rattle.wake_core.proofs.Places.{place, set_at_there, set_at_other}
 use Rattle.wake_core.proofs.Reading.{read-set, read-set_same, read_is}
 use Rattle.wake_core.proofs.HeldCalls.{OneTaped}

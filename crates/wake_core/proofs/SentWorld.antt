@@ -14,7 +14,8 @@ use Rattle.wake_core.specs.Events.{Tapes, Sends, after_tape, after_send}
 use Rattle.wake_core.specs.private.Owing.{HasToFill}
 use Rattle.wake_core.specs.WorldOf.{plain_of, to_step}
 use Rattle.wake_core.specs.WorldCalls.{phase_sent}
-use Rattle.wake_core.specs.Fields.{read, no_visitor, no_routine, fills_of, calls_at, IsFlagged, IsStepping, IsWaiting, IsRoomy, AreOwing}
+use Rattle.wake_core.specs.Fields.{read, no_visitor, no_routine, IsRoomy}
+use Rattle.wake_core.specs.private.Shown.{fills_of, calls_at, IsFlagged, IsStepping, IsWaiting, AreOwing}
 use Rattle.wake_core.proofs.Arriving.{there, planned_messages}
 use Rattle.wake_core.proofs.Reading.{read-set, read-set_same, read_is, read_within, hands_set}
 use Rattle.wake_core.proofs.Flags.{phase_flags, hand_stepping}

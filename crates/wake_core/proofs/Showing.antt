@@ -16,7 +16,8 @@ use Rattle.wake_core.specs.Planned.{planned}
 use Rattle.wake_core.specs.Plain.{Plain, outs_of, taped_of}
 use Rattle.wake_core.specs.Sound.{Sound}
 use Rattle.wake_core.specs.WorldCalls.{IsRoutineOf}
-use Rattle.wake_core.specs.Fields.{read, no_routine, shown_calls, calls_at, IsFixed, IsWaiting}
+use Rattle.wake_core.specs.Fields.{read, no_routine, IsFixed}
+use Rattle.wake_core.specs.private.Shown.{shown_calls, calls_at, IsWaiting}
 use Rattle.wake_core.proofs.Listing.{get_in}
 use Rattle.wake_core.proofs.Limits.{count_limit}
 

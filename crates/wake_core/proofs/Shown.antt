@@ -12,7 +12,8 @@ use Rattle.wake_core.specs.Run.{Route, set_at}
 use Rattle.wake_core.specs.Plain.{DataWait, Plain, Hand, hand, Asked, Running, taped_of, made_of, outs_of, unsent_of}
 use Rattle.wake_core.specs.Sound.{HeldIn}
 use Rattle.wake_core.specs.Events.{Fetches, next_call, after_call, after_fetch}
-use Rattle.wake_core.specs.Fields.{read, no_routine, shown_calls, calls_at, IsWaiting, IsStepping}
+use Rattle.wake_core.specs.Fields.{read, no_routine}
+use Rattle.wake_core.specs.private.Shown.{shown_calls, calls_at, IsWaiting, IsStepping}
 use Rattle.wake_core.proofs.Places.{place, set_at_there, set_at_other, set_at_itself}
 use Rattle.wake_core.proofs.Reading.{read-set}
 use Rattle.wake_core.proofs.HeldLaws.{not_running_of}

@@ -10,7 +10,8 @@ use Rattle.wake_core.specs.declared.owed.Owed.{Owed}
 use Rattle.wake_core.specs.Run.{Route, set_at, arrive, readers_of}
 use Rattle.wake_core.specs.Plain.{Plain, State, Ready, blank, lists_reader}
 use Rattle.wake_core.specs.Events.{is_waiting, after_fill}
-use Rattle.wake_core.specs.Fields.{read, fills_of, no_visitor, no_routine, IsVisited, IsRoomy, IsOwing}
+use Rattle.wake_core.specs.Fields.{read, no_visitor, no_routine, IsVisited, IsRoomy}
+use Rattle.wake_core.specs.private.Shown.{fills_of, IsOwing}
 use Rattle.wake_core.specs.Laws as event
 use Rattle.wake_core.specs.Laws.{Events}
 use Rattle.wake_core.specs.Sound.{Sound}

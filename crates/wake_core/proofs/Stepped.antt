@@ -10,7 +10,8 @@ use Rattle.wake_core.specs.declared.found.Found.{Found}
 use Rattle.wake_core.specs.Run.{Route, set_at}
 use Rattle.wake_core.specs.Planned.{planned_count, first_reader}
 use Rattle.wake_core.specs.Plain.{Plain, Hand, State}
-use Rattle.wake_core.specs.Fields.{read, no_routine, shown_calls, calls_at, IsWaiting, IsStepping, IsRoomy}
+use Rattle.wake_core.specs.Fields.{read, no_routine, IsRoomy}
+use Rattle.wake_core.specs.private.Shown.{shown_calls, calls_at, IsWaiting, IsStepping}
 use Rattle.cy_fuse.specs.Visitor.{VisitorView}
 use Rattle.wake_core.proofs.Places.{place, set_at_there, set_at_other}
 use Rattle.wake_core.proofs.Reading.{read-set}

@@ -13,7 +13,8 @@ use Rattle.wake_core.specs.declared.entries.TheConstants.{MOST_PLANNED}
 use Rattle.wake_core.specs.Plain.{Ready, last_of}
 use Rattle.wake_core.specs.WorldOf.{plain_of, to_step}
 use Rattle.wake_core.specs.WorldCalls.{in_hand, MayStep}
-use Rattle.wake_core.specs.Fields.{read, no_routine, shown_calls, calls_at}
+use Rattle.wake_core.specs.Fields.{read, no_routine}
+use Rattle.wake_core.specs.private.Shown.{shown_calls, calls_at}
 use Rattle.wake_core.proofs.Arriving.{there, fused_planned, planned_trigger}
 use Rattle.wake_core.proofs.Reading.{read_is, read-set_same}
 use Rattle.wake_core.proofs.Listing.{get_last}

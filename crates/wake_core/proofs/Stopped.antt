@@ -12,7 +12,7 @@ use Rattle.wake_core.specs.Laws as event
 use Rattle.wake_core.specs.Sound.{Sound}
 use Rattle.wake_core.specs.Rest.{run_shown}
 use Rattle.wake_core.specs.WorldCalls.{in_hand, phase_sent, IsStepped}
-use Rattle.wake_core.specs.Turns.{IsInHand, Delivered, MaySendOut, MayGiveBack, GivesBack, IsNamed, IsStep, Resumes, left_of}
+use Rattle.wake_core.specs.Turns.{IsInHand, OutputDelivered, MaySendOut, MayGiveBack, GivesBack, IsNamed, IsStep, Resumes, left_of}
 use Rattle.wake_core.proofs.Places.{place, set_at_same, set_at_there, set_at_other}
 use Rattle.wake_core.proofs.Arriving.{there}
 use Rattle.wake_core.proofs.Taping.{unsent_is}
@@ -101,9 +101,9 @@ module _ (c : ℕ) (w : Plain) (h : IsInHand c Stopping w) (s : Sound w) where
     pub last_stepped : (to_step : ℕ → Option Tuple) → IsStepped 0 w to_step
     last_stepped to_step = other_stepped c Stopping w to_step h.held (λ e. cc)
 
-    module _ (m : Plain) (d' : Delivered (in_hand 0 w) (phase_sent (w.hands 0)) t w m) where
-      d : Delivered c LastSending t w m
-      d = subst (λ f. Delivered c f t w m) last_sends (subst (λ n. Delivered n (phase_sent (w.hands 0)) t w m) it d')
+    module _ (m : Plain) (d' : OutputDelivered (in_hand 0 w) (phase_sent (w.hands 0)) t w m) where
+      d : OutputDelivered c LastSending t w m
+      d = subst (λ f. OutputDelivered c f t w m) last_sends (subst (λ n. OutputDelivered n (phase_sent (w.hands 0)) t w m) it d')
 
       sent_it : in_hand 0 m ≡ c
       sent_it = in_hand_is c LastSending m d.in_hand.held

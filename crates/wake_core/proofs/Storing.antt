@@ -12,7 +12,8 @@ use Rattle.wake_core.specs.Plain.{Plain, Hand, hand, State, Ready, Phase, Fresh,
 use Rattle.wake_core.specs.Planned.{planned_count, first_reader}
 use Rattle.wake_core.specs.Events.{Spends, Readies, Checks, Asks, Yields, Releases, after_spend, after_ready, after_check, after_ask, after_yield, after_release, phase_after_spend}
 use Rattle.wake_core.specs.WorldCalls.{in_hand, MaySpend, MayReady, MayCheck, MayAsk, MayYieldAs, MayRelease, IsStepped}
-use Rattle.wake_core.specs.Fields.{read, no_routine, shown_calls, calls_at, IsFlagged, IsStepping, IsWaiting, IsRoomy}
+use Rattle.wake_core.specs.Fields.{read, no_routine, IsRoomy}
+use Rattle.wake_core.specs.private.Shown.{shown_calls, calls_at, IsFlagged, IsStepping, IsWaiting}
 use Rattle.wake_core.proofs.Places.{place, set_at_there, set_at_other}
 use Rattle.wake_core.proofs.Reading.{read-set}
 use Rattle.wake_core.proofs.Flags.{hand_stepping}

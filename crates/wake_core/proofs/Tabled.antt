@@ -6,7 +6,8 @@ use Rattle.cy_comp.specs.Wiring.{IsWiring}
 use Rattle.wake_core.specs.declared.entries.TheConstants.{MOST_PLANNED}
 use Rattle.wake_core.specs.Run.{Route, route_of, routes_of}
 use Rattle.wake_core.specs.Planned.{planned}
-use Rattle.wake_core.specs.Fields.{IsFixed, HaveFew}
+use Rattle.wake_core.specs.Fields.{IsFixed}
+use Rattle.wake_core.specs.private.Shown.{HaveFew}
 use Rattle.wake_core.proofs.Rooted.{its_plan}
 
 -- What is kept of a wiring.

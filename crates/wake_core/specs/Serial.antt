@@ -83,9 +83,9 @@ follow routes x c (Last out) w =
     send routes x c out (record w { ended = set_at c true w.ended })
 
 -- A call on the tuple at a position.
-abbrev pub call_on : List Route → Route → ℕ → ℕ → Option Tuple → Run → Run
-call_on routes x c position None w = w
-call_on routes x c position (Some tuple) w =
+abbrev pub with_call : List Route → Route → ℕ → ℕ → Option Tuple → Run → Run
+with_call routes x c position None w = w
+with_call routes x c position (Some tuple) w =
     let outcome = outcome_after x.kind (tuples_of (w.calls c)) tuple in
     follow routes x c outcome (record w {
       calls = set_at c (w.calls c
@@ -100,7 +100,7 @@ call_on routes x c position (Some tuple) w =
 abbrev pub call_at : List Route → Route → ℕ → Option ℕ → Run → Run
 call_at routes x c None w = w
 call_at routes x c (Some position) w =
-    call_on routes x c position (slice_get (fused (w.arrivals c) (length x.readers)) (position - 1))
+    with_call routes x c position (slice_get (fused (w.arrivals c) (length x.readers)) (position - 1))
     w
 
 -- A component ends.

@@ -137,7 +137,7 @@ pub record Finds (order : List ℕ) (c : ℕ) (w v : Plain) : Type 0 where
   pub ready : v.states c ≡ Ready
 
 -- An output of the croutine in hand was sent and delivered: nothing of it is unsent then.
-pub record Delivered (c : ℕ) (next : Phase) (t : Token) (w v : Plain) : Type 0 where
+pub record OutputDelivered (c : ℕ) (next : Phase) (t : Token) (w v : Plain) : Type 0 where
   pub events : Events w v
   pub same : v ≡ record w {
     tape = w.tape ++ t ∷ [];
@@ -192,7 +192,7 @@ pub record IsCalledFrom (c : ℕ) (call : Call) (w v : Plain) : Type 0 where
 pub record SendsOut (c : ℕ) (w v : Plain) : Type 0 where
   pub turn : ((v ≡ w) × (held_until (last_of w.routes w.calls c) ≡ None → unsent_of w c ≡ None))
       ⊎ ((t : Token) × (held_until (last_of w.routes w.calls c) ≡ None)
-      × (unsent_of w c ≡ Some t) × Delivered c Running t w v)
+      × (unsent_of w c ≡ Some t) × OutputDelivered c Running t w v)
 
 -- The croutine in hand may yield in a state; it did, and was given back.
 abbrev pub MayGiveBack : State → Plain → Type 0

@@ -20,7 +20,7 @@ use Rattle.wake_core.specs.Events.{after_stop, after_close, after_ask, after_tap
 use Rattle.wake_core.specs.Events.{after_yield, Closes}
 
 -- The opening world: no component is to be stepped.
-pub record IsOpening (routes : List Route) (counts : List ℕ) (stop : Option Stop) (w : Plain)
+pub record IsNewWorld (routes : List Route) (counts : List ℕ) (stop : Option Stop) (w : Plain)
     (to_step : ℕ → Option Tuple) : Type 0 where
   pub opens : w ≡ opening_world routes counts stop
   pub stepped : (c : ℕ) → to_step c ≡ None

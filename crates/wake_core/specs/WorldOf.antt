@@ -6,7 +6,8 @@ use Rattle.wake_core.specs.declared.fixed.Fixed.{Fixed}
 use Rattle.wake_core.specs.declared.world.World.{World}
 use Rattle.wake_core.specs.declared.found.Found.{Found}
 use Rattle.wake_core.specs.Plain.{Plain, Stop}
-use Rattle.wake_core.specs.Fields.{plain_at, read}
+use Rattle.wake_core.specs.Fields.{read}
+use Rattle.wake_core.specs.private.Shown.{plain_at}
 
 -- The plain world that a world is.
 unfoldable pub plain_of : World → Plain

@@ -3,3 +3,4 @@ pub mod Opening
 pub mod Sent
 pub mod Delivery
 pub mod NextCall
+pub mod Shown

@@ -2,7 +2,8 @@
 ghost use Rattle.std.specs.Prelude.{◌≡◌, ◌≤◌, ◌++◌, length, IfOk, IfErr};
 ghost use Rattle.wake_core.specs.declared.error.CoreError.TheVariants as CoreError;
 ghost use Rattle.wake_core.specs.Run.{routes_of, readers_of, roles_of};
-ghost use Rattle.wake_core.specs.Fields.{IsFixed, IsWithin, IsTable, HaveFew};
+ghost use Rattle.wake_core.specs.Fields.{IsFixed, IsWithin};
+ghost use Rattle.wake_core.specs.private.Shown.{IsTable, HaveFew};
 
 use crate::{CoreError, Route};
 use cy_comp::{Plan, Wiring};
@@ -32,7 +33,8 @@ impl Fixed {
     ghost use Rattle.wake_core.specs.Run.{Route, routes_of, readers_of, played_of, writes_from};
     ghost use Rattle.wake_core.specs.Plain.{stops};
     ghost use Rattle.wake_core.specs.Planned.{planned};
-    ghost use Rattle.wake_core.specs.Fields.{IsFixed, IsWithin, IsTable};
+    ghost use Rattle.wake_core.specs.Fields.{IsFixed, IsWithin};
+    ghost use Rattle.wake_core.specs.private.Shown.{IsTable};
     ghost use Rattle.wake_core.specs.WorldOf.{routes_in, stop_in, IsMade};
 
     /// How many of these messages were played: they stand on channels that no component writes.

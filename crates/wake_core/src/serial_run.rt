@@ -11,7 +11,7 @@ ghost use Rattle.wake_core.specs.LawfulRun.{Quiet, LawfulRun};
 ghost use Rattle.wake_core.specs.Rest.{IsAtRest, IsScanOf, MayPlay, MayFinish, StaysMade};
 ghost use Rattle.wake_core.specs.Rest.{StaysFixed, Heeds, run_shown};
 ghost use Rattle.wake_core.specs.Turns.{PlaysOne, MayPut, Passes, Finds, IsInHand, MaySendOut};
-ghost use Rattle.wake_core.specs.Turns.{Delivered, SendsOut, IsCalledFrom, Resumes, Turns};
+ghost use Rattle.wake_core.specs.Turns.{OutputDelivered, SendsOut, IsCalledFrom, Resumes, Turns};
 ghost use Rattle.wake_core.specs.Turns.{IsSettled, MayPlayOn, PlaysOn, place_of};
 ghost use Rattle.wake_core.specs.Way.{IsLed};
 ghost use Rattle.wake_core.specs.WorldOf.{plain_of, to_step};
@@ -34,8 +34,8 @@ pub fn serial(world: &mut World, list: &PlayList, placement: &Placement)
         (scan_of placement.now.contexts) list.now.tokens (run_shown (plain_of world.new)) }
     ensures lawful { LawfulRun list.now.tokens (plain_of world.old).routes
         (plain_of world.old).stop (plain_of world.new) }
-    ensures stays { StaysMade (plain_of world.old) (plain_of world.new)
-        × IsLed (plain_of world.old) (plain_of world.new) }
+    ensures stays { StaysMade (plain_of world.old) (plain_of world.new) }
+    ensures led { IsLed (plain_of world.old) (plain_of world.new) }
 {
     fetches_find();
     outcomes_are_answers();
@@ -57,8 +57,8 @@ pub fn finish(world: &mut World, placement: &Placement)
         → Settles (next (plain_of world.old).routes stop (scan_of placement.now.contexts))
         (run_shown (plain_of world.old)) (run_shown (plain_of world.new)) }
     ensures quiet { Quiet (plain_of world.new) }
-    ensures stays { StaysFixed (plain_of world.old) (plain_of world.new)
-        × IsLed (plain_of world.old) (plain_of world.new) }
+    ensures stays { StaysFixed (plain_of world.old) (plain_of world.new) }
+    ensures led { IsLed (plain_of world.old) (plain_of world.new) }
 {
     fetches_find();
     outcomes_are_answers();
@@ -300,7 +300,7 @@ fn send_out(world: &mut World, component: u32, outcome: &Outcome)
 fn send(world: &mut World, token: Token)
     requires may { MaySendOut token (plain_of world.old) }
     requires stepped { IsStepped 0 (plain_of world.old) (to_step world.old) }
-    ensures sends { Delivered (in_hand 0 (plain_of world.old))
+    ensures sends { OutputDelivered (in_hand 0 (plain_of world.old))
         (phase_sent ((plain_of world.old).hands 0)) token (plain_of world.old)
         (plain_of world.new) }
     ensures steps { to_step world.new ≡ to_step world.old }

@@ -3,9 +3,11 @@ ghost use Rattle.std.specs.Prelude.{ℕ, ◌≡◌, length, true, None, vec_capa
 ghost use Rattle.wake_core.specs.Plain.{Hand};
 ghost use Rattle.wake_core.specs.Run.{played_of};
 ghost use Rattle.wake_core.specs.Sound.{Sound};
-ghost use Rattle.wake_core.specs.Fields.{read, no_visitor, no_routine, plain_at};
-ghost use Rattle.wake_core.specs.Fields.{IsSized, IsFlagged};
-ghost use Rattle.wake_core.specs.Fields.{IsStepping, IsWaiting, IsVisited, IsRoomy, AreOwing};
+ghost use Rattle.wake_core.specs.Fields.{read, no_visitor, no_routine};
+ghost use Rattle.wake_core.specs.private.Shown.{plain_at};
+ghost use Rattle.wake_core.specs.private.Shown.{IsSized, IsFlagged};
+ghost use Rattle.wake_core.specs.Fields.{IsVisited, IsRoomy};
+ghost use Rattle.wake_core.specs.private.Shown.{IsStepping, IsWaiting, AreOwing};
 
 use crate::Hand;
 use crate::fixed::Fixed;

@@ -13,11 +13,11 @@ use Rattle.wake_core.specs.Plain.{Stop, opening_world, to_play_from}
 use Rattle.wake_core.specs.Fields.{IsWithin}
 use Rattle.wake_core.specs.declared.route.Route.{Route}
 use Rattle.wake_core.specs.WorldOf.{plain_of, to_step}
-use Rattle.wake_core.specs.WorldCalls.{IsOpening, IsTooMany}
+use Rattle.wake_core.specs.WorldCalls.{IsNewWorld, IsTooMany}
 use Rattle.wake_core_tests.specs.Groups.{Shows}
 use Rattle.wake_core_tests.specs.Runs.{passing, summing, stop_after_one}
 
-pub opens : (routes expected : List Route) (counts : List ℕ) (result : Result World CoreError) → routes ≡ expected → IfOk result (λ w. IsOpening routes counts None (plain_of w) (to_step w)) → IfOk result (Shows (opening_world expected counts None))
+pub opens : (routes expected : List Route) (counts : List ℕ) (result : Result World CoreError) → routes ≡ expected → IfOk result (λ w. IsNewWorld routes counts None (plain_of w) (to_step w)) → IfOk result (Shows (opening_world expected counts None))
 opens routes expected counts (Ok w) is opening = record { plain = opening.opens ∙ ap (λ r. opening_world r counts None) is; stepped = opening.stepped }
 opens routes expected counts (Err e) is opening = tt
 

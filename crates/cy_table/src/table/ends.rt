@@ -28,7 +28,8 @@ impl FlagTable {
     ghost use Rattle.wake_core.specs.WorldOf.{plain_of, to_step};
     ghost use Rattle.wake_core.specs.Parts.{AreFit, shown_by};
     ghost use Rattle.cy_table.specs.Calls.{made_of};
-    ghost use Rattle.cy_table.specs.Ends.{IsNew, IsLast, IsLeft, HaveRoom};
+    ghost use Rattle.cy_table.specs.Ends.{IsNew, IsLast, IsLeft};
+    ghost use Rattle.cy_table.specs.private.Taking.{HaveRoom};
 
     /// The table of a world in which nobody holds a croutine or owes anything, and the player's
     /// pass. Its only error is `Memory`, and then the world is given up.
@@ -131,7 +132,7 @@ struct Taken {
 
 impl Taken {
     ghost use Rattle.std.specs.Prelude.{IfOk};
-    ghost use Rattle.cy_table.specs.Ends.{HaveRoom};
+    ghost use Rattle.cy_table.specs.private.Taking.{HaveRoom};
 
     // Nothing yet, with room for so many components.
     fn with_room(alloc: Global, count: usize) -> Result<Self, TableError>

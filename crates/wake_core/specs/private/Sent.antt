@@ -11,8 +11,8 @@ outputs_of calls = length (filter (λ x. is_some x.out) calls)
 abbrev pub waiting_of : RoutineView → ℕ
 waiting_of r = if is_some r.pending then 1 else 0
 
-abbrev pub sent_of : RoutineView → ℕ
-sent_of r = outputs_of r.calls - waiting_of r
+abbrev pub sent_count : RoutineView → ℕ
+sent_count r = outputs_of r.calls - waiting_of r
 
 -- An output that waits is one of those of the calls, and their number fits.
 pub record IsCounted (r : RoutineView) : Type 0 where

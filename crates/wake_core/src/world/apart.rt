@@ -1,12 +1,12 @@
 // A world taken apart, and put together again.
 ghost use Rattle.std.specs.Prelude.{◌≡◌, map, IfOk, IfErr};
 ghost use Rattle.wake_core.specs.declared.error.CoreError.TheVariants as CoreError;
-ghost use Rattle.wake_core.specs.private.Sent.{outputs_of, sent_of as sent_by_calls, IsCounted};
+ghost use Rattle.wake_core.specs.private.Sent.{sent_count as sent_by_calls, IsCounted};
 ghost use Rattle.wake_core.specs.private.Sent.{AreCounted};
 
 use super::opening::{Unheld, held_by_nobody};
 use crate::{CoreError, Parts, World};
-use cy_comp::{Calls, Routine};
+use cy_comp::Routine;
 use cy_msg::Items;
 use std::alloc::Global;
 
@@ -83,27 +83,20 @@ fn sent_by(alloc: Global, routines: &[Routine]) -> Result<Vec<u32>, CoreError>
 {
     let mut sent = Vec::with_capacity(alloc, routines.len())?;
     for routine in routines {
-        sent.push(sent_of(routine))?;
+        sent.push(sent_count(routine))?;
     }
     Ok(sent)
 }
 
 // How many outputs of a component were sent: those of all its calls, but for one that waits.
-fn sent_of(routine: &Routine) -> u32
+fn sent_count(routine: &Routine) -> u32
     requires { IsCounted routine.now }
     ensures { result ≡ sent_by_calls routine.now }
 {
-    let made = outputs_of(routine.calls());
+    let made = routine.calls().outputs();
     if routine.pending().is_some() {
         (made - 1) as u32
     } else {
         made as u32
     }
-}
-
-// How many outputs calls have.
-fn outputs_of(calls: Calls<'_>) -> usize
-    ensures { result ≡ outputs_of calls.entry }
-{
-    calls.filter(|call| call.out.is_some()).count()
 }

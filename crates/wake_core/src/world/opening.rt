@@ -30,7 +30,7 @@ impl World {
     ghost use Rattle.wake_core.specs.Planned.{planned as planned_entries};
     ghost use Rattle.wake_core.specs.Fields.{IsWithin};
     ghost use Rattle.wake_core.specs.WorldOf.{plain_of, to_step};
-    ghost use Rattle.wake_core.specs.WorldCalls.{IsOpening, IsTooMany};
+    ghost use Rattle.wake_core.specs.WorldCalls.{IsNewWorld, IsTooMany};
 
     /// The opening world of a wiring, for a list with so many messages on each channel, and with a
     /// stop or none. It takes all the memory that a run needs. `TooMany` says that more entries are
@@ -44,7 +44,7 @@ impl World {
         requires counts { length counts.now ≡ length wiring.now.names }
         requires within { IsWithin (routes_of wiring.now.plans) counts.now stop }
         ensures opening { IfOk result (λ w.
-            IsOpening (routes_of wiring.now.plans) counts.now stop (plain_of w) (to_step w)) }
+            IsNewWorld (routes_of wiring.now.plans) counts.now stop (plain_of w) (to_step w)) }
         ensures too_many { (count : ℕ) → IsErrOf result (CoreError.TooMany count)
             ↔ IsTooMany (routes_of wiring.now.plans) counts.now count }
     {
@@ -66,7 +66,7 @@ impl World {
         requires limited { planned_entries (routes_of wiring.now.plans) counts.now ≤ MOST_PLANNED }
         requires within { IsWithin (routes_of wiring.now.plans) counts.now stop }
         ensures opening { IfOk result (λ w.
-            IsOpening (routes_of wiring.now.plans) counts.now stop (plain_of w) (to_step w)) }
+            IsNewWorld (routes_of wiring.now.plans) counts.now stop (plain_of w) (to_step w)) }
         ensures memory { IfErr result (λ e. e ≡ CoreError.Memory) }
     {
         outcomes_are_answers();

@@ -8,5 +8,5 @@ returns c =
     let opens = c.in_ok-world.ensures.opens in
     record {
       run = has_run w.serial w.request c.args.replay.now _ _ c.played_places_are_there.ensures c.places.ensures c.requires opens
-          (serial_run w.serial c.args.replay.now _ _ opens c.serial.ensures.run) (lawful_run c.args.replay.now _ _ opens c.serial.ensures.lawful) c.serial.ensures.stays.0.counts c.serial.ensures.stays.1 c.trace_is_read_back.ensures;
+          (serial_run w.serial c.args.replay.now _ _ opens c.serial.ensures.run) (lawful_run c.args.replay.now _ _ opens c.serial.ensures.lawful) c.serial.ensures.stays.counts c.serial.ensures.led c.trace_is_read_back.ensures;
     }

@@ -31,4 +31,4 @@ finish-requires g c = may_finish c.put.ensures c.args.world c.in-Ok.table c.args
 
 pub returns-clause-led : goal.returns-clause-led
 returns-clause-led g c = was_led c.ways.ensures (plain_of c.args.world) (made_of c.in-Ok.table) (plain_of c.in-Ok-close.world) (plain_of c.finish.new.world) c.in-Ok.ensures.made c.sound.ensures.sound c.in-Ok-close.ensures.left.reached
-    c.finish.ensures.stays.1
+    c.finish.ensures.led

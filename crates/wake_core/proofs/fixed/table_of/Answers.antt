@@ -1,7 +1,7 @@
 use Rattle.std.proofs.Common.{ℕ, ◌+◌, ◌≡◌, ◌∙◌, ap, sym, subst, List, [], ◌∷◌, ◌++◌, length, length-append, Some, slice_get}
 use borrow.Author.Count.{below_more}
 use Rattle.wake_core.specs.Run.{Route, readers_of}
-use Rattle.wake_core.specs.Fields.{IsTable}
+use Rattle.wake_core.specs.private.Shown.{IsTable}
 use Rattle.wake_core.proofs.Listing.{get_append, get_last}
 use Rattle.wake_core.proofs.fixed.table_of.Goals as goal
 

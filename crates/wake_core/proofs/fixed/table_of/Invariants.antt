@@ -1,5 +1,5 @@
 use Rattle.std.proofs.Common.{◌≡◌, length}
-use Rattle.wake_core.specs.Fields.{IsTable}
+use Rattle.wake_core.specs.private.Shown.{IsTable}
 use Rattle.wake_core.proofs.fixed.table_of.Given as goal
 
 -- Those of the channels so far.

@@ -11,5 +11,6 @@ returns c =
     record {
       settles = λ stop heeds. (settled.settles stop heeds).0;
       quiet = finished_quiet c.outcomes_are_answers.ensures (scan_of c.args.placement.now.contexts) (plain_of c.args.world.now) (plain_of c.settle.new.world) c.requires.played c.requires.raised c.requires.clock c.requires.scan settled c.settle.new.world.sound;
-      stays = (settled.stays, led_by c.fetches_find.ensures.find (plain_of c.args.world.now) (plain_of c.settle.new.world) settled.events c.args.world.now.sound);
+      stays = settled.stays;
+      led = led_by c.fetches_find.ensures.find (plain_of c.args.world.now) (plain_of c.settle.new.world) settled.events c.args.world.now.sound;
     }

@@ -165,7 +165,21 @@ returns-clause-stays c =
     let place = place_as w items c.stop_place-place.ensures refl in
     let one : PlaysOn scan items 0 (place_of w.stop (length items)) w (plain_of c.play_all.new.world) = subst (λ n. PlaysOn scan items 0 n w (plain_of c.play_all.new.world)) place c.play_all.ensures in
     let two : PlaysOn scan items (place_of w.stop (length items)) (length items) (plain_of c.raise.new.world) (plain_of c.play_all-2.new.world) =
-    subst (λ n. PlaysOn scan items n (length items) (plain_of c.raise.new.world) (plain_of c.play_all-2.new.world)) place c.play_all-2.ensures in (
-      serial_stays scan items w may timed numbered (plain_of c.play_all.new.world) one (plain_of c.raise.new.world) c.raise.ensures.none c.raise.ensures.raised (plain_of c.play_all-2.new.world) (plain_of c.end_clock.new.world) two c.end_clock.ensures (plain_of c.settle.new.world) c.settle.ensures c.settle.new.world.sound,
-      led_by c.fetches_find.ensures.find w (plain_of c.settle.new.world) (serial_events scan items w may timed numbered (plain_of c.play_all.new.world) one (plain_of c.raise.new.world) c.raise.ensures.none c.raise.ensures.raised (plain_of c.play_all-2.new.world) (plain_of c.end_clock.new.world) two c.end_clock.ensures (plain_of c.settle.new.world) c.settle.ensures c.settle.new.world.sound) c.args.world.now.sound,
-    )
+    subst (λ n. PlaysOn scan items n (length items) (plain_of c.raise.new.world) (plain_of c.play_all-2.new.world)) place c.play_all-2.ensures in
+    serial_stays scan items w may timed numbered (plain_of c.play_all.new.world) one (plain_of c.raise.new.world) c.raise.ensures.none c.raise.ensures.raised (plain_of c.play_all-2.new.world) (plain_of c.end_clock.new.world) two c.end_clock.ensures (plain_of c.settle.new.world) c.settle.ensures c.settle.new.world.sound
+
+pub returns-clause-led : goal.returns-clause-led
+unfolding plain_of
+returns-clause-led c =
+    let w : Plain = plain_of c.args.world.now in
+    let scan = scan_of c.as_slice-contexts.result.now in
+    let items = c.as_slice-tokens.result.now in
+    let e = c.as_slice-tokens.ensures in
+    let may = may_as w e c.as_slice-contexts.ensures c.requires in
+    let timed = timed_as e c.args.list.now.timed in
+    let numbered = numbered_as e c.args.list.now.numbered in
+    let place = place_as w items c.stop_place-place.ensures refl in
+    let one : PlaysOn scan items 0 (place_of w.stop (length items)) w (plain_of c.play_all.new.world) = subst (λ n. PlaysOn scan items 0 n w (plain_of c.play_all.new.world)) place c.play_all.ensures in
+    let two : PlaysOn scan items (place_of w.stop (length items)) (length items) (plain_of c.raise.new.world) (plain_of c.play_all-2.new.world) =
+    subst (λ n. PlaysOn scan items n (length items) (plain_of c.raise.new.world) (plain_of c.play_all-2.new.world)) place c.play_all-2.ensures in
+    led_by c.fetches_find.ensures.find w (plain_of c.settle.new.world) (serial_events scan items w may timed numbered (plain_of c.play_all.new.world) one (plain_of c.raise.new.world) c.raise.ensures.none c.raise.ensures.raised (plain_of c.play_all-2.new.world) (plain_of c.end_clock.new.world) two c.end_clock.ensures (plain_of c.settle.new.world) c.settle.ensures c.settle.new.world.sound) c.args.world.now.sound

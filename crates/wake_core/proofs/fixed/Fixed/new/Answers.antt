@@ -1,6 +1,7 @@
 use Rattle.std.proofs.Common.{◌∙◌, sym, ap, length, subst, List, ℕ}
 use Rattle.wake_core.specs.Run.{Route, routes_of}
-use Rattle.wake_core.specs.Fields.{IsFixed, IsWithin, IsTable, HaveFew}
+use Rattle.wake_core.specs.Fields.{IsFixed, IsWithin}
+use Rattle.wake_core.specs.private.Shown.{IsTable, HaveFew}
 use Rattle.wake_core.proofs.Tabled.{fixed_wiring, few_of}
 use Rattle.wake_core.proofs.fixed.Fixed.new.Goals as goal
 

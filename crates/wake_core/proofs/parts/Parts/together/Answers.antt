@@ -3,7 +3,7 @@ use Rattle.std.proofs.lemmas.List.{length-map, length-replicate}
 use Rattle.wake_core.specs.declared.found.Found.{Found}
 use Rattle.wake_core.specs.Fields.{read}
 use Rattle.wake_core.specs.Parts.{shown_by}
-use Rattle.wake_core.specs.private.Sent.{sent_of, AreCounted}
+use Rattle.wake_core.specs.private.Sent.{sent_count, AreCounted}
 use Rattle.wake_core.specs.Sound.{Sound}
 use Rattle.wake_core.specs.WorldOf.{plain_of, to_step}
 use Rattle.wake_core.proofs.Beginning.{length_found, length_hands, read_equal, flags_from, stepping_from, owing_from}
@@ -28,14 +28,14 @@ invariant_of-result c =
     let held = unheld.held in
     let hands = unheld.hands in
     let owed = unheld.owed in
-    let sent = c.in_ok-sent.ensures.sent ∙ ap (Rattle.std.proofs.Common.map sent_of) c.as_slice.ensures in
+    let sent = c.in_ok-sent.ensures.sent ∙ ap (Rattle.std.proofs.Common.map sent_count) c.as_slice.ensures in
     record {
       sized = record {
         visitors_fit = ap length visitors ∙ fit.visitors_fit;
         routines_fit = ap length routines ∙ fit.routines_fit;
         found_fit = length_found found ∙ size;
         spent_fit = ap length spent ∙ fit.spent_fit;
-        sent_fit = ap length sent ∙ length-map p.routines sent_of ∙ fit.routines_fit;
+        sent_fit = ap length sent ∙ length-map p.routines sent_count ∙ fit.routines_fit;
         held_fit = ap length held ∙ length-replicate n false ∙ size;
         hands_fit = length_hands hands;
         owed_fit = owed.many;

@@ -1,7 +1,8 @@
 use Rattle.std.proofs.Common.{◌<◌, length, sym, ◌∙◌, ap, arith}
 use Rattle.cy_comp.specs.Routine.{RoutineView}
 use Rattle.wake_core.specs.WorldOf.{plain_of, to_step}
-use Rattle.wake_core.specs.Fields.{no_routine, calls_at}
+use Rattle.wake_core.specs.Fields.{no_routine}
+use Rattle.wake_core.specs.private.Shown.{calls_at}
 use Rattle.wake_core.proofs.Reading.{read_is}
 use Rattle.wake_core.proofs.Showing.{calls_stepped, sent_limit, unsent_none, unsent_some}
 use Rattle.wake_core.proofs.world.World.unsent.Goals as goal
