@@ -1,5 +1,5 @@
 // Gives answers the values that their contents have by a form.
-ghost use Rattle.std.specs.Prelude.{◌≡◌, map, option_map, true, IfOk, IfErr};
+ghost use Rattle.std.specs.Prelude.{◌≡◌, map, option_map, IfOk, IfErr};
 ghost use Rattle.cy_comp.specs.Answers.{CallsRise};
 ghost use Rattle.cy_comp.specs.Kind.{is_kind_in_range};
 ghost use Rattle.cy_comp.specs.declared.kind.Kind.TheVariants.{External};
@@ -30,35 +30,19 @@ pub fn value_answers(
     }
 }
 
-// Whether the calls of answers rise.
-fn calls_rise(answers: &[Answer]) -> bool
-    ensures { result ≡ true → CallsRise answers.now }
-{
-    for place in 1..answers.len() {
-        if answers[place].call <= answers[place - 1].call {
-            return false;
-        }
-    }
-    true
-}
-
 // Answers whose calls rise, with the values that their contents have by a form.
 fn valued_in_order(
     alloc: Global,
     answers: &[Answer],
     form: &ValueForm,
 ) -> Result<Answers, NamesError>
+    requires { CallsRise answers.now }
     ensures valued { IfOk result (λ v. v ≡ map (valued_by form.now) answers.now) }
     ensures in_range { IfOk result (λ v. is_kind_in_range (External v)
         ≡ is_kind_in_range (External answers.now)) }
     ensures memory { IfErr result (λ e. e ≡ NamesError.Memory) }
 {
-    let valued = valued_by(alloc, answers, form)?;
-    // The calls of `Answers` always rise, but no clause of theirs says so.
-    if !calls_rise(&valued) {
-        return Err(NamesError::Memory);
-    }
-    Ok(Answers::new(valued)?)
+    Ok(Answers::new(valued_by(alloc, answers, form)?)?)
 }
 
 // Answers with the values that their contents have by a form.

@@ -70,9 +70,10 @@ impl Answers {
         })
     }
 
-    /// The answers.
+    /// The answers, whose calls rise.
     pub fn as_slice(&self) -> &[Answer]
-        ensures { result.now ≡ self.now }
+        ensures answers { result.now ≡ self.now }
+        ensures rise { CallsRise self.now }
     {
         self.items.as_slice()
     }
