@@ -1,6 +1,7 @@
 -- What a wiring keeps.
 use Rattle.std.specs.Prelude.{ℕ, zero, suc, ◌+◌, ◌≡◌, ◌≤◌, ◌<◌, ◌==◌, if◌then◌else◌, true, List, []}
-use Rattle.std.specs.Prelude.{◌∷◌, length, slice_get, Option, Some, None, option_and_then}
+use Rattle.std.specs.Prelude.{◌∷◌, ◌++◌, length, slice_get, codes, Option, Some, None}
+use Rattle.std.specs.Prelude.{option_and_then}
 use Rattle.cy_comp.specs.declared.kind.Kind.TheVariants.{Pass}
 use Rattle.cy_comp.specs.declared.plan.Plan.{Plan}
 use Rattle.cy_comp.specs.Kind.{messages_needed, is_kind_in_range}
@@ -27,13 +28,20 @@ abbrev pub trigger_after : List Plan → ℕ → ℕ → Option ℕ
 trigger_after plans zero c = Some c
 trigger_after plans (suc n) c = option_and_then (trigger_after plans n) (trigger_of plans c)
 
+-- The name of the channel of a timer component's ticks.
+abbrev pub tick_channel : List ℕ → List ℕ
+tick_channel name = codes "@timer/" ++ name
+
 -- What a component keeps to that is triggered by ticks of its own, one each so many milliseconds:
--- the ticks stand on the one channel that it reads, which no component writes, and at most one of
--- them waits.
-pub record IsTimer (plans : List Plan) (a : Plan) (interval : ℕ) : Type 0 where
+-- the ticks stand on the one channel that it reads, which is named after it and which no component
+-- writes, and at most one of them waits.
+pub record IsTimer (names : List (List ℕ)) (plans : List Plan) (a : Plan) (interval : ℕ)
+    : Type 0 where
   pub some : 1 ≤ interval
   pub reader : length a.readers ≡ 1
   pub queue : a.queue ≡ 1
+  pub named : (r : ℕ) → slice_get a.readers 0 ≡ Some r
+      → slice_get names r ≡ Some (tick_channel a.name)
   pub unwritten : (j r : ℕ) (b : Plan) → slice_get plans j ≡ Some b → slice_get a.readers 0 ≡ Some r
       → b.out ≡ r → ⊥
 
@@ -60,7 +68,7 @@ pub record IsWiring (names : List (List ℕ)) (plans : List Plan) : Type 0 where
   pub own_outs : (i j : ℕ) (a b : Plan) → slice_get plans i ≡ Some a → slice_get plans j ≡ Some b
       → a.out ≡ b.out → i ≡ j
   pub timers : (i interval : ℕ) (a : Plan) → slice_get plans i ≡ Some a
-      → a.interval ≡ Some interval → IsTimer plans a interval
+      → a.interval ≡ Some interval → IsTimer names plans a interval
   pub own_ticks : (i j m n r : ℕ) (a b : Plan) → slice_get plans i ≡ Some a
       → slice_get plans j ≡ Some b → a.interval ≡ Some m → b.interval ≡ Some n
       → slice_get a.readers 0 ≡ Some r → slice_get b.readers 0 ≡ Some r → i ≡ j

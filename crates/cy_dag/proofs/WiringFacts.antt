@@ -10,12 +10,12 @@ use Rattle.std.proofs.lemmas.Slice.Eq.{bytes_eq-Decides}
 use Rattle.std.specs.List.{list_any, flat_map, position_from, zip}
 use Rattle.std.specs.Str.{bytes_eq}
 use Rattle.cy_comp.specs.Kind.{is_kind_in_range, messages_needed}
-use Rattle.cy_comp.specs.Wiring.{IsTimer, IsWiring, trigger_after, trigger_of as triggered_by, writer_from, writer_of}
+use Rattle.cy_comp.specs.Wiring.{IsTimer, IsWiring, tick_channel, trigger_after, trigger_of as triggered_by, writer_from, writer_of}
 use Rattle.cy_comp.specs.declared.kind.Kind.{Kind}
 use Rattle.cy_comp.specs.declared.kind.Kind.TheVariants as kind
 use Rattle.cy_comp.specs.declared.plan.Plan.{Plan}
 use Rattle.cy_dag.specs.Classes.{class_of, readers_needed}
-use Rattle.cy_dag.specs.DagFile.{HaveQueues, HaveTicks, IsTimer as IsTicked, components_refusal, tick_channel, tick_reader}
+use Rattle.cy_dag.specs.DagFile.{HaveQueues, HaveTicks, IsTimer as IsTicked, components_refusal, tick_reader}
 use Rattle.cy_dag.specs.Triggers.{after, cycle_refusal, earlier_writer, ticks_at, ticks_on, ticks_refusal, timer_named, timer_written, trigger_in, trigger_of, triggers_of, writer_named, writers_at, writers_refusal}
 use Rattle.cy_dag.specs.Wiring.{AreConfigs, channels_of, mentions_of, names_of, number_in, outs_refusal, plan_of, plans_of, queue_of_first}
 use Rattle.cy_dag.specs.declared.config.Config.{Config}
@@ -259,6 +259,12 @@ module _ (record_channels : List (List ℕ)) (cs : List DagComponent) (configs :
     timer_at : (i interval : ℕ) (a : Plan) (w : At i a) → a.interval ≡ Some interval → IsTicked w.pair.0 interval
     timer_at i interval a w given = ticks i interval w.pair.0 w.component (ap (λ (x : Plan). x.interval) w.is ∙ given)
 
+    -- The channel of a timer component's ticks is told by its name.
+    ticks_named : (c : DagComponent) (interval : ℕ) (r : DagReader) → IsTicked c interval → slice_get c.readers 0 ≡ Some r → r.channel ≡ tick_channel c.name
+    ticks_named c interval r is reads =
+        let same = same_Some (tick_reader c.name) r (ap (λ (rs : List DagReader). slice_get rs 0) (sym is.readers) ∙ reads) in
+        sym (ap (λ (x : DagReader). x.channel) same)
+
     module _ (unwritten : ticks_refusal cs configs ≡ None) where
       ticks_apart : (i j interval : ℕ) (c : DagComponent) (config : Config) (k : ℕ) (r : DagReader) → slice_get cs i ≡ Some c → c.interval ≡ Some interval → slice_get c.readers k ≡ Some r
           → slice_get configs j ≡ Some config → r.channel ≡ config.out → ⊥
@@ -270,7 +276,7 @@ module _ (record_channels : List (List ℕ)) (cs : List DagComponent) (configs :
           let reading = any_get (λ (e : DagReader). bytes_eq e.channel config.out) c.readers k r reads ((bytes_eq-Decides r.channel config.out).1 same) in
           none_passes (ticks_on config.out) cs i c unnamed here (rw (ticked, reading) refl)
 
-      is_timer : (i interval : ℕ) (a : Plan) → slice_get plans i ≡ Some a → a.interval ≡ Some interval → IsTimer plans a interval
+      is_timer : (i interval : ℕ) (a : Plan) → slice_get plans i ≡ Some a → a.interval ≡ Some interval → IsTimer names plans a interval
       is_timer i interval a h given =
           let w = at_place i a h in
           let t = timer_at i interval a w given in
@@ -278,6 +284,11 @@ module _ (record_channels : List (List ℕ)) (cs : List DagComponent) (configs :
             some = t.some;
             reader = reader_count i a w ∙ ap (λ (rs : List DagReader). length rs) t.readers;
             queue = sym (ap (λ (x : Plan). x.queue) w.is) ∙ ap queue_of_first t.readers;
+            named = λ r reads.
+                let e = reader_at i a w 0 r reads in
+                let has = number_has names e.reader.channel (reader_named i w.pair 0 e.reader w.here e.reads) in
+                let channel = ticks_named w.pair.0 interval e.reader t e.reads ∙ ap tick_channel (ap (λ (x : Plan). x.name) w.is) in
+                ap (slice_get names) (sym e.is) ∙ has ∙ ap Some channel;
             unwritten = λ j r b at reads writes.
                 let v = at_place j b at in
                 let e = reader_at i a w 0 r reads in
@@ -285,12 +296,6 @@ module _ (record_channels : List (List ℕ)) (cs : List DagComponent) (configs :
                 let same = same_number names e.reader.channel v.pair.1.out (reader_named i w.pair 0 e.reader w.here e.reads) (out_named j v.pair v.here) numbers in
                 ticks_apart i j interval w.pair.0 v.pair.1 0 e.reader w.component (ap (λ (x : Plan). x.interval) w.is ∙ given) e.reads v.config same;
           }
-
-    -- The channel of a timer component's ticks is told by its name.
-    ticks_named : (c : DagComponent) (interval : ℕ) (r : DagReader) → IsTicked c interval → slice_get c.readers 0 ≡ Some r → r.channel ≡ tick_channel c.name
-    ticks_named c interval r is reads =
-        let same = same_Some (tick_reader c.name) r (ap (λ (rs : List DagReader). slice_get rs 0) (sym is.readers) ∙ reads) in
-        sym (ap (λ (x : DagReader). x.channel) same)
 
     own_ticks : components_refusal cs ≡ None → (i j m n r : ℕ) (a b : Plan) → slice_get plans i ≡ Some a → slice_get plans j ≡ Some b → a.interval ≡ Some m → b.interval ≡ Some n
         → slice_get a.readers 0 ≡ Some r → slice_get b.readers 0 ≡ Some r → i ≡ j

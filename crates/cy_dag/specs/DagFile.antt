@@ -7,6 +7,7 @@ use Rattle.std.specs.List.{list_any, flat_map, position}
 use Rattle.std.specs.Option.{option_or}
 use Rattle.std.specs.Str.{bytes_eq}
 use Rattle.cy_text.specs.Fields.{Fields, Nothing}
+use Rattle.cy_comp.specs.Wiring.{tick_channel}
 use Rattle.cy_config.specs.Lookups.{text_under, u32_under, message_under, messages_under}
 use Rattle.cy_config.specs.Checks.{first_misfit, unknown_paths}
 use Rattle.cy_config.specs.Refusals.{first_of, first_repeated}
@@ -54,10 +55,7 @@ component_of fields = record {
   interval = None;
 }
 
--- The channel on which the ticks of a timer component stand, by its name, and how it reads them.
-abbrev pub tick_channel : List ℕ → List ℕ
-tick_channel name = codes "@timer/" ++ name
-
+-- How a timer component reads its ticks, by its name.
 abbrev pub tick_reader : List ℕ → DagReader
 tick_reader name = record { channel = tick_channel name; queue = 1 }
 

@@ -1,8 +1,9 @@
 // Reads and tests a timer component of a DAG file.
 ghost use Rattle.std.specs.Prelude.{◌≡◌, ◌≤◌, [], ◌∷◌, length, IfOk, IfErr, OnOk};
+ghost use Rattle.cy_comp.specs.Wiring.{tick_channel};
 ghost use Rattle.cy_config.specs.Refusals.{first_of};
 ghost use Rattle.cy_dag.specs.DagFile.{component_refusal, interval_of, interval_refusal};
-ghost use Rattle.cy_dag.specs.DagFile.{settings_of, text_in, tick_channel, tick_reader, timer_of};
+ghost use Rattle.cy_dag.specs.DagFile.{settings_of, text_in, tick_reader, timer_of};
 ghost use Rattle.cy_dag.specs.Refusals.{IsDue};
 ghost use Rattle.std.specs.Prelude.{codes};
 
