@@ -7,3 +7,4 @@ pub mod Rowing
 pub mod Holding
 pub mod Rising
 pub mod Searching
+mod Fieldless

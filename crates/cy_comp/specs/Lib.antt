@@ -8,3 +8,4 @@ pub mod Calls
 pub mod Options
 pub mod Routine
 pub mod Wiring
+pub mod Summary

@@ -4,3 +4,4 @@ pub mod Searches
 pub mod Class
 pub mod Keeping
 pub mod Sums
+pub mod Parts

@@ -1,23 +1,24 @@
 // The calls of a component, in little memory.
-ghost use Rattle.std.specs.Prelude.{ℕ, ◌≡◌, ◌≤◌, ◌+◌, ◌++◌, length, vec_len, vec_capacity};
+ghost use Rattle.std.specs.Prelude.{ℕ, ◌≡◌, ◌≤◌, ◌+◌, ◌++◌, length, filter, vec_len, vec_capacity};
 ghost use Rattle.cy_msg.specs.Tuple.{messages_of};
-ghost use Rattle.cy_comp.specs.private.Rows.{call_in, messages_at, tuple_in, IsWithin};
+ghost use Rattle.cy_comp.specs.Summary.{numbers_of, seqs_of};
+ghost use Rattle.cy_comp.specs.private.Rows.{seqs_in};
 
-use crate::{Call, Out};
-use cy_fuse::Arrived;
-use cy_msg::{Token, Tuple};
+use crate::made::{Made, Part};
+use crate::{Call, CallSummary, Out, TupleSeqs};
+use cy_msg::Tuple;
 use std::alloc::{AllocError, Global};
 use std::marker::Model;
 
 // The most messages of a tuple.
 const MOST_MESSAGES: usize = 4;
 
-// What a call has beside its messages, which stand among those of the other calls.
+// What a call has beside the numbers of its messages, which stand among those of the other calls.
 #[derive(Drop)]
 pub(crate) struct Row {
     position: u64,
     tail: u64,
-    // The place of its first message.
+    // The place of the first number.
     start: usize,
     time: u64,
     whole: i64,
@@ -30,11 +31,10 @@ pub(crate) struct Row {
 }
 
 impl Row {
-    ghost use Rattle.std.specs.Prelude.{◌≡◌, length};
-    ghost use Rattle.cy_msg.specs.Tuple.{messages_of};
-    ghost use Rattle.cy_comp.specs.private.Rows.{call_in, out_in, IsWithin};
+    ghost use Rattle.std.specs.Prelude.{◌≡◌};
+    ghost use Rattle.cy_comp.specs.private.Rows.{out_in, summary_in, IsWithin};
 
-    // A call whose messages begin at a place.
+    // A call, the numbers of whose messages begin at a place.
     fn new(call: &Call, start: usize, count: u8) -> Self
         ensures position { result.position ≡ call.now.position }
         ensures tail { result.tail ≡ call.now.tail }
@@ -80,16 +80,16 @@ impl Row {
         })
     }
 
-    // The call, whose messages stand among these.
+    // What is kept of the call, whose numbers stand among these.
     #[inline(always)]
-    fn call(&self, messages: &[Arrived]) -> Call
-        requires { IsWithin messages.now self.now }
-        ensures { result ≡ call_in messages.now self.now }
+    fn summary(&self, seqs: &[u32]) -> CallSummary
+        requires { IsWithin seqs.now self.now }
+        ensures { result ≡ summary_in seqs.now self.now }
     {
-        Call {
+        CallSummary {
             position: self.position,
             tail: self.tail,
-            tuple: tuple_at(messages, self.start, self.count),
+            seqs: seqs_at(seqs, self.start, self.count),
             out: self.out(),
         }
     }
@@ -102,71 +102,64 @@ const NO_OUT: Out = Out {
     origin: None,
 };
 
-// The tuple of so many messages from a place on.
+// So many numbers from a place on.
 #[inline(always)]
-fn tuple_at(messages: &[Arrived], start: usize, count: u8) -> Tuple
+fn seqs_at(seqs: &[u32], start: usize, count: u8) -> TupleSeqs
     requires some { 1 ≤ count }
     requires few { count ≤ 4 }
-    requires within { start + count ≤ length messages.now }
-    ensures { result ≡ tuple_in messages.now start count }
+    requires within { start + count ≤ length seqs.now }
+    ensures { result ≡ seqs_in seqs.now start count }
 {
-    let first = messages[start].message();
+    let first = seqs[start];
     match count {
-        1 => Tuple::One(first),
-        2 => Tuple::Two(first, messages[start + 1].message()),
-        3 => Tuple::Three(
-            first,
-            messages[start + 1].message(),
-            messages[start + 2].message(),
-        ),
-        _ => Tuple::Four(
-            first,
-            messages[start + 1].message(),
-            messages[start + 2].message(),
-            messages[start + 3].message(),
-        ),
+        1 => TupleSeqs::One(first),
+        2 => TupleSeqs::Two(first, seqs[start + 1]),
+        3 => TupleSeqs::Three(first, seqs[start + 1], seqs[start + 2]),
+        _ => TupleSeqs::Four(first, seqs[start + 1], seqs[start + 2], seqs[start + 3]),
     }
 }
 
-// Appends the messages of a tuple: how many there are.
+// Appends the numbers of the messages of a tuple: how many there are.
 #[inline(always)]
-fn push_messages(messages: &mut Vec<Arrived>, tuple: &Tuple) -> u8
-    requires { vec_len messages.old + 4 ≤ vec_capacity messages.old }
-    ensures items { messages.new.items ≡ messages.old.items ++ messages_at tuple.now }
-    ensures capacity { vec_capacity messages.new ≡ vec_capacity messages.old }
+fn push_seqs(seqs: &mut Vec<u32>, tuple: &Tuple) -> u8
+    requires { vec_len seqs.old + 4 ≤ vec_capacity seqs.old }
+    ensures items { seqs.new.items ≡ seqs.old.items ++ numbers_of (seqs_of tuple.now) }
+    ensures capacity { vec_capacity seqs.new ≡ vec_capacity seqs.old }
     ensures count { result ≡ length (messages_of tuple.now) }
 {
     match tuple {
         Tuple::One(a) => {
-            messages.push_reserved(Arrived::new(0, *a));
+            seqs.push_reserved(a.seq);
             1
         }
         Tuple::Two(a, b) => {
-            messages.push_reserved(Arrived::new(0, *a));
-            messages.push_reserved(Arrived::new(1, *b));
+            seqs.push_reserved(a.seq);
+            seqs.push_reserved(b.seq);
             2
         }
         Tuple::Three(a, b, c) => {
-            messages.push_reserved(Arrived::new(0, *a));
-            messages.push_reserved(Arrived::new(1, *b));
-            messages.push_reserved(Arrived::new(2, *c));
+            seqs.push_reserved(a.seq);
+            seqs.push_reserved(b.seq);
+            seqs.push_reserved(c.seq);
             3
         }
         Tuple::Four(a, b, c, d) => {
-            messages.push_reserved(Arrived::new(0, *a));
-            messages.push_reserved(Arrived::new(1, *b));
-            messages.push_reserved(Arrived::new(2, *c));
-            messages.push_reserved(Arrived::new(3, *d));
+            seqs.push_reserved(a.seq);
+            seqs.push_reserved(b.seq);
+            seqs.push_reserved(c.seq);
+            seqs.push_reserved(d.seq);
             4
         }
     }
 }
 
-// Calls, with room for so many more. Contracts see them as a `CallsView`.
+// Calls, with room for so many more. Of their messages only the numbers are kept. Contracts see
+// them as a `CallsView`.
 #[derive(Drop)]
 pub(crate) struct CallList {
     rows: Vec<Row>,
-    messages: Vec<Arrived>,
+    seqs: Vec<u32>,
+    made: Made,
     spare: u32,
 }
 
@@ -176,12 +169,12 @@ impl Model for CallList {
 
     ghost Value = { CallsView };
 
-    ghost use Rattle.cy_comp.specs.private.Rows.{calls_in, IsCallList};
+    ghost use Rattle.cy_comp.specs.private.Rows.{IsCallList};
 
-    ghost view = { λ l. record { made = calls_in l.messages.items l.rows.items; spare = l.spare } };
+    ghost view = { λ l. record { made = l.made.list; spare = l.spare } };
 
-    ghost invariant = { λ l. IsCallList l.messages.items l.rows.items l.spare
-        (vec_capacity l.messages) (vec_capacity l.rows) };
+    ghost invariant = { λ l. IsCallList l.seqs.items l.rows.items l.made.list l.spare
+        (vec_capacity l.seqs) (vec_capacity l.rows) };
 }
 
 impl CallList {
@@ -193,7 +186,8 @@ impl CallList {
     {
         Ok(CallList {
             rows: Vec::with_capacity(alloc, spare as usize)?,
-            messages: Vec::with_capacity(alloc, MOST_MESSAGES * spare as usize)?,
+            seqs: Vec::with_capacity(alloc, MOST_MESSAGES * spare as usize)?,
+            made: Made::nothing(),
             spare,
         })
     }
@@ -207,9 +201,10 @@ impl CallList {
           spare = self.old.spare - 1;
         } }
     {
-        let start = self.messages.len();
-        let count = push_messages(&mut self.messages, &call.tuple);
+        let start = self.seqs.len();
+        let count = push_seqs(&mut self.seqs, &call.tuple);
         self.rows.push_reserved(Row::new(call, start, count));
+        self.made = self.made.then(call);
         self.spare -= 1;
     }
 
@@ -219,17 +214,19 @@ impl CallList {
     {
         Calls {
             rows: self.rows.as_slice(),
-            messages: self.messages.as_slice(),
+            seqs: self.seqs.as_slice(),
+            made: self.made.part(&Part::Others(0)),
         }
     }
 }
 
 /// Calls of a component, in order, from the first on that was not taken. Contracts see them as
-/// their list.
+/// their list; what is kept of each is a `CallSummary`.
 #[derive(Drop)]
 pub struct Calls<'a> {
     rows: &'a [Row],
-    messages: &'a [Arrived],
+    seqs: &'a [u32],
+    made: Made,
 }
 
 impl<'a> Model for Calls<'a> {
@@ -238,15 +235,15 @@ impl<'a> Model for Calls<'a> {
 
     ghost Value = { List Call };
 
-    ghost use Rattle.cy_comp.specs.private.Rows.{calls_in, AreWithin};
+    ghost use Rattle.cy_comp.specs.private.Rows.{Keep};
 
-    ghost view = { λ c. calls_in c.messages.now c.rows.now };
+    ghost view = { λ c. c.made.list };
 
-    ghost invariant = { λ c. AreWithin c.messages.now c.rows.now };
+    ghost invariant = { λ c. Keep c.seqs.now c.rows.now c.made.list };
 }
 
 impl<'a> Calls<'a> {
-    ghost use Rattle.std.specs.Prelude.{◌≡◌, ◌≤◌, ◌+◌, ◌==◌, length, take, drop};
+    ghost use Rattle.std.specs.Prelude.{◌≡◌, ◌≤◌, ◌+◌, ◌==◌, length, take, drop, filter, is_some};
     ghost use Rattle.cy_comp.specs.Calls.{cursor_after};
 
     /// How many there are.
@@ -273,13 +270,23 @@ impl<'a> Calls<'a> {
         (
             Calls {
                 rows: first,
-                messages: self.messages,
+                seqs: self.seqs,
+                made: self.made.part(&Part::First(count)),
             },
             Calls {
                 rows: others,
-                messages: self.messages,
+                seqs: self.seqs,
+                made: self.made.part(&Part::Others(count)),
             },
         )
+    }
+
+    /// How many of them put something out, at once or held back.
+    pub fn outputs(&self) -> usize
+        ensures count { result ≡ length (filter (λ x. is_some x.out) self.now) }
+        ensures few { result ≤ length self.now }
+    {
+        outputs_in(self.rows)
     }
 
     /// Where the next fetch after these calls begins: at 0 before the first call, then behind the
@@ -294,6 +301,13 @@ impl<'a> Calls<'a> {
     }
 }
 
+// How many rows have an output.
+fn outputs_in(rows: &[Row]) -> usize
+    ensures { result ≡ length (filter (λ r. r.has_out) rows.now) }
+{
+    rows.iter().filter(|row| row.has_out).count()
+}
+
 // The position after one.
 fn position_after(position: u64) -> u128
     ensures { result ≡ position + 1 }
@@ -302,18 +316,20 @@ fn position_after(position: u64) -> u128
 }
 
 impl<'a> Iterator for Calls<'a> {
-    ghost use Rattle.std.specs.Iterator.{YieldsFirst, item_count};
+    ghost use Rattle.std.specs.Iterator.{item_count};
+    ghost use Rattle.cy_comp.specs.Summary.{SumsUpFirst};
 
-    type Item = Call;
+    type Item = CallSummary;
 
-    ghost next_gives = { YieldsFirst (λ s. s) };
+    ghost next_gives = { SumsUpFirst };
 
     ghost remaining = { item_count (λ s. s) };
 
     #[inline(always)]
-    fn next(&mut self) -> Option<Call> {
+    fn next(&mut self) -> Option<CallSummary> {
         let (first, others) = self.rows.split_first()?;
         self.rows = others;
-        Some(first.call(self.messages))
+        self.made = self.made.part(&Part::Others(1));
+        Some(first.summary(self.seqs))
     }
 }

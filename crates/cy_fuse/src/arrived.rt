@@ -4,10 +4,10 @@ ghost use Rattle.std.specs.Prelude.{◌≡◌};
 use cy_msg::Token;
 use std::marker::Model;
 
-/// A message and the number of the reader that it came to, in 32 bytes; a `Token` alone takes 40.
-/// Contracts see it as an `Arrival`.
+// A message and the number of the reader that it came to, in 32 bytes; a `Token` alone takes 40.
+// Contracts see it as an `Arrival`.
 #[derive(Clone, Copy)]
-pub struct Arrived {
+pub(crate) struct Arrived {
     time: u64,
     whole: i64,
     channel: u32,
@@ -64,9 +64,9 @@ impl Model for Arrived {
 }
 
 impl Arrived {
-    /// A message that came to the reader of this number.
+    // A message that came to the reader of this number.
     #[inline(always)]
-    pub fn new(role: u8, message: Token) -> Self
+    pub(crate) fn new(role: u8, message: Token) -> Self
         ensures { result ≡ (role, message) }
     {
         Arrived {
@@ -81,17 +81,17 @@ impl Arrived {
         }
     }
 
-    /// The number of the reader.
+    // The number of the reader.
     #[inline(always)]
-    pub fn role(&self) -> u8
+    pub(crate) fn role(&self) -> u8
         ensures { result ≡ self.now.0 }
     {
         self.role
     }
 
-    /// The message.
+    // The message.
     #[inline(always)]
-    pub fn message(&self) -> Token
+    pub(crate) fn message(&self) -> Token
         ensures { result ≡ self.now.1 }
     {
         Token {

@@ -18,7 +18,7 @@ mod overflow;
 mod tuples;
 mod visitor;
 
-pub use arrived::Arrived;
+pub(crate) use arrived::Arrived;
 pub use cache::CacheBuffer;
 pub use cursor::Cursor;
 pub use error::FuseError;

@@ -1,6 +1,7 @@
 -- How many outputs calls have, and the outcome of the last of them.
 use Rattle.std.proofs.Common.{ℕ, ◌+◌, ◌≡◌, refl, sym, ◌∙◌, ap, List, [], ◌∷◌, ◌++◌, append_assoc, append-nil, length, cond, is_some, Option, Some, None, arith}
-use Rattle.std.proofs.lemmas.List.Sums.{sum_by-cons}
+use Rattle.std.specs.Prelude.{filter}
+use Rattle.std.proofs.lemmas.List.Sums.{sum_by-cons, length-filter}
 use Rattle.cy_msg.specs.declared.token.Tuple.{Tuple}
 use Rattle.cy_comp.specs.declared.kind.Kind.{Kind}
 use Rattle.cy_comp.specs.declared.call.Call.{Call}
@@ -23,6 +24,9 @@ after_count channel before (x ∷ rest) =
 pub outs_count : (channel : ℕ) (calls : List Call) → length (outs channel calls) ≡ outputs_in calls
 unfolding outs
 outs_count channel calls = after_count channel 0 calls
+
+pub outputs_counted : (calls : List Call) → length (filter (λ (x : Call). is_some x.out) calls) ≡ outputs_in calls
+outputs_counted calls = length-filter (λ (x : Call). is_some x.out) calls
 
 last_after_push : (k : Kind) (earlier : List Tuple) (calls : List Call) (x : Call) → last_after k earlier (calls ++ x ∷ []) ≡ Some (outcome_after k (earlier ++ tuples_of calls) x.tuple)
 last_after_push k earlier [] x = ap (λ (l : List Tuple). Some (outcome_after k l x.tuple)) (sym (append-nil earlier))

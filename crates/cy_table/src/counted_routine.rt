@@ -1,9 +1,7 @@
 // A routine with the number of its outputs, which numbers the one that is to be sent.
-ghost use Rattle.std.specs.Prelude.{◌≡◌};
-ghost use Rattle.cy_table.specs.Hold.{outputs_in};
 
 use crate::pass::TableError;
-use cy_comp::{Calls, Out, Outcome, Routine, State};
+use cy_comp::{Out, Outcome, Routine, State};
 use cy_fuse::Cursor;
 use cy_msg::Tuple;
 use std::alloc::Global;
@@ -35,13 +33,15 @@ impl CountedRoutine {
     ghost use Rattle.cy_comp.specs.Calls.{cursor_after};
     ghost use Rattle.cy_comp.specs.Routine.{MayTake, answer_to, taken as after_call};
     ghost use Rattle.wake_core.specs.declared.entries.TheConstants.{MOST_PLANNED};
+    ghost use Rattle.cy_table.specs.Hold.{outputs_in};
 
     // A routine, whose outputs are counted once. Its only error is `Memory`.
+    #[tactic(auto, using(crate::proofs::Counting::outputs_counted))]
     pub(crate) fn new(alloc: Global, routine: Routine) -> Result<Self, TableError>
         requires { length routine.calls ≤ MOST_PLANNED }
         ensures { IfOk result (λ r. r ≡ routine) }
     {
-        let outputs = count(routine.calls()) as u32;
+        let outputs = routine.calls().outputs() as u32;
         let routine = Box::new(alloc, routine)?;
         Ok(CountedRoutine { routine, outputs })
     }
@@ -119,11 +119,4 @@ impl CountedRoutine {
     {
         self.routine.yielded(state);
     }
-}
-
-// How many calls have an output.
-fn count(calls: Calls<'_>) -> usize
-    ensures { result ≡ outputs_in calls.entry }
-{
-    calls.filter(|call| call.out.is_some()).count()
 }

@@ -15,3 +15,4 @@ pub mod Starts
 pub mod StepSuits
 pub mod Telling
 pub mod TextRead
+pub mod Summaries

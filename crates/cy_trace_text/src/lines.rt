@@ -7,7 +7,9 @@ ghost use Rattle.std.specs.Fmt.{decimal};
 ghost use Rattle.cy_msg.specs.declared.token.Token.{Token};
 ghost use Rattle.cy_trace_text.specs.TraceText.{title, played_line, roles_text, out_text};
 ghost use Rattle.cy_trace.specs.LineParts.{value_text, overflow_word, told, told_text, tape_start};
-ghost use Rattle.cy_trace_text.specs.TraceText.{seqs_text, call_line, call_lines, end_line};
+ghost use Rattle.cy_comp.specs.Summary.{numbers_of};
+ghost use Rattle.cy_trace_text.specs.TraceText.{call_lines, end_line};
+ghost use Rattle.cy_trace_text.specs.private.Summaries.{numbers_text, summary_text};
 ghost use Rattle.cy_trace_text.specs.Parts.{opening_text};
 ghost use Rattle.cy_trace_text.specs.TraceText.{component_with, tape_line};
 ghost use Rattle.cy_trace_text.specs.private.TapeLines.{started_line};
@@ -16,9 +18,9 @@ ghost use Rattle.cy_trace_text.specs.private.OutsAfter.{outs_after};
 use crate::numeral::{Numeral, put_kept};
 use crate::page::{ROOM, put_byte, put_number, put_signed, put_word};
 use crate::start::{LineStart, are_short, line_starts, put_start};
-use cy_comp::{Call, Calls, Out, Plan};
+use cy_comp::{CallSummary, Calls, Out, Plan, TupleSeqs};
 use cy_fuse::Overflow;
-use cy_msg::{Names, Token, Tuple, push_quoted};
+use cy_msg::{Names, Token, push_quoted};
 use itoa::{Buffer, Integer};
 use std::alloc::{AllocError, Global};
 
@@ -110,34 +112,34 @@ fn put_out(
 
 // The number of a message of a tuple.
 #[inline(always)]
-fn put_seq(page: &mut [u8; ROOM], at: usize, message: &Token, numeral: &Numeral) -> usize
+fn put_seq(page: &mut [u8; ROOM], at: usize, seq: u32, numeral: &Numeral) -> usize
     requires { at + 21 ≤ 4096 }
-    ensures text { take result page.new ≡ take at page.old ++ codes " " ++ decimal message.now.seq }
+    ensures text { take result page.new ≡ take at page.old ++ codes " " ++ decimal seq }
     ensures end { result ≤ at + 21 }
 {
     let at = put_byte(page, at, b' ');
-    put_kept(page, at, u64::from(message.seq), numeral)
+    put_kept(page, at, u64::from(seq), numeral)
 }
 
 // The numbers of the messages of a tuple.
 #[inline(always)]
-fn put_seqs(page: &mut [u8; ROOM], at: usize, tuple: &Tuple, numeral: &Numeral) -> usize
+fn put_seqs(page: &mut [u8; ROOM], at: usize, seqs: &TupleSeqs, numeral: &Numeral) -> usize
     requires { at + 84 ≤ 4096 }
-    ensures text { take result page.new ≡ take at page.old ++ seqs_text tuple.now }
+    ensures text { take result page.new ≡ take at page.old ++ numbers_text (numbers_of seqs.now) }
     ensures end { result ≤ at + 84 }
 {
-    match tuple {
-        Tuple::One(a) => put_seq(page, at, a, numeral),
-        Tuple::Two(a, b) => {
+    match *seqs {
+        TupleSeqs::One(a) => put_seq(page, at, a, numeral),
+        TupleSeqs::Two(a, b) => {
             let at = put_seq(page, at, a, numeral);
             put_seq(page, at, b, numeral)
         }
-        Tuple::Three(a, b, c) => {
+        TupleSeqs::Three(a, b, c) => {
             let at = put_seq(page, at, a, numeral);
             let at = put_seq(page, at, b, numeral);
             put_seq(page, at, c, numeral)
         }
-        Tuple::Four(a, b, c, d) => {
+        TupleSeqs::Four(a, b, c, d) => {
             let at = put_seq(page, at, a, numeral);
             let at = put_seq(page, at, b, numeral);
             let at = put_seq(page, at, c, numeral);
@@ -154,12 +156,12 @@ fn put_call(
     page: &mut [u8; ROOM],
     at: usize,
     before: usize,
-    call: &Call,
+    call: &CallSummary,
     numeral: &mut Numeral,
 ) -> usize
     requires countable { before + 1 < 2 ^ 64 }
     requires room { at + 195 ≤ 4096 }
-    ensures text { take result page.new ≡ take at page.old ++ call_line before call.now }
+    ensures text { take result page.new ≡ take at page.old ++ summary_text before call.now }
     ensures end { result ≤ at + 195 }
 {
     *numeral = numeral.moved_to(call.position);
@@ -167,14 +169,14 @@ fn put_call(
     let at = put_kept(page, at, call.position, numeral);
     let at = put_byte(page, at, b'/');
     let at = put_kept(page, at, call.tail, numeral);
-    let at = put_seqs(page, at, &call.tuple, numeral);
+    let at = put_seqs(page, at, &call.seqs, numeral);
     let at = put_byte(page, at, b' ');
     let at = put_out(page, at, before, &call.out, numeral);
     put_byte(page, at, b'\n')
 }
 
 // The outputs of a call.
-fn outs_of(call: &Call) -> usize
+fn outs_of(call: &CallSummary) -> usize
     ensures count { result ≡ (if is_some call.now.out then 1 else 0) }
     ensures few { result ≤ 1 }
 {

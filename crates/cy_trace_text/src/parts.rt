@@ -68,13 +68,6 @@ pub enum Part {
     },
 }
 
-// How many outputs calls have.
-fn outputs_of(calls: Calls<'_>) -> usize
-    ensures { result ≡ length (filter (λ (x : Call). is_some x.out) calls.entry) }
-{
-    calls.filter(|call| call.out.is_some()).count()
-}
-
 // Adds the parts of a component's calls.
 fn push_call_parts(
     parts: &mut Vec<Part>,
@@ -99,7 +92,7 @@ fn push_call_parts(
             count,
             before,
         })?;
-        before += outputs_of(some);
+        before += some.outputs();
         from += count;
         left -= count;
         rest = others;

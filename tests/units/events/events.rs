@@ -1,7 +1,7 @@
 // Worked lists of events, and random lists of those that may happen.
 use super::driven::{Driven, Event, Row, holds};
-use cy_comp::{Kind, State};
-use cy_msg::{Stop, Token, Tuple};
+use cy_comp::{Kind, State, TupleSeqs};
+use cy_msg::{Stop, Token};
 use std::test::Fail;
 
 // How many random lists are driven, and how many events each has at most.
@@ -79,8 +79,8 @@ fn called_once(rt: &HostRuntime) -> Result<Driven, Fail> {
 
 // The number of the message of component 0's last call.
 fn last_message(driven: &Driven) -> Option<u32> {
-    match driven.world.routine(0).calls().last()?.tuple {
-        Tuple::One(token) => Some(token.seq),
+    match driven.world.routine(0).calls().last()?.seqs {
+        TupleSeqs::One(seq) => Some(seq),
         _ => None,
     }
 }

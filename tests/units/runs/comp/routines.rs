@@ -1,16 +1,16 @@
 // Routines over visitors.
 use super::messages::message;
-use cy_comp::{Call, Kind, Out, Outcome, Routine, State};
+use cy_comp::{CallSummary, Kind, Out, Outcome, Routine, State, TupleSeqs};
 use cy_fuse::{Overflow, Visitor};
-use cy_msg::{Token, Tuple};
+use cy_msg::Token;
 use std::test::Fail;
 
-// What a call is to be.
-fn call(position: u64, tail: u64, of: Token, time: u64) -> Call {
-    Call {
+// What is to be kept of a call.
+fn call(position: u64, tail: u64, of: Token, time: u64) -> CallSummary {
+    CallSummary {
         position,
         tail,
-        tuple: Tuple::One(of),
+        seqs: TupleSeqs::One(of.seq),
         out: Some(Out {
             time,
             whole: of.whole,

@@ -11,8 +11,8 @@ overflow_add-before c =
     let calls : List Call = c.args.calls in
     let n = c.min-count.result in
     let some = some_part l.from n calls l.rest c.split_at-some.result.0 l.invariant.rest c.split_at-some.ensures.first in
-    let all = outs_part l.from n l.before c.outputs_of-before.result calls c.split_at-some.result.0 l.invariant.before some c.outputs_of-before.ensures in
-    let few = before_few (l.from + n) (l.before + c.outputs_of-before.result) calls all (omega (arith, l.invariant.left, c.min-count.ensures)) in
+    let all = outs_part l.from n l.before c.outputs-before.result calls c.split_at-some.result.0 l.invariant.before some c.outputs-before.ensures.count in
+    let few = before_few (l.from + n) (l.before + c.outputs-before.result) calls all (omega (arith, l.invariant.left, c.min-count.ensures)) in
     omega (arith, few, l.invariant.left, c.min-count.ensures, c.len-left.ensures, c.len-left.type_inv)
 
 pub loop-left-init : goal.loop-left-init
@@ -32,7 +32,7 @@ loop-left-preserved c =
     record {
       left = omega (arith, l.invariant.left, c.min-count.ensures);
       rest = rest_part l.from n calls l.rest c.split_at-some.result.1 l.invariant.rest c.split_at-some.ensures.others;
-      before = outs_part l.from n l.before c.outputs_of-before.result calls c.split_at-some.result.0 l.invariant.before some c.outputs_of-before.ensures;
+      before = outs_part l.from n l.before c.outputs-before.result calls c.split_at-some.result.0 l.invariant.before some c.outputs-before.ensures.count;
       adds = λ names plans shadowed w known its. calls_part c.args.component l.from n l.before calls c.args.parts.now.items l.parts.items _ its known (omega (arith, l.invariant.left, c.min-count.ensures)) l.invariant.before
           (omega (arith, before_few l.from l.before calls l.invariant.before (omega (arith, l.invariant.left)), l.invariant.left, c.min-count.ensures, c.len-left.ensures, c.len-left.type_inv))
           c.in_ok-push.ensures.items (l.invariant.adds names plans shadowed w known its);

@@ -1,0 +1,52 @@
+-- A part of the calls. Neither argument is looked at.
+use Rattle.std.proofs.Common.{[], ◌∷◌, refl}
+use Rattle.std.proofs.raw_atomic.Walks.{proved}
+use mir.Syntax.{named}
+use types.Kit.{‵, raw, ◌⊛◌, ◌$◌, ◌∵◌, !, qed, move, keep, split, join, use0, suffices, done}
+use types.Part.{agg}
+use types.Run.{enter, no_more, returns}
+use types.ByLocal.{alloc_all, pass_all, free_all, look_at, sets}
+use denote.Builtin.{RefOf}
+use denote.Exit.{yes}
+use denote.RattleType.{owns}
+use denote.Ref.{shr_vals, shr_Tells}
+use denote.Signature.{Slot, plain, types_at}
+use denote.Steps.{nothing}
+use denote.Triple.Entry.{alive}
+use denote.Triple.Walked.{Stays, stay_dropped, Goes-dropped, walk_of, says, ends_at}
+use Rattle.cy_comp.specs.private.Parts.{part_of}
+use Rattle.cy_comp.proofs.Fieldless.{blank, made_of_nothing}
+use Rattle.cy_comp.specs.contracts.made.Made.{the_row as Row}
+use Rattle.cy_comp.specs.contracts.made.Part.{the_row as PartRow}
+use Rattle.cy_comp.specs.contracts.made.Made.part as f
+use Rattle.cy_comp.proofs.made.Made.part.Statement.{statement}
+use Rattle.cy_comp.proofs.made.Made.part.Code as code
+
+-- what is passed: all calls, and which part
+abbrev before : Slot 2
+before = RefOf (0 ∷ []) tt (plain (λ _. Row)) (λ _. tt)
+
+abbrev which : Slot 2
+which = RefOf (1 ∷ []) tt (plain (λ _. PartRow)) (λ _. tt)
+
+abbrev stayed : Stays f.ended.signature.params f.ended.kept
+stayed = (stay_dropped before yes, (stay_dropped which yes, tt))
+
+pub part_spec : {M : Type 1} → statement M
+part_spec 𝓤 𝓛 𝓜 𝓡 wired =
+    let c = f.clauses 𝓛 𝓜.mem 𝓡.returns in
+    proved 𝓛 f.ended stayed c 𝓜 𝓡 (Goes-dropped 𝓛 2 before yes (λ κs x w. refl), (Goes-dropped 𝓛 2 which yes (λ κs x w. refl), tt))
+    f.Key.name code.function (code.unfolded 𝓤 𝓛.H 𝓜 𝓡 wired)
+    (λ κs. (shr_vals, (shr_vals, tt)))
+    (λ κs. (shr_Tells (named 0) κs.0 Row, (shr_Tells (named 1) κs.1.0 PartRow, tt)))
+    (λ κs qs bounds a asked are.
+    let y : (walk_of 𝓛 f.ended stayed c).Ghost = ((κs, qs, bounds, a, (shr_vals a.0, (shr_vals a.1.0, tt))), asked) in
+    let after : Row.Denot = record { list = part_of a.1.0.now a.0.now.list } in
+    qed 𝓛 ((raw (alive 𝓛 f.signature κs qs) ⊛ ‵ (owns (types_at f.signature.params κs) a y.0.4)) ∷ raw ((c κs a).requires asked) ∷ []) ∵
+    split ! $ keep ! (0 ∷ []) $
+    enter ! _ _ _ _ _ $ alloc_all ! (λ l. pass_all ! refl ((tt, tt), ((tt, tt), tt)) $
+    sets ! (agg ! (no_more !)) refl (tt, tt) $
+    returns ! (look_at ! 0 refl) $ free_all ! refl $
+    suffices ! _ (ends_at 𝓛 f.ended stayed c y blank after (tt, (tt, tt)) (tt, (tt, tt))) $ says ! refl $
+    use0 𝓛 (‵ (Row.own_val after (blank ∷ []))) (made_of_nothing 𝓛 after) $
+    nothing ! $ nothing ! $ join ! $ nothing ! $ join ! $ move ! (2 ∷ 0 ∷ 1 ∷ []) $ done !))
