@@ -1,7 +1,7 @@
 -- How it is told what is wrong with the answers of a component, and whether it is a limit.
 use Rattle.std.specs.Prelude.{ℕ, List, ◌++◌, Bool, true, false, codes}
 use Rattle.std.specs.Fmt.{decimal}
-use Rattle.cy_fault.specs.FaultText.{limit_text}
+use Rattle.cy_msg.specs.FaultText.{limit_text}
 use Rattle.cy_answers.specs.declared.error.AnswersError.{AnswersError}
 use Rattle.cy_answers.specs.declared.error.AnswersError.TheVariants as error
 

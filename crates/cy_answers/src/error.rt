@@ -3,8 +3,7 @@ ghost use Rattle.std.specs.Prelude.{◌≡◌, ◌++◌, OnOk};
 ghost use Rattle.cy_answers.specs.FaultText.{answers_text, is_answers_limit};
 ghost use Rattle.cy_answers.specs.declared.error.AnswersError.TheVariants as answers_error;
 
-use cy_fault::{push_limit, push_number};
-use cy_msg::NamesError;
+use cy_msg::{NamesError, push_limit, push_number};
 use std::alloc::{AllocError, AllocFailed};
 
 /// What [`read_answers`](crate::read_answers) may answer in place of answers.

@@ -10,7 +10,7 @@ use Rattle.cy_writer.specs.Writes.{StopsAt, StopsBefore}
 use Rattle.cy_writer.proofs.Puts.{rose_more, after_writes-append, map-after_writes, untold_map, StopsAt-first, StopsAt-then, StopsBefore-first, StopsBefore-then}
 use Rattle.wake_core.specs.Plain.{Plain}
 use Rattle.wake_core.specs.Rest.{run_shown}
-use Rattle.cy_request.specs.Request.{HasReader}
+use Rattle.cy_msg.specs.Request.{HasReader}
 use Rattle.cy_replay.specs.Setup.{IsSetUp, replayed}
 use Rattle.cy_replay.specs.declared.setup.Replay.{Replay}
 use Rattle.cy_make.specs.declared.error.MakeError.{MakeError}

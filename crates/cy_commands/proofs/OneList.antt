@@ -9,7 +9,7 @@ use Rattle.std.proofs.lemmas.Bool.{cases_order}
 use Rattle.std.proofs.lemmas.Map.Keys.{ge_from_not_lt}
 use Rattle.cy_msg.specs.declared.play_list.PlayList.{PlayList}
 use Rattle.cy_msg.specs.declared.token.Token.{Token}
-use Rattle.cy_request.specs.declared.filter.Filter.{Filter}
+use Rattle.cy_msg.specs.declared.filter.Filter.{Filter}
 use Rattle.cy_timer.specs.Merged.{merged}
 use Rattle.cy_timer.specs.Timers.{timers_of}
 use Rattle.cy_replay.specs.Listing.{IsListed, choice_of}

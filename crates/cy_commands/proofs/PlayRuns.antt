@@ -1,7 +1,7 @@
 -- A replay that was played, and what is told of it.
 use Rattle.std.proofs.Common.{ℕ, Bool, true, false, ◌≡◌, ◌≤◌, List, length, Option, slice_get, ap, refl, subst, sym, ◌∙◌, arith}
 use Rattle.cy_msg.specs.Placement.{scan_of}
-use Rattle.cy_request.specs.Request.{Request}
+use Rattle.cy_msg.specs.Request.{Request}
 use Rattle.wake_core.specs.Bounds.{PlaceLaws}
 use Rattle.wake_core.specs.LawfulRun.{LawfulRun}
 use Rattle.wake_core.specs.Plain.{Plain, Stop, opening_world}

@@ -18,7 +18,7 @@ use Rattle.wake_core.specs.declared.entries.TheConstants.{MOST_PLANNED}
 use Rattle.cy_comp.specs.Wiring.{IsWiring}
 use Rattle.cy_recording.specs.Recording.{IsWritable}
 use Rattle.cy_recording.specs.RecordLaws.{PlacesAreThere}
-use Rattle.cy_request.specs.Request.{Request}
+use Rattle.cy_msg.specs.Request.{Request}
 use Rattle.cy_trace_text.specs.Laws.{RunsAreTraces}
 use Rattle.cy_trace_read.specs.Laws.{TextsTellTraces}
 use Rattle.cy_report.specs.Summary.{lawful_line}

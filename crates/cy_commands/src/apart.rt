@@ -1,7 +1,7 @@
 // Which files a play may write, and the play that is set up if it may.
 ghost use Rattle.std.specs.Prelude.{◌≡◌, ℕ, List, map, Ok, IfOk, IfSome, IsErrOf};
 ghost use Rattle.cy_store.specs.Store.{StoreView};
-ghost use Rattle.cy_request.specs.Request.{HasReader};
+ghost use Rattle.cy_msg.specs.Request.{HasReader};
 ghost use Rattle.cy_replay.specs.Comes.{IsJudged};
 ghost use Rattle.cy_replay.specs.Setup.{IsSetUp};
 ghost use Rattle.cy_replay.specs.Steps.{configured};

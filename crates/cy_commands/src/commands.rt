@@ -1,6 +1,6 @@
 // Each command, as far as nothing is played.
 ghost use Rattle.std.specs.Prelude.{Some};
-ghost use Rattle.cy_request.specs.Request.{HasReader};
+ghost use Rattle.cy_msg.specs.Request.{HasReader};
 ghost use Rattle.cy_commands.specs.Begun.{HasBegun, IsReady};
 ghost use Rattle.cy_words.specs.Command as asked;
 ghost use Rattle.cy_words.specs.PlayViews.{play_words_of};

@@ -1,7 +1,7 @@
 -- How a refusal is told, and whether it is a limit that was passed: limits aside, its text is its
 -- name and its parts in their order, numbers as they are, texts in quotes.
 use Rattle.std.specs.Prelude.{ℕ, List, [], ◌∷◌, Bool, true, false, codes}
-use Rattle.cy_fault.specs.FaultText.{limit_text, named_text, numbers_text}
+use Rattle.cy_msg.specs.FaultText.{limit_text, named_text, numbers_text}
 use Rattle.cy_dag.specs.declared.error.DagError.{DagError}
 use Rattle.cy_dag.specs.declared.error.DagError.TheVariants as dag
 

@@ -1,14 +1,13 @@
 // What the reading of a DAG or a component file, and its wiring, may answer in place of a value.
 ghost use Rattle.std.specs.Prelude.{◌≡◌, [], ◌∷◌, ◌++◌, OnOk};
-ghost use Rattle.cy_fault.specs.FaultText.{named_text, numbers_text};
+ghost use Rattle.cy_msg.specs.FaultText.{named_text, numbers_text};
 ghost use Rattle.cy_dag.specs.FaultText.{dag_text, is_dag_limit};
 ghost use Rattle.cy_dag.specs.Refusals.{refused_shape};
 ghost use Rattle.cy_dag.specs.declared.error.DagError.TheVariants as dag_error;
 
 use crate::Cycle;
 use cy_config::ConfigError;
-use cy_fault::{push_limit, push_named, push_numbers};
-use cy_msg::{NamesError, Text};
+use cy_msg::{NamesError, Text, push_limit, push_named, push_numbers};
 use std::alloc::{AllocError, AllocFailed};
 
 /// Why a DAG, a component file or the wiring of both is refused. Components are numbered from 0, in

@@ -9,7 +9,7 @@ use Rattle.cy_store.specs.Reads.{Accepts, Refuses, ◌>>=◌, file_by, judged}
 use Rattle.cy_section.specs.Chunks.{messages_in}
 use Rattle.cy_dag.specs.Wiring.{plans_of}
 use Rattle.cy_dag.specs.declared.error.DagError.{DagError}
-use Rattle.cy_request.specs.declared.filter.Filter.{Filter}
+use Rattle.cy_msg.specs.declared.filter.Filter.{Filter}
 use Rattle.cy_reader.specs.Record.{Contents, record_of, with_section}
 use Rattle.cy_reader.specs.declared.known.Known.{Known}
 use Rattle.cy_play_list.specs.Play.{Choice, all_places, chosen, is_played, most_played, number_at, places_below}

@@ -3,8 +3,8 @@ use Rattle.std.specs.Prelude.{ℕ, ◌≡◌, ◌≤◌, ◌<◌, ◌++◌, List
 use Rattle.std.specs.Str.{IsUtf8}
 use Rattle.cy_store.specs.Files.{Files}
 use Rattle.cy_store.specs.Reads.{Accepts}
-use Rattle.cy_request.specs.Request.{Request, OfFiles}
-use Rattle.cy_request.specs.declared.filter.Filter.{Filter}
+use Rattle.cy_msg.specs.Request.{Request, OfFiles}
+use Rattle.cy_msg.specs.declared.filter.Filter.{Filter}
 use Rattle.cy_make.specs.declared.config.Config.TheVariants.{Dag}
 use Rattle.cy_make.specs.Inputs.{record_name, with_inputs}
 use Rattle.cy_make.specs.Texts.{longest_prefix, suffix_of}

@@ -5,3 +5,6 @@ pub mod Placement
 pub mod Tokens
 pub mod Tuple
 pub mod Quoted
+pub mod Filter
+pub mod Request
+pub mod FaultText

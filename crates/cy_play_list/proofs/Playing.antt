@@ -26,10 +26,10 @@ use Rattle.cy_reader.specs.declared.known.Known.{Known}
 use Rattle.cy_msg.specs.declared.play_list.PlayList.{PlayList}
 use Rattle.cy_reader.specs.Record.{Contents, Message, named_only}
 use Rattle.cy_reader.proofs.Sums.{none_found}
-use Rattle.cy_request.specs.declared.filter.Filter.{Filter}
+use Rattle.cy_msg.specs.declared.filter.Filter.{Filter}
 use Rattle.cy_play_list.specs.declared.play.ChannelUse.{ChannelUse}
 use Rattle.cy_play_list.specs.private.Uses.{AreUses, no_use, use_of, number_by, use_at, value_from, passes_by, is_played_by, is_shadowed_by, played_by, shadowed_by}
-use Rattle.cy_request.specs.Filter.{lets_time}
+use Rattle.cy_msg.specs.Filter.{lets_time}
 use Rattle.cy_play_list.specs.Play.{Choice, PlayAnswer, IsOrder, most_played, all_places, chosen, is_played, is_shadowed, number_at, places_below, time_at, token_behind, tokens_behind, number_in, name_of, value_at, AreNamed}
 use Rattle.cy_reader.specs.Named.{message_at}
 

@@ -11,8 +11,8 @@ use Rattle.cy_value.specs.declared.values.ChannelValue.{ChannelValue}
 pub use Rattle.cy_msg.specs.Tokens.{most_played}
 use Rattle.cy_msg.specs.declared.token.Token.{Token}
 use Rattle.cy_msg.specs.declared.play_list.PlayList.{PlayList}
-use Rattle.cy_request.specs.declared.filter.Filter.{Filter}
-use Rattle.cy_request.specs.Filter.{lets_channel, lets_time}
+use Rattle.cy_msg.specs.declared.filter.Filter.{Filter}
+use Rattle.cy_msg.specs.Filter.{lets_channel, lets_time}
 use Rattle.cy_reader.specs.declared.error.LoadError.{LoadError}
 use Rattle.cy_reader.specs.declared.error.LoadError.TheVariants.{TooManyPlayed, Memory}
 use Rattle.cy_reader.specs.Named.{message_at}

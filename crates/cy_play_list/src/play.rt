@@ -11,9 +11,8 @@ ghost use Rattle.cy_play_list.specs.private.Uses.{AreUses, use_of, use_at, numbe
 ghost use Rattle.cy_play_list.specs.private.Uses.{ArePassed, LooksAt, AreInOrder};
 
 use crate::ChannelSet;
-use cy_msg::{Items, MOST_PLAYED, Names, PlayList, Token};
+use cy_msg::{Filter, Items, MOST_PLAYED, Names, PlayList, Token};
 use cy_reader::{LoadError, Record};
-use cy_request::Filter;
 use cy_value::{ChannelValue, form_at, place_of, value_by};
 use std::alloc::Global;
 

@@ -2,7 +2,7 @@
 -- that was passed.
 use Rattle.std.specs.Prelude.{ℕ, List, ◌++◌, Bool, true, false, codes}
 use Rattle.std.specs.Fmt.{decimal}
-use Rattle.cy_fault.specs.FaultText.{limit_text}
+use Rattle.cy_msg.specs.FaultText.{limit_text}
 use Rattle.cy_section.specs.FaultText.{section_text, is_section_limit}
 use Rattle.cy_reader.specs.declared.error.LoadError.{LoadError}
 use Rattle.cy_reader.specs.declared.error.LoadError.TheVariants as load

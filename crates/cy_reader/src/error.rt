@@ -4,7 +4,7 @@ ghost use Rattle.cy_reader.specs.FaultText.{is_load_limit, load_text};
 ghost use Rattle.cy_reader.specs.declared.error.LoadError.TheVariants as load_error;
 ghost use Rattle.cy_reader.specs.Record.{fault_of, store_fault};
 
-use cy_fault::{push_limit, push_number};
+use cy_msg::{push_limit, push_number};
 use cy_section::SectionError;
 use cy_store::StoreError;
 use std::alloc::{AllocError, AllocFailed};

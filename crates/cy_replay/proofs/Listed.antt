@@ -17,8 +17,8 @@ use Rattle.cy_msg.specs.declared.token.Token.{Token}
 use Rattle.cy_comp.specs.Wiring.{IsWiring}
 use Rattle.cy_comp.specs.declared.plan.Plan.{Plan}
 use Rattle.cy_sched.specs.Placing.{numbers_below}
-use Rattle.cy_request.specs.Request.{StopAt}
-use Rattle.cy_request.specs.declared.filter.Filter.{Filter}
+use Rattle.cy_msg.specs.Request.{StopAt}
+use Rattle.cy_msg.specs.declared.filter.Filter.{Filter}
 use Rattle.cy_reader.specs.Record.{Contents}
 use Rattle.cy_play_list.specs.Play.{Choice, IsPlayList, chosen, most_played, number_at, places_below, value_at}
 use Rattle.cy_reader.specs.declared.error.LoadError.TheVariants.{TooManyPlayed}

@@ -25,7 +25,7 @@ use Rattle.cy_dag.specs.Wiring.{plans_of, named}
 use Rattle.cy_dag.specs.declared.config.Config.{Config}
 use Rattle.cy_dag.specs.declared.dag.DagComponent.{DagComponent}
 use Rattle.cy_dag.proofs.NameSteps.{has_contains, contains_has, behind_has}
-use Rattle.cy_request.specs.Request.{StopAt}
+use Rattle.cy_msg.specs.Request.{StopAt}
 use Rattle.cy_reader.specs.declared.known.Known.{Known}
 use Rattle.cy_reader.specs.Record.{Contents, named_only}
 use Rattle.cy_play_list.specs.Play.{Choice, IsPlayList, AreNamed, chosen, is_played, is_written, passes, all_places, number_at, number_in, name_of, places_below, token_behind, tokens_behind, value_at}

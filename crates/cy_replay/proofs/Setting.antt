@@ -21,7 +21,7 @@ use Rattle.std.specs.List.{flat_map}
 use Rattle.cy_dag.specs.declared.config.Config.{Config}
 use Rattle.cy_dag.specs.declared.dag.DagComponent.{DagComponent}
 use Rattle.cy_dag.specs.declared.error.DagError.{DagError}
-use Rattle.cy_request.specs.declared.filter.Filter.{Filter}
+use Rattle.cy_msg.specs.declared.filter.Filter.{Filter}
 use Rattle.wake_core.specs.TapeLaws.{PutLaws}
 use Rattle.cy_reader.specs.declared.known.Known.{Known}
 use Rattle.cy_reader.specs.Record.{Contents, named_only}
@@ -47,7 +47,7 @@ use Rattle.cy_replay.specs.private.Judged.{judged_over}
 use Rattle.cy_replay.specs.Listing.{AreCounts, IsListed, record_in, channels_of, counts_of, messages_in, played_in, planned_in}
 use Rattle.cy_replay.specs.Passing.{passing, type_read}
 use Rattle.cy_replay.specs.Steps.{IsRecordFault}
-use Rattle.cy_request.specs.Request.{Components, Request, OfFiles, OfPass}
+use Rattle.cy_msg.specs.Request.{Components, Request, OfFiles, OfPass}
 use Rattle.cy_replay.specs.Setup.{Replayed, IsAsked, IsAskedBy, IsSetUp, judged_in, configured_in, passed_in, replay_through, replay_in, replayed}
 use Rattle.cy_replay.specs.Steps.{configured}
 use Rattle.cy_replay.specs.Stops.{stop_in, stop_of}

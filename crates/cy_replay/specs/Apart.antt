@@ -5,7 +5,7 @@ use Rattle.std.specs.List.{Contains, flat_map}
 use Rattle.std.specs.Str.{bytes_eq}
 use Rattle.cy_store.specs.Files.{Files}
 use Rattle.cy_store.specs.Reads.{Reads, Accepts, Refuses}
-use Rattle.cy_request.specs.Request.{Components, OfFiles, OfPass}
+use Rattle.cy_msg.specs.Request.{Components, OfFiles, OfPass}
 use Rattle.cy_dag.specs.declared.config.Config.{Config}
 use Rattle.cy_replay.specs.AnswersFile.{answers_file}
 use Rattle.cy_replay.specs.Configuration.{Configured, files_of}

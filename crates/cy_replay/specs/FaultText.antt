@@ -1,7 +1,7 @@
 -- How it is told what is wrong with a file of a replay, and whether it is a limit that was passed.
 use Rattle.std.specs.Prelude.{ℕ, List, [], ◌++◌, Bool, true, false, codes}
 use Rattle.std.specs.Fmt.{decimal}
-use Rattle.cy_fault.specs.FaultText.{file_line, limit_text, named_text}
+use Rattle.cy_msg.specs.FaultText.{file_line, limit_text, named_text}
 use Rattle.cy_text.specs.FaultText.{text_text, is_text_limit}
 use Rattle.cy_dag.specs.FaultText.{dag_text, is_dag_limit}
 use Rattle.cy_sched.specs.FaultText.{sched_text, is_sched_limit}

@@ -13,7 +13,7 @@ use Rattle.cy_timer.specs.Timers.{timers_of}
 use Rattle.cy_timer.specs.declared.timer.Timer.{Timer}
 use Rattle.cy_info.specs.Info.{greatest, least}
 use Rattle.cy_reader.specs.declared.error.LoadError.TheVariants.{TooManyPlayed}
-use Rattle.cy_request.specs.declared.filter.Filter.{Filter}
+use Rattle.cy_msg.specs.declared.filter.Filter.{Filter}
 use Rattle.cy_reader.specs.Record.{Contents}
 use Rattle.cy_play_list.specs.Play.{Choice, IsPlayList, most_played, chosen, number_at}
 use Rattle.cy_play_list.specs.Play.{places_below, time_at}

@@ -5,7 +5,7 @@ use Rattle.cy_store.specs.Reads.{Reads, Accepts, ◌>>=◌}
 use Rattle.cy_msg.specs.Once.{IsOnce}
 use Rattle.cy_msg.specs.Placement.{scan_of}
 use Rattle.cy_sched.specs.Placing.{IsPlaced}
-use Rattle.cy_request.specs.Request.{Components, OfFiles, OfPass, Request}
+use Rattle.cy_msg.specs.Request.{Components, OfFiles, OfPass, Request}
 use Rattle.cy_reader.specs.Record.{Contents}
 use Rattle.wake_core.specs.Plain.{opening_world}
 use Rattle.wake_core.specs.Planned.{planned}

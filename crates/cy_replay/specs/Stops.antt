@@ -7,7 +7,7 @@ use Rattle.cy_store.specs.Reads.{Reads, Accepts, Refuses}
 use Rattle.cy_msg.specs.declared.stop.Stop.{Stop}
 use Rattle.cy_msg.specs.declared.token.Token.{Token}
 use Rattle.cy_comp.specs.declared.plan.Plan.{Plan}
-use Rattle.cy_request.specs.Request.{StopAt}
+use Rattle.cy_msg.specs.Request.{StopAt}
 use Rattle.cy_replay.specs.declared.error.Fault.TheVariants as fault
 use Rattle.cy_replay.specs.declared.error.Refusal.{Refusal}
 use Rattle.cy_replay.specs.Wiring.{Wired}

@@ -3,7 +3,7 @@ ghost use Rattle.std.specs.Prelude.{◌≡◌, ◌⊎◌, ◌++◌, map, find, I
 ghost use Rattle.std.specs.List.{Contains};
 ghost use Rattle.std.specs.Option.{option_map};
 ghost use Rattle.std.specs.Str.{bytes_eq};
-ghost use Rattle.cy_request.specs.Request.{components_of};
+ghost use Rattle.cy_msg.specs.Request.{components_of};
 ghost use Rattle.cy_replay.specs.Apart.{IsApart, also, answers_read, configs_read, files_read};
 ghost use Rattle.cy_replay.specs.Apart.{maybe};
 ghost use Rattle.cy_replay.specs.Configuration.{files_of};
@@ -13,8 +13,7 @@ use crate::answers::answers_file;
 use crate::error::refused;
 use crate::{Configuration, Fault, SetupError};
 use cy_dag::{Config, DagComponent};
-use cy_msg::Text;
-use cy_request::Components;
+use cy_msg::{Components, Text};
 use cy_store::Store;
 use std::alloc::{AllocError, Global};
 

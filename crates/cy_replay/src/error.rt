@@ -8,8 +8,7 @@ ghost use Rattle.cy_replay.specs.declared.error.SetupError.TheVariants as setup_
 
 use cy_answers::AnswersError;
 use cy_dag::DagError;
-use cy_fault::{push_file, push_limit, push_named, push_number};
-use cy_msg::{Bytes, NamesError, Text};
+use cy_msg::{Bytes, NamesError, Text, push_file, push_limit, push_named, push_number};
 use cy_reader::LoadError;
 use cy_sched::SchedError;
 use cy_text::TextError;

@@ -1,7 +1,7 @@
 // The stop of a replay.
 ghost use Rattle.std.specs.Prelude.{◌≡◌, ◌<◌, ◌^◌, length};
 ghost use Rattle.std.specs.Option.{option_map};
-ghost use Rattle.cy_request.specs.Request.{stop_at_of};
+ghost use Rattle.cy_msg.specs.Request.{stop_at_of};
 ghost use Rattle.cy_replay.specs.Comes.{IsJudged};
 ghost use Rattle.cy_replay.specs.Stops.{count_up_to, number_of, stop_in, stop_of};
 ghost use Rattle.cy_replay.specs.Wiring.{wired_by};
@@ -9,8 +9,7 @@ ghost use Rattle.cy_replay.specs.Wiring.{wired_by};
 use crate::error::refused;
 use crate::{Fault, SetupError};
 use cy_comp::Wiring;
-use cy_msg::{Stop, Text, Token};
-use cy_request::StopAt;
+use cy_msg::{Stop, StopAt, Text, Token};
 use std::alloc::Global;
 
 // The number of the component that has a name.

@@ -1,7 +1,7 @@
 -- How a refusal is told, and whether it is a limit that was passed: limits aside, its text is its
 -- name and what is refused, in quotes.
 use Rattle.std.specs.Prelude.{ℕ, List, [], Bool, true, false, codes}
-use Rattle.cy_fault.specs.FaultText.{limit_text, named_text}
+use Rattle.cy_msg.specs.FaultText.{limit_text, named_text}
 use Rattle.cy_sched.specs.declared.error.SchedError.{SchedError}
 use Rattle.cy_sched.specs.declared.error.SchedError.TheVariants as sched
 

@@ -6,8 +6,7 @@ ghost use Rattle.cy_sched.specs.Refusals.{refused_shape};
 ghost use Rattle.cy_sched.specs.declared.error.SchedError.TheVariants as sched_error;
 
 use cy_config::ConfigError;
-use cy_fault::{push_limit, push_named};
-use cy_msg::{NamesError, Text};
+use cy_msg::{NamesError, Text, push_limit, push_named};
 use std::alloc::{AllocError, AllocFailed};
 
 /// What [`read_sched`](crate::read_sched) may answer in place of a value.

@@ -5,7 +5,7 @@ ghost use Rattle.cy_section.specs.FaultText.{is_section_limit, place_text, secti
 ghost use Rattle.cy_section.specs.declared.error.SectionError.TheVariants as section_error;
 ghost use Rattle.cy_section.specs.Reading.{fault_of};
 
-use cy_fault::{push_decimal, push_number, push_signed};
+use cy_msg::{push_decimal, push_number, push_signed};
 use cy_wire::WireError;
 use std::alloc::{AllocError, AllocFailed};
 

@@ -3,7 +3,7 @@ ghost use Rattle.std.specs.Prelude.{◌≡◌, ◌++◌, OnOk};
 ghost use Rattle.cy_text.specs.FaultText.{is_text_limit, kind_text, place_text, text_text};
 ghost use Rattle.cy_text.specs.declared.error.TextError.TheVariants as text_error;
 
-use cy_fault::push_number;
+use cy_msg::push_number;
 use std::alloc::{AllocError, AllocFailed};
 
 /// What is wrong with a token, or with where it stands.

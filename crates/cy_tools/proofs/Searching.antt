@@ -3,8 +3,8 @@ use Rattle.std.proofs.Common.{◌≡◌, ◌≤◌, ◌<◌, ◌+◌, ◌^◌, �
 use Rattle.std.specs.Prelude.{filter, slice_index_or, ◌&&◌}
 use Rattle.std.proofs.lemmas.List.{take_more, take_all, drop_more, drop_all, map-append, get_or-map, length-map}
 use Rattle.std.proofs.lemmas.Option.{slice_get-get_or}
-use Rattle.cy_request.specs.declared.filter.Filter.{Filter}
-use Rattle.cy_request.specs.Filter.{lets_channel, lets_time}
+use Rattle.cy_msg.specs.declared.filter.Filter.{Filter}
+use Rattle.cy_msg.specs.Filter.{lets_channel, lets_time}
 use Rattle.cy_section.specs.declared.types.Channel.{Channel}
 use Rattle.cy_reader.specs.declared.known.Known.{Known}
 use Rattle.cy_reader.specs.Record.{Message, named_only}

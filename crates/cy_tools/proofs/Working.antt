@@ -2,7 +2,7 @@
 use Rattle.std.proofs.Common.{◌≡◌, arith, ℕ, List, [], ◌∷◌, length, refl, sym, ap, subst, ◌∙◌, true, Option, Some, None, Result, Ok, Err}
 use Rattle.std.specs.Option.{option_map}
 use Rattle.std.specs.Prelude.{filter}
-use Rattle.cy_request.specs.declared.filter.Filter.{Filter}
+use Rattle.cy_msg.specs.declared.filter.Filter.{Filter}
 use Rattle.cy_store.specs.Files.{Files}
 use Rattle.cy_store.specs.Store.{StoreView, HasWriteCauses}
 use Rattle.cy_store.specs.Write.{Write, after_writes}

@@ -1,8 +1,8 @@
 -- Which messages of a record are kept, and what is written of them.
 use Rattle.std.specs.Prelude.{ℕ, Bool, ◌&&◌, List, [], map, filter, slice_index_or}
 use Rattle.cy_store.specs.Write.{Write}
-use Rattle.cy_request.specs.declared.filter.Filter.{Filter}
-use Rattle.cy_request.specs.Filter.{lets_channel, lets_time}
+use Rattle.cy_msg.specs.declared.filter.Filter.{Filter}
+use Rattle.cy_msg.specs.Filter.{lets_channel, lets_time}
 use Rattle.cy_section.specs.declared.types.Channel.{Channel}
 use Rattle.cy_section.specs.declared.types.BodyMessage.{BodyMessage}
 use Rattle.cy_section.specs.RecordText.{IsRecordText, record_bytes}

@@ -1,6 +1,6 @@
 -- What each tool does.
 use Rattle.std.specs.Prelude.{List, length}
-use Rattle.cy_request.specs.declared.filter.Filter.{Filter}
+use Rattle.cy_msg.specs.declared.filter.Filter.{Filter}
 use Rattle.cy_reader.specs.Record.{Met, Message, Contents}
 use Rattle.cy_salvage.specs.Salvage.{Salvage}
 use Rattle.cy_tools.specs.declared.recovering.Recovered.{Recovered}

@@ -1,12 +1,12 @@
 // Which messages of a record are kept.
 ghost use Rattle.std.specs.Prelude.{◌≡◌, ◌<◌, ◌+◌, ◌^◌, length, false, ◌&&◌, slice_index_or};
 ghost use Rattle.std.specs.Prelude.{IfOk, IsOkUnless};
-ghost use Rattle.cy_request.specs.Filter.{lets_time};
+ghost use Rattle.cy_msg.specs.Filter.{lets_time};
 ghost use Rattle.cy_tools.specs.private.Keeping.{IsTable, IsReady, choice_of, keeps, IsFoundAt};
 ghost use Rattle.cy_tools.specs.private.Keeping.{IsNextFrom};
 
+use cy_msg::Filter;
 use cy_reader::Loaded;
-use cy_request::Filter;
 use cy_writer::WriteError;
 use std::alloc::Global;
 

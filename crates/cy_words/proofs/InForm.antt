@@ -7,7 +7,7 @@ use Rattle.std.specs.Prelude.{nat_lt, IfSome, IsSome}
 use Rattle.std.proofs.lemmas.Slice.Eq.{bytes_eq-Decides}
 use Rattle.clap.specs.Walk.{Text}
 use Rattle.clap.proofs.WalkLemmas.{both}
-use Rattle.cy_request.specs.Request.{HasReader, OfPass}
+use Rattle.cy_msg.specs.Request.{HasReader, OfPass}
 use Rattle.cy_words.specs.declared.words.Command as code
 use Rattle.cy_words.specs.declared.words.Command.TheVariants as asked
 use Rattle.cy_words.specs.CheckWords.{check_asked}

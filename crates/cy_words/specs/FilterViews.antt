@@ -1,6 +1,6 @@
 -- What the type stands for in which the code keeps the options of a filter.
 use Rattle.std.specs.Prelude.{[], option_map, unwrap_or}
-use Rattle.cy_request.specs.declared.filter.Filter.{Filter}
+use Rattle.cy_msg.specs.declared.filter.Filter.{Filter}
 use Rattle.cy_words.specs.declared.filter_words.FilterWords.{FilterWords}
 use Rattle.cy_words.specs.FilterWords.{names_in}
 

@@ -4,7 +4,7 @@ use Rattle.std.specs.Prelude.{Bool, true, if◌then◌else◌, List, [], ◌∷�
 use Rattle.std.specs.Prelude.{None, unwrap_or, codes}
 use Rattle.std.specs.List.{list_all, slice_split}
 use Rattle.std.specs.Option.{option_map}
-use Rattle.cy_request.specs.declared.filter.Filter.{Filter}
+use Rattle.cy_msg.specs.declared.filter.Filter.{Filter}
 use Rattle.cy_words.specs.Options.{Options}
 
 -- One step after another: the first that fails stands.

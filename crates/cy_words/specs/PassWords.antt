@@ -1,7 +1,7 @@
 -- The words of `pass`.
 use Rattle.std.specs.Prelude.{ℕ, if◌then◌else◌, List, [], ◌∷◌, Option, None, codes}
 use Rattle.std.specs.Str.{bytes_eq}
-use Rattle.cy_request.specs.Request.{OfPass}
+use Rattle.cy_msg.specs.Request.{OfPass}
 use Rattle.cy_words.specs.FilterWords.{◌>>=◌}
 use Rattle.cy_words.specs.Options.{Known, Options, placed}
 use Rattle.cy_words.specs.PlayWords.{PlayWords, play_of_all, where_play}

@@ -1,6 +1,6 @@
 -- What the type stands for in which the code keeps the words of `play`.
 use Rattle.std.specs.Prelude.{option_map}
-use Rattle.cy_request.specs.Request.{components_of, stop_at_of}
+use Rattle.cy_msg.specs.Request.{components_of, stop_at_of}
 use Rattle.cy_words.specs.declared.play_words.Play.{Play}
 use Rattle.cy_words.specs.FilterViews.{filter_of}
 use Rattle.cy_words.specs.PlayWords.{PlayWords}

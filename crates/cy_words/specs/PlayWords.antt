@@ -4,7 +4,7 @@ use Rattle.std.specs.Prelude.{◌∷◌, length, Option, Some, None, is_some, co
 use Rattle.std.specs.Option.{option_map}
 use Rattle.std.specs.Path.{rsplit_once}
 use Rattle.std.specs.Str.{bytes_eq}
-use Rattle.cy_request.specs.Request.{Components, OfFiles, OfPass, Request, StopAt}
+use Rattle.cy_msg.specs.Request.{Components, OfFiles, OfPass, Request, StopAt}
 use Rattle.cy_words.specs.FilterWords.{◌>>=◌, all_messages, filter_asked, spelled_number}
 use Rattle.cy_words.specs.Options.{Known, Options, flagged, valued}
 

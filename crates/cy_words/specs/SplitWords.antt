@@ -1,6 +1,6 @@
 -- The words of `split`.
 use Rattle.std.specs.Prelude.{ℕ, List, [], ◌∷◌, Option, Some, codes}
-use Rattle.cy_request.specs.declared.filter.Filter.{Filter}
+use Rattle.cy_msg.specs.declared.filter.Filter.{Filter}
 use Rattle.cy_words.specs.FilterWords.{◌>>=◌, filter_asked}
 use Rattle.cy_words.specs.Options.{Known, Options, placed, valued}
 use Rattle.cy_words.specs.RecoverWords.{recover_asked}

@@ -1,6 +1,6 @@
 -- What the program's own types stand for.
 use Rattle.std.specs.Prelude.{⊤, option_map}
-use Rattle.cy_request.specs.Request.{HasReader}
+use Rattle.cy_msg.specs.Request.{HasReader}
 use Rattle.cy_words.specs.declared.make_words.Make.{Make}
 use Rattle.cy_words.specs.declared.check_words.Check.{Check}
 use Rattle.cy_words.specs.declared.merge_words.Merge.{Merge}

@@ -7,8 +7,7 @@ ghost use Rattle.cy_words.specs.FilterWords.{names_in, number_or, spelled_number
 ghost use Rattle.cy_words.specs.private.OptionViews.{table_of, values_of};
 
 use crate::options::{Known, Values};
-use cy_msg::{Items, Text};
-use cy_request::Filter;
+use cy_msg::{Filter, Items, Text};
 use std::alloc::{AllocError, Global};
 
 /// Which messages are wanted, as words say it.

@@ -6,7 +6,7 @@ ghost use Rattle.cy_words.specs.PlayViews.{play_words_of};
 
 use crate::options::{Kind, Known, Values};
 use crate::play_words::Play;
-use cy_request::Components;
+use cy_msg::Components;
 
 /// What `pass` knows.
 pub(crate) const PASS: [Known; 5] = [

@@ -1,6 +1,6 @@
 // The words of `play`.
 ghost use Rattle.std.specs.Prelude.{◌≡◌, ◌≤◌, IfOk, length, is_some, option_map};
-ghost use Rattle.cy_request.specs.Request.{components_of, stop_at_of};
+ghost use Rattle.cy_msg.specs.Request.{components_of, stop_at_of};
 ghost use Rattle.cy_words.specs.PlayWords.{is_no_config, is_other, is_play, is_some_of};
 ghost use Rattle.cy_words.specs.PlayWords.{play_asked, play_given, play_known, play_of_all};
 ghost use Rattle.cy_words.specs.PlayWords.{stop_at, stop_or_none, where_play};
@@ -10,7 +10,7 @@ ghost use Rattle.cy_words.specs.private.OptionViews.{table_of, values_of};
 
 use crate::filter_words::{FilterWords, filter_asked, spelled_number};
 use crate::options::{Kind, Known, Values};
-use cy_request::{Components, Filter, StopAt};
+use cy_msg::{Components, Filter, StopAt};
 use std::alloc::{AllocError, Global};
 
 /// What `play` knows.

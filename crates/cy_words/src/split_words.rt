@@ -7,7 +7,7 @@ ghost use Rattle.cy_words.specs.private.OptionViews.{values_of};
 use crate::filter_words::{FilterWords, filter_asked};
 use crate::options::{Kind, Known, Values};
 use crate::recover_words::files_of;
-use cy_request::Filter;
+use cy_msg::Filter;
 use std::alloc::{AllocError, Global};
 
 /// What `split` knows.

@@ -1,8 +1,7 @@
 //! Tests of `cy_tools`: records that are recovered and split, byte by byte or by their lengths, and
 //! calls of the store that fail in turn.
-use cy_msg::{Items, Text};
+use cy_msg::{Filter, Items, Text};
 use cy_reader::{LoadError, load};
-use cy_request::Filter;
 use cy_section::SectionError;
 use cy_store::{MemStore, Store};
 use cy_tools::{File, Parted, Recovered, ToolError, recover, split};

@@ -10,7 +10,7 @@ use Rattle.cy_make.specs.Messages.{channels_of, messages_to}
 use Rattle.cy_make.specs.Texts.{suffix_of, text_of}
 use Rattle.cy_make.specs.Inputs.{all_configs, record_name, made_record, input_writes, with_inputs}
 use Rattle.cy_replay.specs.declared.text.TheConstants.{LONGEST_CONFIG}
-use Rattle.cy_request.specs.Request.{OfFiles}
+use Rattle.cy_msg.specs.Request.{OfFiles}
 use Rattle.cy_commands.specs.Work.{IsMadeOf, Work}
 use Rattle.cy_words.specs.Command.{Asks, Make}
 use Rattle.cy_words.specs.MakeWords.{MakeWords}

@@ -10,7 +10,7 @@ use Rattle.cy_replay.specs.declared.error.SetupError.{SetupError}
 use Rattle.cy_replay.specs.declared.error.SetupError.TheVariants as setup_error
 use Rattle.cy_replay.specs.declared.error.SetupError.TheVariants.{Refused}
 use Rattle.cy_replay.specs.declared.setup.Replay.{Replay}
-use Rattle.cy_request.specs.Request.{OfFiles}
+use Rattle.cy_msg.specs.Request.{OfFiles}
 use Rattle.cy_replay.specs.Setup.{IsSetUp, replayed}
 use Rattle.cy_make.specs.declared.config.Config.TheVariants.{Dag}
 use Rattle.cy_make.specs.declared.error.MakeError.{MakeError}

@@ -9,7 +9,7 @@ ghost use Rattle.cy_words.specs.Views.{split_words_of};
 use crate::due::{Due, out_of_memory};
 use crate::kept::{LINE_ROOM, due_kept, due_unkept, test_kept};
 use crate::unset::due_unset;
-use cy_request::Filter;
+use cy_msg::Filter;
 use cy_store::Store;
 use cy_words::Split;
 use std::alloc::Global;

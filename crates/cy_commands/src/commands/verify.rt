@@ -1,7 +1,7 @@
 // The command `verify`.
 ghost use Rattle.std.specs.Prelude.{◌≡◌, IfOk, IfErr, IsOkUnless, length};
 ghost use Rattle.cy_msg.specs.declared.play_list.PlayList.{PlayList};
-ghost use Rattle.cy_request.specs.Request.{HasReader};
+ghost use Rattle.cy_msg.specs.Request.{HasReader};
 ghost use Rattle.cy_replay.specs.Setup.{IsSetUp, Replayed, replayed};
 ghost use Rattle.cy_report.specs.Summary.{lawful_line as line_by};
 ghost use Rattle.cy_verify.specs.Verdict.{IsOfRun};

@@ -6,10 +6,10 @@ use Rattle.std.specs.List.Sorted.{IsSortedByKey, IsStableByKey}
 use Rattle.std.specs.Ordering.{nat_cmp}
 use Rattle.cy_value.specs.Values.{form_at, place_of, value_by}
 use Rattle.cy_value.specs.declared.values.ChannelValue.{ChannelValue}
-use Rattle.cy_request.specs.declared.filter.Filter.{Filter}
+use Rattle.cy_msg.specs.declared.filter.Filter.{Filter}
 use Rattle.cy_play_list.specs.declared.play.ChannelUse.{ChannelUse}
 use Rattle.cy_reader.specs.Record.{Contents}
-use Rattle.cy_request.specs.Filter.{lets_channel, lets_time}
+use Rattle.cy_msg.specs.Filter.{lets_channel, lets_time}
 use Rattle.cy_play_list.specs.Play.{Choice, number_in, name_of, time_at}
 use Rattle.cy_reader.specs.Named.{message_at}
 

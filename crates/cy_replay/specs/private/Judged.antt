@@ -2,7 +2,7 @@
 use Rattle.std.specs.Prelude.{ℕ, List}
 use Rattle.cy_store.specs.Reads.{Reads, Accepts, ◌>>=◌}
 use Rattle.cy_comp.specs.declared.wiring.Wiring.{Wiring}
-use Rattle.cy_request.specs.Request.{Request}
+use Rattle.cy_msg.specs.Request.{Request}
 use Rattle.cy_reader.specs.Record.{Contents}
 use Rattle.cy_replay.specs.declared.configuration.Configuration.{Configuration}
 use Rattle.cy_replay.specs.declared.error.Refusal.{Refusal}

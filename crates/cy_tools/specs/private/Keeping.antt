@@ -2,8 +2,8 @@
 use Rattle.std.specs.Prelude.{ℕ, ◌≡◌, ◌+◌, ◌<◌, ◌^◌, Bool, true, ◌&&◌, List, [], ◌∷◌, length, map}
 use Rattle.std.specs.Prelude.{drop, filter, Option, Some, None, slice_get, IfSome}
 use Rattle.std.specs.Option.{option_map}
-use Rattle.cy_request.specs.declared.filter.Filter.{Filter}
-use Rattle.cy_request.specs.Filter.{lets_channel, lets_time}
+use Rattle.cy_msg.specs.declared.filter.Filter.{Filter}
+use Rattle.cy_msg.specs.Filter.{lets_channel, lets_time}
 use Rattle.cy_reader.specs.declared.known.Known.{Known}
 use Rattle.cy_reader.specs.Record.{Message}
 use Rattle.cy_reader.specs.Named.{name_in}

@@ -1,8 +1,7 @@
 // The messages of a record that are played.
-use cy_msg::{Items, Names, NamesError, PlayList, Text, Token};
+use cy_msg::{Filter, Items, Names, NamesError, PlayList, Text, Token};
 use cy_play_list::{ChannelSet, play_list};
 use cy_reader::{Record, load};
-use cy_request::Filter;
 use cy_store::{MemStore, Store};
 use cy_value::{ChannelValue, ScalarKind, ValueForm};
 use std::alloc::Global;

@@ -1,9 +1,8 @@
 // What setting up a replay of the chain answers where a file is in the way.
 use super::faults::{CALLS, CALLS_BEFORE, READS};
 use super::ran::chain_store;
-use cy_msg::{Bytes, Items, Text};
+use cy_msg::{Bytes, Components, Filter, Items, Request, StopAt, Text};
 use cy_replay::{Fault, Refusal, Replay, SetupError, set_up};
-use cy_request::{Components, Filter, Request, StopAt};
 use cy_store::{MemStore, Store};
 use std::alloc::Global;
 use std::test::Fail;

@@ -1,4 +1,4 @@
-use Rattle.cy_request.specs.Request.{request_of}
+use Rattle.cy_msg.specs.Request.{request_of}
 use Rattle.cy_replay.proofs.Setting.{wiring_is, wiring_stops, wiring_then}
 use Rattle.cy_replay.proofs.setup.judge.Goals as goal
 

@@ -1,7 +1,7 @@
 use Rattle.std.proofs.Common.{◌∙◌, ap, arith, length, refl, sym}
 use Rattle.std.proofs.lemmas.Result.{err_from_is_err_and}
 use Rattle.cy_replay.specs.private.Judged.{judged_as}
-use Rattle.cy_request.specs.Request.{request_of}
+use Rattle.cy_msg.specs.Request.{request_of}
 use Rattle.cy_replay.specs.Stops.{stop_of}
 use Rattle.cy_replay.specs.Wiring.{wired_by}
 use Rattle.cy_replay.proofs.Judging.{judges_memory, passed_on}

@@ -1,5 +1,5 @@
 use Rattle.std.proofs.Common.{option_map, ap}
-use Rattle.cy_request.specs.Request.{OfFiles, OfPass, components_of, request_of}
+use Rattle.cy_msg.specs.Request.{OfFiles, OfPass, components_of, request_of}
 use Rattle.cy_replay.proofs.Setting.{through}
 use Rattle.cy_replay.proofs.setup.set_up.Goals as goal
 

@@ -1,6 +1,6 @@
 use Rattle.std.proofs.Common.{option_map}
 use Rattle.std.proofs.lemmas.Result.{err_from_is_err_and}
-use Rattle.cy_request.specs.Request.{request_of}
+use Rattle.cy_msg.specs.Request.{request_of}
 use Rattle.cy_replay.proofs.Setting.{configuration_stops, record_stops, all_read}
 use Rattle.cy_replay.proofs.setup.set_up_files.Goals as goal
 

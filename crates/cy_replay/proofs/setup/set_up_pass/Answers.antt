@@ -1,5 +1,5 @@
 use Rattle.std.proofs.lemmas.Result.{err_from_is_err_and}
-use Rattle.cy_request.specs.Request.{request_of}
+use Rattle.cy_msg.specs.Request.{request_of}
 use Rattle.cy_replay.proofs.Setting.{pass_stops, pass_starves, pass_read}
 use Rattle.cy_replay.proofs.setup.set_up_pass.Goals as goal
 

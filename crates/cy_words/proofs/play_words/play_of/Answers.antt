@@ -1,5 +1,5 @@
 use Rattle.std.proofs.Common.{◌≡◌, ◌∙◌, Some, ap, option_map, rules, sym, codes}
-use Rattle.cy_request.specs.Request.{OfFiles, stop_at_of}
+use Rattle.cy_msg.specs.Request.{OfFiles, stop_at_of}
 use Rattle.cy_words.specs.FilterViews.{filter_of}
 use Rattle.cy_words.specs.FilterWords.{◌>>=◌, filter_asked}
 use Rattle.cy_words.specs.Options.{Options}

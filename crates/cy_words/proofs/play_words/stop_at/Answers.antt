@@ -1,6 +1,6 @@
 use Rattle.std.proofs.Common.{◌≡◌, ◌∙◌, ◌==◌, ℕ, List, Option, Some, None, true, false, if◌then◌else◌, length, option_map, refl, sym, ap, arith, rules}
 use Rattle.std.specs.Path.{rsplit_once}
-use Rattle.cy_request.specs.Request.{StopAt, stop_at_of}
+use Rattle.cy_msg.specs.Request.{StopAt, stop_at_of}
 use Rattle.cy_words.specs.FilterWords.{◌>>=◌, spelled_number}
 use Rattle.cy_words.specs.PlayWords.{stop_at}
 use Rattle.cy_words.proofs.LastSign.{parts_shown, split_last}

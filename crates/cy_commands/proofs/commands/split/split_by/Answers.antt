@@ -1,5 +1,5 @@
 use Rattle.std.proofs.Common.{ℕ, Result, Ok, Err, subst, codes}
-use Rattle.cy_request.specs.declared.filter.Filter.{Filter}
+use Rattle.cy_msg.specs.declared.filter.Filter.{Filter}
 use Rattle.cy_reader.specs.Record.{record_of}
 use Rattle.cy_tools.specs.Answer.{ToolAnswer}
 use Rattle.cy_tools.specs.Tools.{splitting}

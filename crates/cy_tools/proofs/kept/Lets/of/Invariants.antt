@@ -1,5 +1,5 @@
 use Rattle.std.proofs.Common.{◌≡◌, map, take}
-use Rattle.cy_request.specs.Filter.{lets_channel}
+use Rattle.cy_msg.specs.Filter.{lets_channel}
 use Rattle.cy_reader.specs.declared.known.Known.{Known}
 use Rattle.cy_tools.proofs.kept.Lets.of.Given as goal
 

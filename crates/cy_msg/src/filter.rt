@@ -1,8 +1,8 @@
 // Which messages of a record are let through.
 ghost use Rattle.std.specs.Prelude.{◌≡◌};
-ghost use Rattle.cy_request.specs.Filter.{is_among, lets_channel, lets_time};
+ghost use Rattle.cy_msg.specs.Filter.{is_among, lets_channel, lets_time};
 
-use cy_msg::{Items, Text};
+use crate::{Items, Text};
 
 /// Which messages are let through: those on channels that are not dropped, where channels are named
 /// only on these, at times from `begin` to `end`, both included.

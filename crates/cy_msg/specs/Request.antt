@@ -1,10 +1,10 @@
 -- What a replay is asked for.
 use Rattle.std.specs.Prelude.{ℕ, ◌≤◌, ⊤, List, length, Option, option_map}
-use Rattle.cy_request.specs.declared.filter.Filter.{Filter}
-use Rattle.cy_request.specs.declared.request.Components as code
-use Rattle.cy_request.specs.declared.request.Components.TheVariants as named
-use Rattle.cy_request.specs.declared.request.Request as code_request
-use Rattle.cy_request.specs.declared.request.StopAt as code_stop
+use Rattle.cy_msg.specs.declared.filter.Filter.{Filter}
+use Rattle.cy_msg.specs.declared.request.Components as code
+use Rattle.cy_msg.specs.declared.request.Components.TheVariants as named
+use Rattle.cy_msg.specs.declared.request.Request as code_request
+use Rattle.cy_msg.specs.declared.request.StopAt as code_stop
 
 -- Through which components a record is replayed: those of a DAG file, placed by a scheduler file,
 -- where one is given; or one that passes the messages of a channel on to another.

@@ -1,9 +1,9 @@
 // The parts of texts, each added at the end of others.
 ghost use Rattle.std.specs.Prelude.{◌≡◌, ◌++◌, OnOk, codes};
 ghost use Rattle.std.specs.Fmt.{decimal, signed_decimal};
-ghost use Rattle.cy_fault.specs.FaultText.{file_front, limit_text, named_text, numbers_text};
+ghost use Rattle.cy_msg.specs.FaultText.{file_front, limit_text, named_text, numbers_text};
 
-use cy_msg::{Text, push_quoted};
+use crate::{Text, push_quoted};
 use itoa::Buffer;
 use std::alloc::AllocError;
 
