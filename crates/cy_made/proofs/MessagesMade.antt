@@ -8,7 +8,7 @@ use Rattle.cy_wire.specs.Wire.{whole_content, zigzag}
 use Rattle.cy_section.specs.declared.types.BodyMessage.{BodyMessage}
 use Rattle.cy_section.specs.declared.types.Channel.{Channel}
 use Rattle.cy_section.specs.Chunks.{messages_in}
-use Rattle.cy_piece.proofs.Lengths.{length-field_u64}
+use Rattle.cy_section.proofs.Lengths.{length-field_u64}
 use Rattle.cy_read_back.specs.Records.{AreReadable, IsReadableChannel, IsReadableMessage, text_contents}
 use Rattle.cy_read_back.proofs.TextRead.{is_text, text_read}
 use Rattle.cy_reader.specs.Record.{record_of, size_of, with_section}

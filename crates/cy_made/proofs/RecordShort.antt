@@ -19,7 +19,7 @@ use Rattle.cy_section.specs.RecordText.{Part, bytes_of, parts_of, entries_from, 
 use Rattle.cy_read_back.proofs.TextFits.{cache_short, join_all, length-any_field, split_all}
 use Rattle.cy_read_back.proofs.TextMet.{chunk_parts}
 use Rattle.cy_read_back.proofs.TextParts.{part_count}
-use Rattle.cy_piece.proofs.Lengths.{length-section, length-header_section, length-message_field, length-numbers_body}
+use Rattle.cy_section.proofs.Lengths.{length-section, length-header_section, length-message_field, length-numbers_body}
 
 -- a message with a short name and a short content, and a channel with a short name alone
 pub record IsLight (m : BodyMessage) : Type 0 where

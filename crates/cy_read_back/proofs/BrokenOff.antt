@@ -7,7 +7,7 @@ use Rattle.cy_section.specs.declared.types.BodyMessage.{BodyMessage}
 use Rattle.cy_section.specs.declared.types.Channel.{Channel}
 use Rattle.cy_section.specs.Section.{header_section}
 use Rattle.cy_section.specs.RecordText.{Part, parts_of, bytes_of, index_section, header_end, incomplete_header, complete_header, record_bytes}
-use Rattle.cy_piece.proofs.Lengths.{length-header_section}
+use Rattle.cy_section.proofs.Lengths.{length-header_section}
 use Rattle.cy_writer.specs.RecordWrites.{record_sections}
 use Rattle.cy_writer.specs.Unfinished.{unfinished}
 use Rattle.cy_read_back.specs.Fronts.{IsFrontOf}

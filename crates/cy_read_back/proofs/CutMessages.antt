@@ -19,7 +19,7 @@ use Rattle.cy_section.specs.Section.{section, header_section, channel_body, chun
 use Rattle.cy_section.specs.Chunks.{messages_in}
 use Rattle.cy_section.specs.Reading.{chunk_header_at, channel_at, messages_of}
 use Rattle.cy_section.specs.RecordText.{Part, bytes_of, parts_of, record_bytes, complete_header, channel_part, chunk_header_part, chunk_body_part, chunk_header_of, entries_from, header_end}
-use Rattle.cy_piece.proofs.Lengths.{length-header_section, length-of-message_field, length-message_fields}
+use Rattle.cy_section.proofs.Lengths.{length-header_section, length-of-message_field, length-message_fields}
 use Rattle.cy_reader.specs.declared.error.LoadError.{LoadError}
 use Rattle.cy_cut.specs.Sections.{WholeSection, Sections, longest_section, sections_from}
 use Rattle.cy_reader.specs.Record.{◌>>=◌, Met, file_header, sections_met, nothing}

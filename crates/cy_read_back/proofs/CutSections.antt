@@ -16,7 +16,7 @@ use Rattle.cy_section.specs.declared.types.SectionKind.TheVariants as kind
 use Rattle.cy_section.specs.Section.{section, head_bytes, kind_number}
 use Rattle.cy_section.specs.Head.{kind_of, head_at}
 use Rattle.cy_section.specs.RecordText.{Part, bytes_of}
-use Rattle.cy_piece.proofs.Lengths.{length-section}
+use Rattle.cy_section.proofs.Lengths.{length-section}
 use Rattle.cy_cut.specs.Sections.{WholeSection, Sections, longest_section, under_head, with_head, section_at, and_those_behind, sections_in}
 use Rattle.cy_read_back.proofs.HeadsRead.{number-of_head, head_at-head}
 use Rattle.cy_read_back.proofs.TextSections.{IsPlain, IsSection, StandsThere, kind_at, body_of, placed, section_is, not_header, next_place, section_at-written}

@@ -10,7 +10,7 @@ use Rattle.cy_section.specs.declared.types.Header.{Header}
 use Rattle.cy_section.specs.Rows.{header_rows}
 use Rattle.cy_section.specs.Section.{header_section, chunk_body}
 use Rattle.cy_section.specs.RecordText.{Part, IsRecordText, parts_of, record_bytes, header_end, incomplete_header}
-use Rattle.cy_piece.proofs.Lengths.{length-header_section}
+use Rattle.cy_section.proofs.Lengths.{length-header_section}
 use Rattle.cy_reader.specs.declared.error.LoadError.{LoadError}
 use Rattle.cy_cut.specs.Sections.{WholeSection, longest_section, longest_file}
 use Rattle.cy_reader.specs.Record.{◌>>=◌, Met, file_header, section_met, sections_met, nothing, size_of, with_section, largest_channels}

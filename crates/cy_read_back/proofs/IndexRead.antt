@@ -14,7 +14,7 @@ use Rattle.cy_section.specs.Rows.{numbered, chunk_header_cache_rows, chunk_body_
 use Rattle.cy_section.specs.Section.{optional_field, channel_cache_body, chunk_header_cache_body, chunk_body_cache_body, entry_field, index_body}
 use Rattle.cy_section.specs.Reading.{made_of, channel_in, channel_cache_at, entry_in, entry_at, entries_of, index_at}
 use Rattle.cy_read_back.specs.Sections.{ChannelCacheFits, ChunkHeaderCacheFits, ChunkBodyCacheFits, EntryFits, entry_bytes}
-use Rattle.cy_piece.proofs.Lengths.{length-numbers_body}
+use Rattle.cy_section.proofs.Lengths.{length-numbers_body}
 use Rattle.cy_section.proofs.Texts.{text_of-text}
 use Rattle.cy_section.proofs.Indexes.{entries_of-entry}
 use Rattle.cy_read_back.proofs.WrittenRead.{number_then, bytes_then, nothing_then, span_is}

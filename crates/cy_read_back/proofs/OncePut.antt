@@ -7,7 +7,7 @@ use Rattle.cy_section.specs.declared.types.SectionKind.TheVariants as kind
 use Rattle.cy_section.specs.Section.{section, channel_body, chunk_header_body, chunk_body, index_body}
 use Rattle.cy_section.specs.Chunks.{messages_in}
 use Rattle.cy_section.specs.RecordText.{Part, bytes_of, parts_of, channel_part, chunk_header_part, chunk_body_part, chunk_header_of, header_end, index_section}
-use Rattle.cy_piece.proofs.Lengths.{length-section}
+use Rattle.cy_section.proofs.Lengths.{length-section}
 use Rattle.cy_cut.specs.Heads.{PlacedIndex, index_head}
 use Rattle.cy_writer.specs.RecordWrites.{record_puts, record_sections}
 use Rattle.cy_writer.specs.Writes.{placed}

@@ -16,7 +16,7 @@ use Rattle.cy_section.specs.Section.{channel_body, chunk_header_body, chunk_body
 use Rattle.cy_section.specs.Chunks.{messages_in, takes, all_taken, chunk_raw_size, chunk_interval, is_nonempty, is_full, are_chunks}
 use Rattle.cy_section.specs.RecordText.{least_time, greatest_time, raw_size, count_on, chunk_header_of}
 use Rattle.cy_read_back.specs.Sections.{ChannelFits, ChunkHeaderFits, MessageFits}
-use Rattle.cy_piece.proofs.Lengths.{length-numbers_body, length-message_field, length-of-message_field, length-message_fields}
+use Rattle.cy_section.proofs.Lengths.{length-numbers_body, length-message_field, length-of-message_field, length-message_fields}
 use Rattle.cy_cut.specs.Sections.{longest_section}
 use Rattle.cy_reader.specs.Record.{size_of, with_section, longest_name, longest_content, largest_channels}
 use Rattle.cy_read_back.specs.Records.{IsReadableChannel, IsReadableMessage}

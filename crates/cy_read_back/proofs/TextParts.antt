@@ -16,7 +16,7 @@ use Rattle.cy_section.specs.Chunks.{messages_in}
 use Rattle.cy_section.specs.RecordText.{Part, bytes_of, parts_of, entries_from, channel_part, chunk_header_part, chunk_body_part, chunk_header_of, least_time, greatest_time, raw_size, count_on}
 use Rattle.cy_read_back.specs.Sections.{ChannelFits, ChunkHeaderFits, EntryFits}
 use Rattle.cy_wire.proofs.Varints.{length-varint_bytes}
-use Rattle.cy_piece.proofs.Lengths.{length-section}
+use Rattle.cy_section.proofs.Lengths.{length-section}
 use Rattle.cy_read_back.proofs.IndexRead.{short_header, short_body}
 use Rattle.cy_cut.specs.Sections.{longest_section}
 use Rattle.cy_reader.specs.Record.{size_of, with_section, largest_channels}

@@ -14,7 +14,7 @@ use Rattle.cy_section.specs.Section.{section, header_body, header_section, chunk
 use Rattle.cy_section.specs.Chunks.{messages_in, all_taken}
 use Rattle.cy_section.specs.RecordText.{IsRecordText, parts_of, bytes_of, record_bytes, complete_header, chunk_header_of}
 use Rattle.cy_read_back.specs.Sections.{HeaderFits, ChunkHeaderFits}
-use Rattle.cy_piece.proofs.Lengths.{length-section, length-header_section, length-header_body}
+use Rattle.cy_section.proofs.Lengths.{length-section, length-header_section, length-header_body}
 use Rattle.cy_read_back.proofs.HeadsRead.{number-of_head, size-of_head}
 use Rattle.cy_read_back.proofs.RowsRead.{header_at-body}
 use Rattle.cy_cut.specs.declared.heads.PlacedHead.{PlacedHead}

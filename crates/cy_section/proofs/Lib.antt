@@ -2,3 +2,4 @@ pub mod Texts
 pub mod Numbers
 pub mod Bodies
 pub mod Indexes
+pub mod Lengths

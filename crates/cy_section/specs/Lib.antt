@@ -7,3 +7,4 @@ pub mod Head
 pub mod Reading
 pub mod Messages
 pub mod FaultText
+pub mod Puts

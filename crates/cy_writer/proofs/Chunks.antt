@@ -10,7 +10,7 @@ use Rattle.cy_section.specs.declared.types.BodyMessage.{BodyMessage}
 use Rattle.cy_section.specs.Section.{chunk_body, message_field}
 use Rattle.cy_section.specs.Chunks.{chunk_raw_size}
 use Rattle.cy_section.specs.RecordText.{least_time, greatest_time, raw_size, chunk_header_of}
-use Rattle.cy_piece.proofs.Lengths.{length-section, length-of-message_field, length-message_fields, length-message_field, length-chunk_body-more}
+use Rattle.cy_section.proofs.Lengths.{length-section, length-of-message_field, length-message_fields, length-message_field, length-chunk_body-more}
 use Rattle.cy_section.specs.declared.types.SectionKind.{SectionKind}
 use Rattle.cy_section.specs.Section.{section, head_bytes}
 use Rattle.cy_section.specs.declared.types.SectionKind.TheVariants as kind

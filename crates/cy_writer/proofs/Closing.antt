@@ -12,7 +12,7 @@ use Rattle.cy_section.specs.declared.types.BodyMessage.{BodyMessage}
 use Rattle.cy_section.specs.Section.{section, channel_body, header_section, index_body}
 use Rattle.cy_section.specs.Chunks.{messages_in}
 use Rattle.cy_section.specs.RecordText.{Part, parts_of, bytes_of, entries_from, channel_part, chunk_header_part, chunk_body_part, index_section, incomplete_header, complete_header, record_bytes, chunk_header_of}
-use Rattle.cy_piece.proofs.Lengths.{length-header_section}
+use Rattle.cy_section.proofs.Lengths.{length-header_section}
 use Rattle.cy_writer.specs.Writes.{placed, puts_into}
 use Rattle.cy_writer.specs.Given.{Given, with_chunk, chunks_of, kept_chunk, messages_of, front_of, chunk_parts, chunk_puts, close_puts, sections_of, IsTextOf}
 use Rattle.cy_writer.specs.Kept.{kept_channels, kept_chunks, channel_entry, header_entry, body_entry}

@@ -9,7 +9,7 @@ use Rattle.cy_section.specs.declared.types.BodyMessage.{BodyMessage}
 use Rattle.cy_section.specs.Section.{section, channel_body, header_section}
 use Rattle.cy_section.specs.Chunks.{messages_in, takes}
 use Rattle.cy_section.specs.RecordText.{Part, parts_of, bytes_of, channel_part, index_section, header_end, incomplete_header, complete_header}
-use Rattle.cy_piece.proofs.Lengths.{length-header_section}
+use Rattle.cy_section.proofs.Lengths.{length-header_section}
 use Rattle.cy_writer.specs.Writes.{placed}
 use Rattle.cy_writer.specs.Given.{Given, with_message, chunks_of, kept_chunk, front_of, chunk_parts, chunk_puts, channel_puts, message_puts, close_puts}
 use Rattle.cy_writer.proofs.Closing.{placed-append, length-sections_of}

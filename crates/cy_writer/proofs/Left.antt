@@ -15,7 +15,7 @@ use Rattle.cy_section.specs.declared.types.Channel.{Channel}
 use Rattle.cy_section.specs.Rows.{chunk_header_rows}
 use Rattle.cy_section.specs.Section.{section, header_section, chunk_header_body, channel_body, chunk_body}
 use Rattle.cy_section.specs.RecordText.{parts_of, index_section, incomplete_header, complete_header, chunk_header_of, chunk_header_part, chunk_body_part, greatest_time, raw_size}
-use Rattle.cy_piece.proofs.Lengths.{length-section}
+use Rattle.cy_section.proofs.Lengths.{length-section}
 use Rattle.cy_writer.specs.Writes.{file_after, puts_into}
 use Rattle.cy_writer.specs.Given.{Given, with_channel, with_chunk, nothing_given, chunks_of, front_of, header_room, IsAsLeft, IsLeft, IsTextOf, start_puts, channel_puts, chunk_puts, close_puts}
 use Rattle.cy_writer.proofs.Puts.{some_held, get-inserted, get-after, holds-after, holds_weaker, written_at-end}

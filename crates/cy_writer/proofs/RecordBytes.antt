@@ -12,7 +12,7 @@ use Rattle.cy_section.specs.declared.types.Channel.{Channel}
 use Rattle.cy_section.specs.declared.types.BodyMessage.{BodyMessage}
 use Rattle.cy_section.specs.Section.{header_section}
 use Rattle.cy_section.specs.RecordText.{Part, parts_of, bytes_of, index_section, header_end, incomplete_header, complete_header, record_bytes}
-use Rattle.cy_piece.proofs.Lengths.{length-header_section}
+use Rattle.cy_section.proofs.Lengths.{length-header_section}
 use Rattle.cy_writer.specs.Writes.{placed, file_after}
 use Rattle.cy_writer.proofs.Puts.{put_of, get-inserted, written_at-end}
 use Rattle.cy_writer.specs.RecordWrites.{file_writes, record_sections, record_puts}

@@ -14,7 +14,7 @@ use Rattle.cy_section.specs.declared.types.BodyMessage.{BodyMessage}
 use Rattle.cy_section.specs.Section.{section, channel_body, header_section}
 use Rattle.cy_section.specs.Chunks.{messages_in, takes}
 use Rattle.cy_section.specs.RecordText.{Part, parts_of, bytes_of, channel_part, chunk_header_part, chunk_body_part, chunk_header_of, count_on, incomplete_header}
-use Rattle.cy_piece.proofs.Lengths.{length-header_section}
+use Rattle.cy_section.proofs.Lengths.{length-header_section}
 use Rattle.cy_writer.specs.Given.{Given, nothing_given, message_on, with_channel, with_chunk, with_message, kept_chunk, messages_of, front_of, chunk_parts}
 use Rattle.cy_writer.specs.private.Counted.{counted_with}
 use Rattle.cy_writer.proofs.Chunks.{counted_more}

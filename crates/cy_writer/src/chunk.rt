@@ -6,8 +6,9 @@ ghost use Rattle.cy_writer.specs.private.Counted.{counted_with};
 use crate::WriteError;
 use crate::error::no_memory_for_section;
 use crate::sum::sum;
-use cy_piece::{Piece, message_size, put_head, put_message, set_head};
-use cy_section::{ChunkHeader, HEAD_SIZE, SectionKind};
+use cy_section::{
+    ChunkHeader, HEAD_SIZE, Piece, SectionKind, message_size, put_head, put_message, set_head,
+};
 use std::alloc::Global;
 
 /// The longest body of a chunk, in bytes, and the longest time from its first message to another,

@@ -7,8 +7,7 @@ ghost use Rattle.cy_section.specs.RecordText.{incomplete_header};
 use crate::WriteError;
 use crate::chunk::{CHUNK_INTERVAL, CHUNK_RAW_SIZE};
 use crate::error::no_memory_for_section;
-use cy_piece::{Piece, put_header};
-use cy_section::{ChunkHeader, Header};
+use cy_section::{ChunkHeader, Header, Piece, put_header};
 use std::alloc::Global;
 
 /// What the header of a whole record counts beside its messages.

@@ -26,8 +26,10 @@ use crate::kept::{KeptChannel, KeptChunk, index_entries};
 use crate::put::{put, put_both};
 use crate::sum::sum;
 use cy_msg::{Items, Text};
-use cy_piece::{Piece, put_channel, put_chunk_header, put_index};
-use cy_section::{Channel, ChannelCache, ChunkHeader, HEADER_SIZE, Index};
+use cy_section::{
+    Channel, ChannelCache, ChunkHeader, HEADER_SIZE, Index, Piece, put_channel, put_chunk_header,
+    put_index,
+};
 use cy_store::Store;
 use std::alloc::Global;
 

@@ -1,9 +1,9 @@
 // Sections that are read: odd forms that are accepted, and each fault with its place.
 use cy_msg::{Bytes, Items, Text};
-use cy_piece::{Piece, put_chunk_body, put_header};
 use cy_section::{
-    BodyMessage, ChunkBody, Header, MessageReader, SectionError, SectionKind, read_channel,
-    read_chunk_body, read_chunk_header, read_head, read_header, read_index,
+    BodyMessage, ChunkBody, Header, MessageReader, Piece, SectionError, SectionKind, put_chunk_body,
+    put_header, read_channel, read_chunk_body, read_chunk_header, read_head, read_header,
+    read_index,
 };
 use std::test::Fail;
 

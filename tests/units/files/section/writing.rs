@@ -1,12 +1,9 @@
 // Vectors of a small record: the header, a channel, a chunk of two messages, and the index.
 use cy_msg::{Bytes, Items, NamesError, Text};
-use cy_piece::{
-    Piece, message_size, put_channel, put_chunk_body, put_chunk_header, put_head, put_header,
-    put_index, put_message,
-};
 use cy_section::{
     BodyMessage, Channel, ChannelCache, ChunkBody, ChunkBodyCache, ChunkHeader, ChunkHeaderCache,
-    Header, Index, IndexEntry, SectionError, SectionKind,
+    Header, Index, IndexEntry, Piece, SectionError, SectionKind, message_size, put_channel,
+    put_chunk_body, put_chunk_header, put_head, put_header, put_index, put_message,
 };
 use std::alloc::Global;
 use std::test::Fail;

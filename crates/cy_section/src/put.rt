@@ -4,12 +4,11 @@ ghost use Rattle.std.specs.Prelude.{IsOkUnless};
 ghost use Rattle.cy_section.specs.Rows.{numbers_body};
 ghost use Rattle.cy_section.specs.Section.{section, header_body, header_section};
 ghost use Rattle.cy_section.specs.Section.{chunk_header_body, channel_body};
-ghost use Rattle.cy_piece.specs.Puts.{PutsHeader};
+ghost use Rattle.cy_section.specs.Puts.{PutsHeader};
 ghost use Rattle.cy_section.specs.declared.types.SectionKind.TheVariants as kind;
 
-use crate::Piece;
-use crate::head::{head_of, no_memory, put_section};
-use cy_section::{Channel, ChunkHeader, HEADER_SIZE, Header, SectionError, SectionKind};
+use crate::head_bytes::{head_of, no_memory, put_section};
+use crate::{Channel, ChunkHeader, HEADER_SIZE, Header, Piece, SectionError, SectionKind};
 use cy_wire::{WireError, Writer};
 use std::alloc::Global;
 
@@ -29,7 +28,7 @@ pub(crate) fn number_fields(alloc: Global, fields: &[(u32, u64)]) -> Result<Writ
     Ok(body)
 }
 
-#[tactic(auto, unfolding(cy_section::specs::Section::channel_body))]
+#[tactic(auto, unfolding(crate::specs::Section::channel_body))]
 fn channel_fields(alloc: Global, value: &Channel) -> Result<Writer, WireError>
     ensures ok { IfOk result (λ w. w ≡ channel_body value.now) }
     ensures only_memory { IsOkUnless result WireError.Memory }
@@ -42,7 +41,7 @@ fn channel_fields(alloc: Global, value: &Channel) -> Result<Writer, WireError>
 }
 
 /// The header's head and fields, without the zeros that follow.
-#[tactic(auto, using(crate::proofs::Lengths::header_fits), unfolding(cy_section::specs::Section::section, cy_section::specs::Section::header_body))]
+#[tactic(auto, using(crate::proofs::Lengths::header_fits), unfolding(crate::specs::Section::section, crate::specs::Section::header_body))]
 fn header_front(alloc: Global, value: &Header) -> Result<Writer, WireError>
     ensures ok { IfOk result (λ w. w ≡ section kind.Header (header_body value.now)) }
     ensures only_memory { IsOkUnless result WireError.Memory }
@@ -75,7 +74,7 @@ pub fn put_header(to: &mut Piece, value: &Header) -> Result<(), SectionError>
 }
 
 /// Appends a chunk's header. Want of memory changes nothing.
-#[tactic(auto, unfolding(cy_section::specs::Section::chunk_header_body))]
+#[tactic(auto, unfolding(crate::specs::Section::chunk_header_body))]
 pub fn put_chunk_header(to: &mut Piece, value: &ChunkHeader) -> Result<(), SectionError>
     ensures ok { OnOk result (to.new ≡ to.old ++ section kind.ChunkHeader
         (chunk_header_body value.now)) }

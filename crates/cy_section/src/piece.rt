@@ -2,8 +2,8 @@
 ghost use Rattle.std.specs.Prelude.{◌≡◌, ◌+◌, ◌≤◌, ◌++◌, [], List, ℕ, length, take, drop, OnOk};
 ghost use Rattle.std.specs.Prelude.{OnErr, IsOkUnless};
 
+use crate::SectionError;
 use bytes::BufMut;
-use cy_section::SectionError;
 use std::alloc::Global;
 use std::marker::Model;
 

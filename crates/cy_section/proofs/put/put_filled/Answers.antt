@@ -1,8 +1,8 @@
 use Rattle.std.proofs.Common.{◌++◌, ◌∙◌, ap, length, arith}
 use Rattle.std.proofs.lemmas.List.{length-append, length-replicate}
 use Rattle.std.proofs.lemmas.Result.{on_ok_weaker}
-use Rattle.cy_piece.proofs.Lengths.{rest_of_zeros}
-use Rattle.cy_piece.proofs.put.put_filled.Goals as goal
+use Rattle.cy_section.proofs.Lengths.{rest_of_zeros}
+use Rattle.cy_section.proofs.put.put_filled.Goals as goal
 
 pub returns : goal.returns
 returns c =

@@ -3,9 +3,8 @@ ghost use Rattle.std.specs.Prelude.{◌≡◌, ◌+◌, ◌≤◌, ◌++◌, len
 ghost use Rattle.std.specs.Prelude.{IsOkUnless};
 ghost use Rattle.cy_section.specs.Section.{head_bytes, section};
 
-use crate::Piece;
+use crate::{HEAD_SIZE, Piece, SectionError, SectionKind};
 use byteorder::{ByteOrder, LittleEndian};
-use cy_section::{HEAD_SIZE, SectionError, SectionKind};
 use cy_wire::WireError;
 
 /// The head of a section of this kind, whose body has so many bytes.
@@ -55,7 +54,7 @@ pub fn set_head(piece: &mut Piece, kind: SectionKind)
 }
 
 /// Appends a section of this kind with this body. Want of memory changes nothing.
-#[tactic(auto, unfolding(cy_section::specs::Section::section))]
+#[tactic(auto, unfolding(crate::specs::Section::section))]
 pub(crate) fn put_section(
     to: &mut Piece,
     kind: SectionKind,

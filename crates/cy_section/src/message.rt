@@ -5,10 +5,9 @@ ghost use Rattle.cy_wire.specs.Wire.{varint_bytes, field_u64, field_bytes};
 ghost use Rattle.cy_section.specs.Section.{section, message_field, chunk_body};
 ghost use Rattle.cy_section.specs.declared.types.SectionKind.TheVariants as kind;
 
-use crate::Piece;
-use crate::head::{put_head, set_head_at};
+use crate::head_bytes::{put_head, set_head_at};
+use crate::{BodyMessage, ChunkBody, Piece, SectionError, SectionKind};
 use bytes::BufMut;
-use cy_section::{BodyMessage, ChunkBody, SectionError, SectionKind};
 use cy_wire::push_varint;
 
 /// The tag of a message in a chunk's body, and those of a message's fields: the wire type in the
@@ -177,7 +176,7 @@ fn push_small(out: &mut Vec<u8>, value: u64)
 }
 
 /// Appends a message with a short name and content, for which there is room.
-#[tactic(auto, unfolding(cy_section::specs::Section::message_field))]
+#[tactic(auto, unfolding(crate::specs::Section::message_field))]
 fn push_short(out: &mut Vec<u8>, name: &str, time: u64, content: &[u8])
     requires short { length name.now + length content.now ≤ 112 }
     requires room { vec_len out.old + length name.now + length content.now + 80
@@ -203,7 +202,7 @@ fn push_short(out: &mut Vec<u8>, name: &str, time: u64, content: &[u8])
 /// Appends a message of any length, for which there is room. Most are short, so this stands by
 /// itself and leaves the registers to those.
 #[inline(never)]
-#[tactic(auto, unfolding(cy_section::specs::Section::message_field))]
+#[tactic(auto, unfolding(crate::specs::Section::message_field))]
 fn push_any(out: &mut Vec<u8>, name: &str, time: u64, content: &[u8])
     requires room { vec_len out.old + length name.now + length content.now + 80
         ≤ vec_capacity out.old }

@@ -1,6 +1,6 @@
 use Rattle.std.proofs.Common.{◌≡◌, ◌+◌, length}
 use Rattle.cy_wire.specs.Wire.{varint_bytes}
-use Rattle.cy_piece.proofs.message.varint_len.Given as goal
+use Rattle.cy_section.proofs.message.varint_len.Given as goal
 
 abbrev pub invariant-loop-rest : goal.invariant-loop-rest
 invariant-loop-rest l = l.len + length (varint_bytes l.rest) ≡ length (varint_bytes l.value) + 1

@@ -6,17 +6,17 @@ ghost use Rattle.cy_section.specs.Section.{chunk_header_cache_body, chunk_body_c
 ghost use Rattle.cy_section.specs.Section.{entry_field, index_body};
 ghost use Rattle.cy_section.specs.declared.types.SectionKind.TheVariants as kind;
 
-use crate::Piece;
-use crate::head::{no_memory, put_section};
+use crate::head_bytes::{no_memory, put_section};
 use crate::put::number_fields;
-use cy_section::{
-    ChannelCache, ChunkBodyCache, ChunkHeaderCache, Index, IndexEntry, SectionError, SectionKind,
+use crate::{
+    ChannelCache, ChunkBodyCache, ChunkHeaderCache, Index, IndexEntry, Piece, SectionError,
+    SectionKind,
 };
 use cy_wire::{WireError, Writer};
 use std::alloc::Global;
 
 /// Writes what an entry keeps of a channel, if it keeps one.
-#[tactic(auto, unfolding(cy_section::specs::Section::channel_cache_body))]
+#[tactic(auto, unfolding(crate::specs::Section::channel_cache_body))]
 fn channel_cache(
     alloc: Global,
     to: &mut Writer,
@@ -37,7 +37,7 @@ fn channel_cache(
 }
 
 /// Writes what an entry keeps of a chunk's header, if it keeps one.
-#[tactic(auto, unfolding(cy_section::specs::Section::chunk_header_cache_body))]
+#[tactic(auto, unfolding(crate::specs::Section::chunk_header_cache_body))]
 fn chunk_header_cache(
     alloc: Global,
     to: &mut Writer,
@@ -55,7 +55,7 @@ fn chunk_header_cache(
 }
 
 /// Writes what an entry keeps of a chunk's body, if it keeps one.
-#[tactic(auto, unfolding(cy_section::specs::Section::chunk_body_cache_body))]
+#[tactic(auto, unfolding(crate::specs::Section::chunk_body_cache_body))]
 fn chunk_body_cache(
     alloc: Global,
     to: &mut Writer,
@@ -73,7 +73,7 @@ fn chunk_body_cache(
 }
 
 /// The fields of an entry.
-#[tactic(auto, unfolding(cy_section::specs::Section::entry_field))]
+#[tactic(auto, unfolding(crate::specs::Section::entry_field))]
 fn entry_fields(alloc: Global, entry: &IndexEntry) -> Result<Writer, WireError>
     ensures ok { IfOk result (λ w. field_bytes 1 w ≡ entry_field entry.now) }
     ensures only_memory { IsOkUnless result WireError.Memory }

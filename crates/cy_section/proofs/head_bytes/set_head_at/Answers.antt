@@ -1,5 +1,5 @@
-use Rattle.cy_piece.proofs.Lengths.{section_over}
-use Rattle.cy_piece.proofs.head.set_head_at.Goals as goal
+use Rattle.cy_section.proofs.Lengths.{section_over}
+use Rattle.cy_section.proofs.head_bytes.set_head_at.Goals as goal
 
 pub returns : goal.returns
 returns c =
