@@ -17,7 +17,7 @@ use Rattle.cy_trace_text.specs.Telling.{TracesTellRuns}
 use Rattle.cy_trace.specs.TraceForm.{text_of_trace}
 use Rattle.cy_trace.specs.TraceOfRun.{trace_of_run}
 use Rattle.cy_trace_text.specs.TraceText.{trace_text}
-use Rattle.cy_compare.specs.Compare.{first_difference}
+use Rattle.cy_recording.specs.Compare.{first_difference}
 use Rattle.cy_recording.specs.Recording.{Source}
 use Rattle.cy_replay.specs.declared.error.Refusal.{Refusal}
 use Rattle.cy_replay.specs.Setup.{Replayed}

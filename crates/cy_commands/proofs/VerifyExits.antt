@@ -27,9 +27,9 @@ use Rattle.cy_trace.specs.TraceOfRun.{trace_of_run}
 use Rattle.cy_trace.specs.declared.error.TraceError.{TraceError}
 use Rattle.cy_trace.specs.declared.error.TraceError.TheVariants as trace_error
 use Rattle.cy_trace.specs.declared.trace.Trace.{Trace}
-use Rattle.cy_compare.specs.Compare.{SameAnswer, first_difference}
-use Rattle.cy_compare.specs.declared.error.SameError.{SameError}
-use Rattle.cy_compare.specs.declared.error.SameError.TheVariants as same_error
+use Rattle.cy_recording.specs.Compare.{SameAnswer, first_difference}
+use Rattle.cy_recording.specs.declared.error.SameError.{SameError}
+use Rattle.cy_recording.specs.declared.error.SameError.TheVariants as same_error
 use Rattle.cy_verify.specs.Verdict as verdict
 use Rattle.cy_verify.specs.declared.verdict.Told.{Told}
 use Rattle.cy_replay.specs.declared.error.Fault.TheVariants as fault

@@ -1,3 +1,4 @@
 pub mod private
 pub mod RecordLaws
 pub mod Recording
+pub mod Compare

@@ -1,10 +1,9 @@
 // A file compared with the record of a tape.
 use crate::records::HEADER_END;
 use crate::replay::{in_message, one_played, out_message, pass_wiring, record_with, small_record};
-use cy_compare::{SameError, same_record};
 use cy_msg::Token;
 use cy_reader::Record;
-use cy_recording::{Played, write_record};
+use cy_recording::{Played, SameError, same_record, write_record};
 use cy_store::{MemStore, Store, StoreError};
 use std::test::Fail;
 

@@ -15,7 +15,7 @@ use Rattle.cy_trace.specs.CallCount.{calls_from}
 use Rattle.cy_report.specs.Summary.{lawful_line}
 use Rattle.cy_trace.specs.TraceForm.{IsFirstBad, IsTrace, IsTraceText}
 use Rattle.cy_trace.specs.TraceOfRun.{trace_of_run}
-use Rattle.cy_compare.specs.Compare.{first_difference}
+use Rattle.cy_recording.specs.Compare.{first_difference}
 use Rattle.cy_replay.specs.declared.error.Fault.TheVariants as fault
 use Rattle.cy_replay.specs.declared.error.Refusal.{Refusal}
 use Rattle.cy_replay.specs.Listing.{IsListed, counts_of}

@@ -1,6 +1,0 @@
-mod Fieldless
-mod Unlikes
-mod Kept
-mod Keeps
-mod Seen
-mod Ends

@@ -1,2 +1,0 @@
-pub mod private
-pub mod Compare
