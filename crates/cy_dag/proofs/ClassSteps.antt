@@ -9,7 +9,7 @@ use Rattle.cy_dag.specs.Classes.{class_named}
 use Rattle.cy_dag.specs.ConfigFile.{IsConfig, class_refusal, config_of, config_refusal, file_rows, kind_refusal, out_refusal, overflow_of, overflow_refusal, parameter_rows, values_refusal}
 use Rattle.cy_dag.specs.Options.{option_rows, refusal_among}
 use Rattle.cy_dag.specs.Refusals.{IsDue}
-use Rattle.cy_dag.specs.Wiring.{IsKindOf, IsOfClass}
+use Rattle.cy_dag.specs.Classes.{IsKindOf, IsOfClass}
 use Rattle.cy_dag.specs.declared.class.Class.{Class}
 use Rattle.cy_dag.specs.declared.config.Config.{Config}
 use Rattle.cy_dag.specs.declared.error.DagError.{DagError}

@@ -1,8 +1,9 @@
 -- What is found first.
-use Rattle.std.proofs.Common.{ℕ, zero, suc, ◌≡◌, ◌<◌, Option, Some, None, refl, inl, inr, arith}
+use Rattle.std.proofs.Common.{ℕ, zero, suc, ◌≡◌, ◌<◌, Option, Some, None, option_map, refl, inl, inr, arith}
 use Rattle.std.proofs.lemmas.Bool.{cases_lt}
+use Rattle.std.proofs.lemmas.Option.{same_Some, none-some}
 use Rattle.std.specs.Option.{option_or}
-use Rattle.cy_dag.specs.Triggers.{first_found}
+use Rattle.cy_dag.specs.DagFile.{first_found}
 
 -- The least number that gives something decides.
 pub found_at : {A : Type 0} (given : ℕ → Option A) (i n : ℕ) (x : A) → i < n → first_found given i ≡ None → given i ≡ Some x → first_found given n ≡ Some x
@@ -26,3 +27,8 @@ none_given given i (suc n) below none =
       | inl earlier ↦ none_given given i n earlier both.0
       | inr later ↦ let here : i ≡ n = omega arith in rw here both.1
     ]
+
+-- What a value that is made of something is made of.
+pub mapped_some : {A B : Type 0} (f : A → B) (o : Option A) (b : B) → option_map f o ≡ Some b → (a : A) × (o ≡ Some a) × (f a ≡ b)
+mapped_some f None b h = absurd (none-some b h)
+mapped_some f (Some a) b h = (a, refl, same_Some (f a) b h)

@@ -1,10 +1,7 @@
 pub mod ClassSteps
 pub mod DagSteps
 pub mod Found
-pub mod GivenSteps
 pub mod LoopSteps
-pub mod NameSteps
-pub mod PairSteps
 pub mod Powers
 pub mod Queues
 pub mod ReadFacts
@@ -12,8 +9,4 @@ pub mod Repeats
 pub mod Tested
 pub mod TimerFacts
 pub mod TimersTested
-pub mod TriggerCycles
-pub mod TriggerSteps
 pub mod ValueSteps
-pub mod WireSteps
-pub mod WiringFacts

@@ -5,7 +5,7 @@ use Rattle.std.proofs.lemmas.Option.{slice_get-get_or, slice_get-map}
 use Rattle.std.specs.Option.{option_or}
 use Rattle.cy_config.specs.Refusals.{first_of}
 use Rattle.cy_dag.specs.Refusals.{IsDue}
-use Rattle.cy_dag.specs.Triggers.{first_found}
+use Rattle.cy_dag.specs.DagFile.{first_found}
 use Rattle.cy_dag.specs.declared.error.DagError.{DagError}
 use Rattle.cy_dag.specs.declared.error.DagError.TheVariants.{Memory}
 use Rattle.cy_dag.proofs.Found.{found_at}

@@ -6,7 +6,7 @@ use Rattle.cy_config.specs.Lookups.{messages_under, u32_under}
 use Rattle.cy_dag.specs.DagFile.{HaveQueues, component_of, queue_of, reader_of, settings_of}
 use Rattle.cy_dag.specs.declared.dag.DagComponent.{DagComponent}
 use Rattle.cy_dag.specs.declared.dag.DagReader.{DagReader}
-use Rattle.cy_dag.proofs.PairSteps.{mapped_some}
+use Rattle.cy_dag.proofs.Found.{mapped_some}
 
 queue_least : (o : Option ℕ) → 1 ≤ queue_of o
 queue_least None = omega arith

@@ -7,8 +7,7 @@ use Rattle.cy_dag.specs.DagFile.{HaveQueues, HaveTicks, IsTimer, component_of, c
 use Rattle.cy_dag.specs.declared.dag.DagComponent.{DagComponent}
 use Rattle.cy_dag.specs.declared.dag.DagReader.{DagReader}
 use Rattle.cy_dag.specs.declared.error.DagError.{DagError}
-use Rattle.cy_dag.proofs.Found.{or_none}
-use Rattle.cy_dag.proofs.PairSteps.{mapped_some}
+use Rattle.cy_dag.proofs.Found.{mapped_some, or_none}
 use Rattle.cy_dag.proofs.Queues.{queues_of}
 use Rattle.cy_dag.proofs.ReadFacts.{refuse_none, some_where}
 

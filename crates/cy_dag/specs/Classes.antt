@@ -1,13 +1,15 @@
 -- The classes of components: their names, how many readers each needs, and its parameters.
 use Rattle.std.specs.Prelude.{ℕ, ℤ, pos, negsuc, nat_abs, List, [], ◌∷◌, codes, Option, Some, None}
-use Rattle.std.specs.Prelude.{if◌then◌else◌}
+use Rattle.std.specs.Prelude.{◌≡◌, true, if◌then◌else◌}
 use Rattle.std.specs.Str.{bytes_eq}
 use Rattle.cy_comp.specs.declared.kind.Kind.{Kind}
 use Rattle.cy_comp.specs.declared.kind.Kind.TheVariants as kind
+use Rattle.cy_comp.specs.Kind.{is_kind_in_range}
 use Rattle.cy_dag.specs.declared.class.Class.{Class}
 use Rattle.cy_dag.specs.declared.class.Class.TheVariants.{Pass, Filter, Sum, Count, Max, Window}
 use Rattle.cy_dag.specs.declared.class.Class.TheVariants.{Change, Select, Hold, Take}
 use Rattle.cy_dag.specs.declared.class.Class.TheVariants.{External}
+use Rattle.cy_dag.specs.declared.config.Config.{Config}
 
 abbrev pub class_names : List (List ℕ × Class)
 class_names =
@@ -91,3 +93,12 @@ class_of kind.Select = Select
 class_of (kind.Hold delay) = Hold
 class_of (kind.Take n) = Take
 class_of (kind.External answers) = External
+
+-- A kind is of a class, with parameters in their ranges.
+abbrev pub IsKindOf : Class → Kind → Type 0
+IsKindOf c k = (class_of k ≡ c) × (is_kind_in_range k ≡ true)
+
+-- A component file is one of a class with this name.
+abbrev pub IsOfClass : List ℕ → Config → Type 0
+IsOfClass class_name config =
+    (class_named class_name ≡ Some (class_of config.kind)) × (is_kind_in_range config.kind ≡ true)

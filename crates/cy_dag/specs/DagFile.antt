@@ -89,6 +89,11 @@ count_of n = min n 4294967295
 abbrev pub refuse_if : Bool → DagError → Option DagError
 refuse_if holds e = if holds then Some e else None
 
+-- What is given for the least number below a bound for which something is given.
+abbrev pub first_found : {A : Type 0} → (ℕ → Option A) → ℕ → Option A
+first_found given zero = None
+first_found given (suc n) = option_or (first_found given n) (given n)
+
 -- Whether a text is empty.
 abbrev pub is_empty : List ℕ → Bool
 is_empty text = length text == 0

@@ -1,12 +1,8 @@
-pub mod private
 pub mod Classes
 pub mod ConfigFile
 pub mod DagFile
 pub mod FaultText
 pub mod Format
-pub mod Given
 pub mod Options
 pub mod Refusals
-pub mod Triggers
 pub mod Values
-pub mod Wiring

@@ -13,7 +13,7 @@ use Rattle.cy_value.specs.declared.kind.ScalarKind.{ScalarKind}
 use Rattle.cy_value.specs.declared.kind.ScalarKind.TheVariants.{Float, Double}
 use Rattle.cy_value.specs.declared.values.ChannelValue.{ChannelValue}
 use Rattle.cy_dag.specs.DagFile.{count_of, is_empty, refuse_if, text_in}
-use Rattle.cy_dag.specs.Triggers.{first_found}
+use Rattle.cy_dag.specs.DagFile.{first_found}
 use Rattle.cy_dag.specs.declared.error.DagError.{DagError}
 use Rattle.cy_dag.specs.declared.error.DagError.TheVariants.{Missing, NotKind, NotScale}
 use Rattle.cy_dag.specs.declared.error.DagError.TheVariants.{PathLength, PathNumber, TooManyValues}

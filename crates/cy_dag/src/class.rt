@@ -4,7 +4,7 @@ ghost use Rattle.cy_dag.specs.Classes.{class_named, readers_needed};
 ghost use Rattle.cy_dag.specs.ConfigFile.{kind_in, kind_refusal, parameter_rows};
 ghost use Rattle.cy_dag.specs.Options.{field_among};
 ghost use Rattle.cy_dag.specs.Refusals.{IsDue};
-ghost use Rattle.cy_dag.specs.Wiring.{IsKindOf};
+ghost use Rattle.cy_dag.specs.Classes.{IsKindOf};
 ghost use Rattle.cy_dag.specs.declared.class.Class.TheVariants.{Filter};
 
 use crate::DagError;

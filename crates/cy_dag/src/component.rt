@@ -212,8 +212,8 @@ fn repeated_channel(readers: &[DagReader]) -> Option<&str>
     None
 }
 
-// Whether one of some readers reads a channel.
-pub(crate) fn reads(readers: &[DagReader], channel: &str) -> bool
+/// Whether one of some readers reads a channel.
+pub fn reads(readers: &[DagReader], channel: &str) -> bool
     ensures { result ≡ list_any (λ r. bytes_eq r.channel channel.now) readers.now }
 {
     readers.iter().any(|r| r.channel.as_str() == channel)

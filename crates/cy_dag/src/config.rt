@@ -8,7 +8,7 @@ ghost use Rattle.cy_dag.specs.ConfigFile.{parameter_refusal, value_of, values_re
 ghost use Rattle.cy_dag.specs.DagFile.{text_in};
 ghost use Rattle.cy_dag.specs.Options.{options_in};
 ghost use Rattle.cy_dag.specs.Refusals.{IsDue};
-ghost use Rattle.cy_dag.specs.Wiring.{IsKindOf, IsOfClass};
+ghost use Rattle.cy_dag.specs.Classes.{IsKindOf, IsOfClass};
 ghost use Rattle.cy_dag.specs.declared.error.DagError.TheVariants as dag_error;
 
 use crate::DagError;

@@ -18,8 +18,8 @@ impl Model for Cycle {
 }
 
 impl Cycle {
-    // The list of these components, with no copy.
-    pub(crate) fn new(components: Vec<u32>) -> Self
+    /// The list of these components, with no copy.
+    pub fn new(components: Vec<u32>) -> Self
         ensures { result ≡ components.items }
     {
         Cycle { components }

@@ -1,15 +1,12 @@
 //! DAG files and component files: which components and timer components a run has, what they read
-//! and write, and of which class they are.
+//! and write, and of which class they are. `cy_wiring` wires them.
 //!
 //! `specs/Format` has the fields of a DAG file, `specs/DagFile` what it says and the first cause of
 //! a refusal, `specs/ConfigFile` the same of a component file, but for `specs/Options`, where each
 //! optional field is a row, and `specs/Values`, where the values of messages are. `specs/Classes`
-//! has the classes by their names, `specs/Triggers` which components write one channel or trigger
-//! one another in a circle, `specs/Given` which values of all files don't go together, and
-//! `specs/Wiring` the wiring of all. `specs/FaultText` says how a refusal is told.
+//! has the classes by their names, and `specs/FaultText` says how a refusal is told.
 #![tactic(auto)]
 
-mod channels;
 mod class;
 mod component;
 mod config;
@@ -17,19 +14,15 @@ mod cycle;
 mod dag;
 mod error;
 mod format;
-mod given;
 mod options;
-mod plan;
 mod read;
 mod timer;
-mod triggers;
 mod values;
-mod wiring;
 
+pub use component::reads;
 pub use config::{Config, read_component_config};
 pub use cycle::Cycle;
 pub use dag::{Dag, DagComponent, DagReader, MOST_COMPONENTS, MOST_READERS};
 pub use error::DagError;
-pub use read::read_dag;
+pub use read::{count_of, read_dag};
 pub use values::MOST_VALUES;
-pub use wiring::wire;

@@ -104,8 +104,8 @@ fn in_modules<'a>(
     Ok(found)
 }
 
-// A count as a `u32`.
-pub(crate) fn count_of(count: usize) -> u32
+/// A count as a `u32`, and one above the greatest `u32` as that. It is for the counts of refusals.
+pub fn count_of(count: usize) -> u32
     ensures { result ≡ count_of count }
 {
     if count < 4_294_967_295 {

@@ -7,7 +7,7 @@ use Rattle.std.proofs.lemmas.List.{length-map}
 use Rattle.cy_store.specs.Files.{Files}
 use Rattle.cy_store.specs.Reads.{Accepts, Refuses, ◌>>=◌, file_by, judged}
 use Rattle.cy_section.specs.Chunks.{messages_in}
-use Rattle.cy_dag.specs.Wiring.{plans_of}
+use Rattle.cy_wiring.specs.Wiring.{plans_of}
 use Rattle.cy_dag.specs.declared.error.DagError.{DagError}
 use Rattle.cy_msg.specs.declared.filter.Filter.{Filter}
 use Rattle.cy_reader.specs.Record.{Contents, record_of, with_section}

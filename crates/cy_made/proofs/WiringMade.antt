@@ -2,9 +2,9 @@
 -- entries are planned.
 use Rattle.std.proofs.Common.{◌≡◌, ◌≤◌, ℕ, List, [], ◌∷◌, Bool, true, false, if◌then◌else◌, None, codes, refl, arith, zip}
 use Rattle.cy_comp.specs.declared.plan.Plan.{Plan}
-use Rattle.cy_dag.specs.Given.{differs_refusal, written_refusal}
-use Rattle.cy_dag.specs.Triggers.{writers_refusal, ticks_refusal, cycle_refusal, way_back}
-use Rattle.cy_dag.specs.Wiring.{names_of, plans_of, wire_refusal}
+use Rattle.cy_wiring.specs.Given.{differs_refusal, written_refusal}
+use Rattle.cy_wiring.specs.Triggers.{writers_refusal, ticks_refusal, cycle_refusal, way_back}
+use Rattle.cy_wiring.specs.Wiring.{names_of, plans_of, wire_refusal}
 use Rattle.cy_dag.specs.declared.config.Config as dag
 use Rattle.wake_core.specs.Planned.{planned, planned_count}
 use Rattle.wake_core.specs.Run.{routes_of}

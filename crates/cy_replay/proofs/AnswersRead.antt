@@ -11,7 +11,7 @@ use Rattle.cy_comp.specs.Kind.{is_kind_in_range}
 use Rattle.cy_comp.specs.declared.kind.Kind.{Kind}
 use Rattle.cy_comp.specs.declared.kind.Kind.TheVariants as kind
 use Rattle.cy_dag.specs.Classes.{class_of}
-use Rattle.cy_dag.specs.Wiring.{IsOfClass}
+use Rattle.cy_dag.specs.Classes.{IsOfClass}
 use Rattle.cy_dag.specs.declared.class.Class.TheVariants.{External}
 use Rattle.cy_dag.specs.declared.config.Config.{Config}
 use Rattle.cy_dag.specs.declared.dag.DagComponent.{DagComponent}

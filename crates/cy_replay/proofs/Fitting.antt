@@ -3,7 +3,8 @@ use Rattle.std.proofs.Common.{ℕ, ◌+◌, ◌≡◌, ◌≤◌, ◌<◌, ◌�
 use Rattle.std.proofs.lemmas.List.{take_more, take_all, length_push}
 use Rattle.std.proofs.lemmas.Option.{slice_get_within}
 use Rattle.cy_msg.proofs.OnceSteps.{slice_get-push_cases}
-use Rattle.cy_dag.specs.Wiring.{AreConfigs, IsOfClass}
+use Rattle.cy_wiring.specs.Wiring.{AreConfigs}
+use Rattle.cy_dag.specs.Classes.{IsOfClass}
 use Rattle.cy_dag.specs.declared.config.Config.{Config}
 use Rattle.cy_dag.specs.declared.dag.DagComponent.{DagComponent}
 

@@ -3,7 +3,7 @@ use Rattle.std.proofs.Common.{ℕ, zero, suc, ◌≡◌, ◌≤◌, ◌==◌, fa
 use Rattle.std.proofs.lemmas.Bool.Decides.{nat_tests}
 use Rattle.std.proofs.lemmas.Option.{same_Some, none-some}
 use Rattle.cy_dag.specs.DagFile.{components_refusal, HaveQueues, HaveTicks}
-use Rattle.cy_dag.specs.Wiring.{AreConfigs}
+use Rattle.cy_wiring.specs.Wiring.{AreConfigs}
 use Rattle.cy_dag.specs.declared.dag.DagComponent.{DagComponent}
 use Rattle.cy_dag.specs.declared.dag.DagReader.{DagReader}
 use Rattle.cy_replay.specs.Passing.{pass_component, pass_config}

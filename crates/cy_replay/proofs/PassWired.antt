@@ -4,10 +4,10 @@ use Rattle.std.specs.Option.{option_or}
 use Rattle.std.specs.Str.{bytes_eq}
 use Rattle.std.proofs.lemmas.Slice.Eq.{bytes_eq-Decides}
 use Rattle.cy_store.specs.Reads.{Reads, Accepts, Refuses}
-use Rattle.cy_dag.specs.Given.{differs_refusal, written_refusal}
+use Rattle.cy_wiring.specs.Given.{differs_refusal, written_refusal}
 use Rattle.cy_dag.specs.DagFile.{count_of, refuse_if}
-use Rattle.cy_dag.specs.Triggers.{writers_refusal, ticks_refusal, cycle_refusal, way_back, writer_named}
-use Rattle.cy_dag.specs.Wiring.{named, wire_refusal, channels_refusal}
+use Rattle.cy_wiring.specs.Triggers.{writers_refusal, ticks_refusal, cycle_refusal, way_back, writer_named}
+use Rattle.cy_wiring.specs.Wiring.{named, wire_refusal, channels_refusal}
 use Rattle.cy_dag.specs.declared.error.DagError.{DagError}
 use Rattle.cy_dag.specs.declared.error.DagError.TheVariants.{TooManyChannels}
 use Rattle.cy_replay.specs.declared.error.Fault.TheVariants as fault

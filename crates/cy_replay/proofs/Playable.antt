@@ -21,10 +21,10 @@ use Rattle.cy_comp.specs.declared.plan.Plan.{Plan}
 use Rattle.cy_comp.specs.Options.{options_with}
 use Rattle.cy_comp.specs.Wiring.{IsWiring}
 use Rattle.cy_sched.specs.Placing.{numbers_below}
-use Rattle.cy_dag.specs.Wiring.{plans_of, named}
+use Rattle.cy_wiring.specs.Wiring.{plans_of, named}
 use Rattle.cy_dag.specs.declared.config.Config.{Config}
 use Rattle.cy_dag.specs.declared.dag.DagComponent.{DagComponent}
-use Rattle.cy_dag.proofs.NameSteps.{has_contains, contains_has, behind_has}
+use Rattle.cy_wiring.proofs.NameSteps.{has_contains, contains_has, behind_has}
 use Rattle.cy_msg.specs.Request.{StopAt}
 use Rattle.cy_reader.specs.declared.known.Known.{Known}
 use Rattle.cy_reader.specs.Record.{Contents, named_only}

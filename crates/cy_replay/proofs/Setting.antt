@@ -16,7 +16,7 @@ use Rattle.cy_msg.specs.declared.play_list.PlayList.{PlayList}
 use Rattle.cy_comp.specs.declared.wiring.Wiring.{Wiring}
 use Rattle.cy_sched.specs.Placing.{IsPlaced, numbers_below}
 use Rattle.cy_section.specs.declared.types.Channel.{Channel}
-use Rattle.cy_dag.specs.Wiring.{names_of, plans_of, wire_refusal, channels_of as mentioned}
+use Rattle.cy_wiring.specs.Wiring.{names_of, plans_of, wire_refusal, channels_of as mentioned}
 use Rattle.std.specs.List.{flat_map}
 use Rattle.cy_dag.specs.declared.config.Config.{Config}
 use Rattle.cy_dag.specs.declared.dag.DagComponent.{DagComponent}

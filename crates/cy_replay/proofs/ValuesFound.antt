@@ -9,12 +9,13 @@ use Rattle.cy_comp.specs.declared.answers.Answer.{Answer}
 use Rattle.cy_comp.specs.declared.kind.Kind.{Kind}
 use Rattle.cy_comp.specs.declared.kind.Kind.TheVariants as kind
 use Rattle.cy_dag.specs.Classes.{class_named, class_of}
-use Rattle.cy_dag.specs.Wiring.{AreConfigs, IsOfClass}
+use Rattle.cy_wiring.specs.Wiring.{AreConfigs}
+use Rattle.cy_dag.specs.Classes.{IsOfClass}
 use Rattle.cy_dag.specs.declared.config.Config.{Config}
 use Rattle.cy_dag.specs.declared.dag.DagComponent.{DagComponent}
 use Rattle.cy_value.specs.declared.form.ValueForm.{ValueForm}
 use Rattle.cy_value.specs.declared.values.ChannelValue.{ChannelValue}
-use Rattle.cy_dag.specs.Given.{values_of}
+use Rattle.cy_wiring.specs.Given.{values_of}
 use Rattle.cy_replay.specs.Values.{valued_config, valued_configs, valued_kind}
 
 -- those of one item more

@@ -5,7 +5,7 @@ use Rattle.cy_comp.specs.declared.plan.Plan.{Plan}
 use Rattle.cy_comp.specs.declared.wiring.Wiring.{Wiring}
 use Rattle.cy_store.specs.Reads.{Reads, Accepts, Refuses}
 use Rattle.cy_dag.specs.Refusals.{IsDue}
-use Rattle.cy_dag.specs.Wiring.{IsWired, plans_of, wire_refusal}
+use Rattle.cy_wiring.specs.Wiring.{IsWired, plans_of, wire_refusal}
 use Rattle.cy_dag.specs.declared.config.Config.{Config}
 use Rattle.cy_dag.specs.declared.error.DagError.{DagError}
 use Rattle.cy_replay.specs.declared.error.Fault.{Fault}

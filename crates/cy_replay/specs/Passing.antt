@@ -6,7 +6,7 @@ use Rattle.cy_fuse.specs.declared.overflow.Overflow.TheVariants.{Newest}
 use Rattle.cy_comp.specs.declared.kind.Kind.TheVariants.{Pass}
 use Rattle.cy_comp.specs.Options.{options_with}
 use Rattle.cy_dag.specs.DagFile.{count_of}
-use Rattle.cy_dag.specs.Wiring.{named, number_in}
+use Rattle.cy_wiring.specs.Wiring.{named, number_in}
 use Rattle.cy_dag.specs.declared.config.Config.{Config}
 use Rattle.cy_dag.specs.declared.dag.DagComponent.{DagComponent}
 use Rattle.cy_dag.specs.declared.error.DagError.TheVariants.{TooManyChannels}

@@ -5,7 +5,7 @@ use Rattle.cy_answers.specs.Valued.{valued}
 use Rattle.cy_comp.specs.declared.kind.Kind.{Kind}
 use Rattle.cy_comp.specs.declared.kind.Kind.TheVariants.{External}
 use Rattle.cy_comp.specs.declared.plan.Plan.{Plan}
-use Rattle.cy_dag.specs.Given.{values_of}
+use Rattle.cy_wiring.specs.Given.{values_of}
 use Rattle.cy_dag.specs.declared.config.Config.{Config}
 use Rattle.cy_value.specs.Values.{form_of}
 use Rattle.cy_value.specs.declared.form.ValueForm.{ValueForm}

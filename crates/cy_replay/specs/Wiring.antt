@@ -4,7 +4,7 @@ use Rattle.std.specs.List.{zip}
 use Rattle.cy_store.specs.Reads.{Reads}
 use Rattle.cy_comp.specs.declared.plan.Plan.{Plan}
 use Rattle.cy_comp.specs.declared.wiring.Wiring.{Wiring}
-use Rattle.cy_dag.specs.Wiring.{wire_refusal, names_of, plans_of}
+use Rattle.cy_wiring.specs.Wiring.{wire_refusal, names_of, plans_of}
 use Rattle.cy_replay.specs.declared.error.Fault.TheVariants as fault
 use Rattle.cy_replay.specs.declared.error.Refusal.{Refusal}
 use Rattle.cy_replay.specs.declared.error.SetupError.{SetupError}

@@ -4,7 +4,7 @@ ghost use Rattle.std.specs.Prelude.{IsSome, List, ℕ};
 ghost use Rattle.cy_answers.specs.Answers.{IsDue, answers_refusal, messages_on};
 ghost use Rattle.cy_comp.specs.Kind.{is_kind_in_range};
 ghost use Rattle.cy_comp.specs.declared.kind.Kind.TheVariants.{External};
-ghost use Rattle.cy_dag.specs.Wiring.{IsOfClass};
+ghost use Rattle.cy_dag.specs.Classes.{IsOfClass};
 ghost use Rattle.cy_replay.specs.Comes.{ComesTo};
 ghost use Rattle.cy_replay.specs.AnswersFile.{answered_in, answers_file, channel_in, type_or};
 ghost use Rattle.cy_replay.specs.AnswersFile.{with_answers};

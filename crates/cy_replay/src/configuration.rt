@@ -1,5 +1,5 @@
 // What the configuration files of a replay say.
-ghost use Rattle.cy_dag.specs.Wiring.{AreConfigs};
+ghost use Rattle.cy_wiring.specs.Wiring.{AreConfigs};
 
 use cy_dag::{Config, Dag};
 use cy_msg::Items;

@@ -3,7 +3,8 @@ ghost use Rattle.std.specs.Prelude.{◌≡◌, ◌≤◌, ◌<◌, Some, length,
 ghost use Rattle.cy_replay.specs.Comes.{ComesTo};
 ghost use Rattle.cy_replay.specs.Configuration.{dag_in, config_in, configs_in, said_in, sched_in};
 ghost use Rattle.cy_replay.specs.Configuration.{configuration_in, IsAsked, IsAskedFor, IsAskedOf};
-ghost use Rattle.cy_dag.specs.Wiring.{AreConfigs, IsOfClass};
+ghost use Rattle.cy_wiring.specs.Wiring.{AreConfigs};
+ghost use Rattle.cy_dag.specs.Classes.{IsOfClass};
 ghost use Rattle.cy_sched.specs.SchedFile.{IsPlaceable, default_sched};
 ghost use Rattle.cy_replay.specs.Steps.{dag_says, configured, scheduled_in};
 ghost use Rattle.cy_replay.specs.Values.{valued_configs};

@@ -1,7 +1,7 @@
 // The values of a play's channels, and answers by them.
 ghost use Rattle.std.specs.Prelude.{◌≡◌, ◌++◌, option_map, IfOk, IfErr, OnOk, IsOkUnless};
 ghost use Rattle.cy_replay.specs.Values.{valued_config, valued_configs, valued_kind};
-ghost use Rattle.cy_dag.specs.Given.{values_of};
+ghost use Rattle.cy_wiring.specs.Given.{values_of};
 ghost use Rattle.cy_replay.specs.Values.{values_in};
 
 use cy_answers::value_answers;

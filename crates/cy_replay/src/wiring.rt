@@ -10,9 +10,10 @@ ghost use Rattle.cy_replay.specs.Wiring.{IsWiredBy, wiring_in};
 use crate::error::dag_fault;
 use crate::{Configuration, SetupError};
 use cy_comp::Wiring;
-use cy_dag::{DagComponent, wire};
+use cy_dag::DagComponent;
 use cy_msg::{NamesError, Placement, Text};
 use cy_sched::place;
+use cy_wiring::wire;
 use std::alloc::Global;
 
 /// The wiring of a configuration's components over the channels of a record, or why there is none:

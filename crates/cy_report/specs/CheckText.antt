@@ -11,7 +11,7 @@ use Rattle.cy_comp.specs.declared.kind.Kind.{Kind}
 use Rattle.cy_comp.specs.declared.kind.Kind.TheVariants.{External}
 use Rattle.cy_value.specs.Names.{kind_name}
 use Rattle.cy_value.specs.declared.values.ChannelValue.{ChannelValue}
-use Rattle.cy_dag.specs.Wiring.{queue_of_first}
+use Rattle.cy_wiring.specs.Wiring.{queue_of_first}
 use Rattle.cy_dag.specs.declared.config.Config.{Config}
 use Rattle.cy_dag.specs.declared.dag.DagComponent.{DagComponent}
 

@@ -8,7 +8,7 @@ ghost use Rattle.cy_report.specs.CheckText.{context_head, context_line, context_
 ghost use Rattle.cy_report.specs.CheckText.{interval_text, line_by, lines_of, order_text};
 ghost use Rattle.cy_report.specs.CheckText.{overflow_text, path_text, spaced, timer_line};
 ghost use Rattle.cy_report.specs.CheckText.{unknown_lines, value_line};
-ghost use Rattle.cy_dag.specs.Wiring.{queue_of_first};
+ghost use Rattle.cy_wiring.specs.Wiring.{queue_of_first};
 
 use cy_comp::Kind;
 use cy_dag::{Config, DagComponent, DagReader};

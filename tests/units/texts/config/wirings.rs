@@ -2,9 +2,10 @@
 use super::dags::{dag, refusal};
 use super::texts::tree;
 use cy_comp::Wiring;
-use cy_dag::{Config, Dag, read_component_config, read_dag, wire};
+use cy_dag::{Config, Dag, read_component_config, read_dag};
 use cy_fuse::Overflow;
 use cy_msg::Text;
+use cy_wiring::wire;
 use std::test::Fail;
 
 // The component files of a DAG, by their texts.

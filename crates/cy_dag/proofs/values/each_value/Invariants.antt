@@ -1,5 +1,5 @@
 use Rattle.std.proofs.Common.{◌≡◌, None, map, take}
-use Rattle.cy_dag.specs.Triggers.{first_found}
+use Rattle.cy_dag.specs.DagFile.{first_found}
 use Rattle.cy_dag.specs.Values.{channel_value, refusal_at}
 use Rattle.cy_dag.proofs.values.each_value.Given as goal
 

@@ -1,5 +1,5 @@
 use Rattle.std.proofs.Common.{take}
-use Rattle.cy_dag.specs.Wiring.{AreConfigs}
+use Rattle.cy_wiring.specs.Wiring.{AreConfigs}
 use Rattle.cy_replay.proofs.Configs.{AreRead}
 use Rattle.cy_replay.proofs.read.read_configs.Given as goal
 

@@ -1,7 +1,7 @@
 use Rattle.std.proofs.Common.{List, ap, sym, ◌∙◌}
 use Rattle.std.specs.Vec.Iter.{into_iter_items}
 use Rattle.cy_value.specs.declared.values.ChannelValue.{ChannelValue}
-use Rattle.cy_dag.specs.Given.{values_of}
+use Rattle.cy_wiring.specs.Given.{values_of}
 use Rattle.cy_replay.specs.Values.{valued_config}
 use Rattle.cy_replay.proofs.ValuesFound.{first_valued, next_valued, all_valued}
 use Rattle.cy_replay.proofs.values.valued_configs.Goals as goal

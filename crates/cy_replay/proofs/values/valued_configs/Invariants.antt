@@ -1,6 +1,6 @@
 use Rattle.std.specs.Vec.Iter.{into_iter_items}
 use Rattle.cy_replay.proofs.ValuesFound.{AreValued}
-use Rattle.cy_dag.specs.Given.{values_of}
+use Rattle.cy_wiring.specs.Given.{values_of}
 use Rattle.cy_replay.proofs.values.valued_configs.Given as goal
 
 abbrev pub invariant-loop-config : goal.invariant-loop-config

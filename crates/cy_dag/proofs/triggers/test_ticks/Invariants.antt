@@ -1,6 +1,0 @@
-use Rattle.std.proofs.Common.{◌≡◌, None}
-use Rattle.cy_dag.specs.Triggers.{first_found, ticks_at}
-use Rattle.cy_dag.proofs.triggers.test_ticks.Given as goal
-
-abbrev pub invariant-loop-component : goal.invariant-loop-component
-invariant-loop-component l = first_found (ticks_at l.components l.configs) l.component ≡ None

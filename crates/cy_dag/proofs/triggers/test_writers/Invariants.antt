@@ -1,6 +1,0 @@
-use Rattle.std.proofs.Common.{◌≡◌, None}
-use Rattle.cy_dag.specs.Triggers.{first_found, writers_at}
-use Rattle.cy_dag.proofs.triggers.test_writers.Given as goal
-
-abbrev pub invariant-loop-second : goal.invariant-loop-second
-invariant-loop-second l = first_found (writers_at l.configs) l.second ≡ None

@@ -1,0 +1,4 @@
+pub mod private
+pub mod Given
+pub mod Triggers
+pub mod Wiring
