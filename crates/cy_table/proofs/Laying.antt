@@ -299,9 +299,9 @@ are_roomy p fit = record { tape = fit.roomy.messages; calls = fit.roomy.calls; a
 no_way : (w : Plain) → Way w w
 no_way w = record { at = λ k. w; steps = 0; starts = refl; ends = refl; each = λ k less. absurd (omega (arith, less)) }
 
-none_noted : (w : Plain) (v : Seat) → v.note ≡ [] → (j : ℕ) (u : Sight) → get_elem? (first_sight v ∷ []) j ≡ some u → IsMarked (no_way w) u
-none_noted w v e zero u at = subst (λ (y : Sight). IsMarked (no_way w) y) (some-injective (first_sight v) u at)
-    record { last = omega arith; own = record { rising = omega arith; so = subst (λ l. AreSo (no_way w).at l []) (sym e) tt }; others = tt }
+none_noted : (w : Plain) (v : Seat) → v.note ≡ [] → (j : ℕ) (u : Sight) → get_elem? (first_sight v ∷ []) j ≡ some u → IsMarked (no_way w) j u
+none_noted w v e zero u at = subst (λ (y : Sight). IsMarked (no_way w) 0 y) (some-injective (first_sight v) u at)
+    record { last = omega arith; own = record { rising = omega arith; so = subst (λ l. AreSo (no_way w).at l []) (sym e) tt; ordered = omega arith; done = tt }; others = tt }
 none_noted w v e (suc j) u at = absurd (some-ne-none u (sym at))
 
 -- A table of these words and slots meets its rule.

@@ -5,6 +5,7 @@ use Rattle.cy_fuse.specs.Visitor.{VisitorView}
 use Rattle.cy_comp.specs.Routine.{RoutineView}
 use Rattle.cy_table.specs.declared.part.Part.{Part}
 use Rattle.cy_table.specs.declared.part.Part.TheVariants as part
+use Rattle.cy_table.specs.Deeds.{Deed}
 use Rattle.cy_table.specs.Seats.{Seat, Sight, TapeView}
 use Rattle.cy_table.specs.Plays.{Thread}
 use Rattle.cy_table.specs.Sights.{thread_in, Since}
@@ -39,6 +40,6 @@ pub put_back : (m k : Me Part Sight) (slot : ℕ) (y z x : Part) (more : List (�
 put_back m k slot y z x more out front after =
     (ap (part_or part.Away) (sym out ∙ front), ap thread_in after ∙ (λ i. (m.0.seat, (slot, x) ∷ rest (out i))))
 
--- It leaves what the thread noted.
-pub since_exchange : (v : Sight) (n k : Me Part Sight) (out : List (ℕ × Part)) → Since v n.0 → k ≡ (n.0, out) → Since v k.0
-since_exchange v n k out since is = subst (λ (m : Me Part Sight). Since v m.0) (sym is) since
+-- It leaves what the thread noted and did.
+pub since_exchange : (ds : List Deed) (v : Sight) (n k : Me Part Sight) (out : List (ℕ × Part)) → Since ds v n.0 → k ≡ (n.0, out) → Since ds v k.0
+since_exchange ds v n k out since is = subst (λ (m : Me Part Sight). Since ds v m.0) (sym is) since

@@ -52,7 +52,7 @@ pub record Ends (made : Plain) (v : Sight) (words : List ℕ) (slots : List Part
   pub planned : world.counts ≡ made.counts
   pub given : world.stop ≡ made.stop
   pub way : Way made world
-  pub noted : IsMarked way v
+  pub noted : IsMarked way 0 v
   pub sound : Sound world
   pub idle : (p : ℕ) → IsIdle p world
   pub fixed : IsFixed world.routes world.counts

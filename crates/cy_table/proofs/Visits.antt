@@ -12,27 +12,27 @@ use Rattle.wake_core.specs.declared.route.Route.{Route}
 use Rattle.wake_core.specs.declared.phase.Phase.TheVariants.{Asked}
 use Rattle.wake_core.specs.Plain.{Plain}
 use Rattle.wake_core.specs.Events.{next_call, after_fetch}
-use Rattle.wake_core.specs.Laws.Event.{fetch, fill}
 use Rattle.cy_table.specs.declared.part.Part.{Part}
 use Rattle.cy_table.specs.declared.part.Part.TheVariants as part
 use Rattle.cy_table.specs.Seats.{Seat, Grip, Visit}
 use Rattle.cy_table.specs.Seats.Entry.{Saw}
+use Rattle.cy_table.specs.Deeds as deed
 use Rattle.cy_table.specs.Shown.{Rooms, roles_at, queue_at, overflow_at, visitor_at}
 use Rattle.cy_table.specs.Rule.{IsVisitorOf}
 use Rattle.cy_table.specs.Steps.{Sits, visiting, filling, called, fetching}
 use Rattle.cy_table.specs.Laws.{VisitorDoorSwaps, FillStores, FetchStores, RoomsLeft}
-use Rattle.cy_table.specs.Plays.{Thread, in_hand, VisitTells, visited, first_fill, later_fills, filled, finding, fetched}
+use Rattle.cy_table.specs.Plays.{Thread, in_hand, VisitTells, visited, first_fill, later_fills, filled, finding, fetched, no_deed, fill_deed, fetch_deed}
 use Rattle.cy_table.proofs.Places.{place}
 use Rattle.cy_table.proofs.Holding.{croutine_known, routine_known}
 use Rattle.cy_table.proofs.Doors.{visitor_known}
-use Rattle.cy_table.proofs.Marking.{Plays}
+use Rattle.cy_table.proofs.Marking.{leaves_as, Plays}
 use Rattle.cy_table.proofs.Allowing.{moved_then, still_then, noting_then}
 
 room_left : (x room have : ℕ) → x ≡ room - have → have < room → 1 ≤ x
 room_left x room have e less = omega (arith, e, less)
 
 pub visits : VisitorDoorSwaps → RoomsLeft → (made : Plain) (slots id c : ℕ) (m : Thread) → m.0.live ≢ 0 → m.0.visit ≡ None → c < length made.routes
-    → Plays made slots id m (4 * c + 7) (λ _. 1) (visited (step slots (4 * c + 7) 1 0 none) m)
+    → Plays made slots id m (4 * c + 7) (λ _. 1) (visited (step slots (4 * c + 7) 1 0 none) m) (no_deed (step slots (4 * c + 7) 1 0 none) m)
 visits law rooms made slots id c m live bare less = record {
   each = λ s k deep at bound.
       let inside : c < length k.world.routes = subst (λ (l : List Route). c < length l) (sym k.components) less in
@@ -48,7 +48,7 @@ visits law rooms made slots id c m live bare less = record {
               visiting m.0 c a.0,
               takes (2 * c + 2) (part.Visitor a.0),
               a.1,
-              still_then k m.0 (visiting m.0 c a.0) a.3 refl,
+              still_then k id m.0 (visiting m.0 c a.0) a.3 refl,
               tell (slice_index s.words (4 * c + 7)) (visiting m.0 c a.0, (2 * c + 2, part.Visitor a.0) ∷ m.1) record {
                 open_door = λ z. (a.0, refl, queue, roles, overflow, λ j later e. room_left a.0.spare (k.rooms.arrivals c) (length (k.world.arrivals c)) spare (rooms.fill k.rooms k.world s id m.0 c j later sits e inside));
                 shut_door = λ ne. absurd (ne free);
@@ -58,7 +58,7 @@ visits law rooms made slots id c m live bare less = record {
           m.0,
           keeps,
           tt,
-          still_then k m.0 m.0 (law.shut_door k.rooms k.world s id c m.0 m.1 sits inside shut) refl,
+          still_then k id m.0 m.0 (law.shut_door k.rooms k.world s id c m.0 m.1 sits inside shut) refl,
           tell (slice_index s.words (4 * c + 7)) m record { open_door = λ z. absurd (shut z); shut_door = λ ne. refl },
         )
       ];
@@ -66,8 +66,8 @@ visits law rooms made slots id c m live bare less = record {
 
 pub fills : FillStores → (made : Plain) (slots id c j : ℕ) (x : VisitorView) (v : Seat) (more : List (ℕ × Part)) (m : Thread) → v.live ≢ 0 → v.fills ≡ (c, j) ∷ later_fills v.fills → c < length made.routes
     → m ≡ (visiting v c x, (2 * c + 2, part.Visitor (arrived x j v.token)) ∷ more)
-    → Plays made slots id m (4 * c + 7) (λ _. 0) (λ _. filled (step slots (4 * c + 7) 0 0 none) m 0)
-fills law made slots id c j x v more m live owes less is = subst (λ z. Plays made slots id z (4 * c + 7) (λ _. 0) (λ _. filled (step slots (4 * c + 7) 0 0 none) z 0)) (sym is)
+    → Plays made slots id m (4 * c + 7) (λ _. 0) (λ _. filled (step slots (4 * c + 7) 0 0 none) m 0) (λ _. fill_deed (step slots (4 * c + 7) 0 0 none) m 0)
+fills law made slots id c j x v more m live owes less is = subst (λ z. Plays made slots id z (4 * c + 7) (λ _. 0) (λ _. filled (step slots (4 * c + 7) 0 0 none) z 0) (λ _. fill_deed (step slots (4 * c + 7) 0 0 none) z 0)) (sym is)
     record {
       each = λ s k deep at bound.
           let u = visiting v c x in
@@ -77,7 +77,7 @@ fills law made slots id c j x v more m live owes less is = subst (λ z. Plays ma
             filling u c j (later_fills v.fills),
             gives,
             tt,
-            moved_then k u (filling u c j (later_fills v.fills)) (λ w u e. fill e) (law.fill k.rooms k.world s id u a j (later_fills v.fills) more sits refl owes inside) refl,
+            leaves_as (ap (λ (l : List (ℕ × ℕ)). deed.Fill (first_fill l).0 (first_fill l).1 ∷ []) (sym owes)) (moved_then k id u (filling u c j (later_fills v.fills)) (deed.Fill c j) (law.fill k.rooms k.world s id u a j (later_fills v.fills) more sits refl owes inside) refl),
             ap (λ (l : List (ℕ × ℕ)). let n : Thread = (filling u (first_fill l).0 (first_fill l).1 (later_fills l), more) in n) (sym owes),
           );
     }
@@ -103,8 +103,8 @@ arrivals_kept p c (Some call) w = refl
 
 pub fetches : FetchStores → RoomsLeft → (made : Plain) (slots id c : ℕ) (x : VisitorView) (v : Seat) (more : List (ℕ × Part)) (m : Thread) → v.live ≢ 0 → v.hand ≡ Some (in_hand v) → (in_hand v).croutine ≡ c
     → (in_hand v).phase ≡ Asked → c < length made.routes → m ≡ (visiting v c x, (2 * c + 2, part.Visitor x) ∷ more)
-    → Plays made slots id m (4 * c + 7) (λ _. 0) (λ _. fetched (step slots (4 * c + 7) 0 0 none) m 0)
-fetches law rooms made slots id c x v more m live has same asked less is = subst (λ z. Plays made slots id z (4 * c + 7) (λ _. 0) (λ _. fetched (step slots (4 * c + 7) 0 0 none) z 0)) (sym is)
+    → Plays made slots id m (4 * c + 7) (λ _. 0) (λ _. fetched (step slots (4 * c + 7) 0 0 none) m 0) (λ _. fetch_deed (step slots (4 * c + 7) 0 0 none) m 0)
+fetches law rooms made slots id c x v more m live has same asked less is = subst (λ z. Plays made slots id z (4 * c + 7) (λ _. 0) (λ _. fetched (step slots (4 * c + 7) 0 0 none) z 0) (λ _. fetch_deed (step slots (4 * c + 7) 0 0 none) z 0)) (sym is)
     record {
       each = λ s k deep at bound.
           let u = visiting v c x in
@@ -126,7 +126,7 @@ fetches law rooms made slots id c x v more m live has same asked less is = subst
             fetching u g x (finding u),
             gives,
             tt,
-            noting_then k u (fetching u g x (finding u)) (λ w u e. fetch e) b (Saw g.croutine x) refl saw,
+            noting_then k id u (fetching u g x (finding u)) (deed.Fetch g.croutine) b (Saw g.croutine x) refl saw,
             record { thread = refl; fits = λ f e. (fits f e).0; few = few_then g (finding u) calls (λ f e. (fits f e).1) },
           );
     }

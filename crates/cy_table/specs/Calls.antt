@@ -1,7 +1,7 @@
 -- What each call of the table needs of the thread's pass, and what it leaves.
 use Rattle.std.specs.Prelude.{Bool, true, false, ◌&&◌, not, if◌then◌else◌}
 use Rattle.std.specs.Prelude.{ℕ, ◌≡◌, ◌≢◌, ◌≤◌, ◌<◌, ◌↔◌, List, [], ◌∷◌, length, Option, Some, None}
-use Rattle.std.specs.Prelude.{IsNone, option_map}
+use Rattle.std.specs.Prelude.{IsNone, option_map, Result, Ok, Err}
 use Rattle.cy_msg.specs.declared.token.Token.{Token}
 use Rattle.cy_msg.specs.declared.token.Tuple.{Tuple}
 use Rattle.cy_comp.specs.Calls.{cursor_after, outs, output}
@@ -11,16 +11,18 @@ use Rattle.cy_fuse.specs.Visitor.{VisitorView, tuples_at, visited}
 use Rattle.wake_core.specs.Plain.{Plain}
 use Rattle.wake_core.specs.WorldOf.{plain_of}
 use Rattle.wake_core.specs.declared.phase.Phase.TheVariants.{Fresh, Asked}
-use Rattle.wake_core.specs.Events.{is_waiting}
+use Rattle.wake_core.specs.Events.{is_waiting, is_ready}
 use Rattle.wake_core.specs.Turns.{is_due}
 use Rattle.cy_table.specs.declared.part.Part.TheVariants as part
 use Rattle.cy_table.specs.declared.pass.Pass.{Pass}
+use Rattle.cy_table.specs.declared.pass.Busy.{Busy}
 use Rattle.cy_table.specs.declared.hold.Found.{Found}
 use Rattle.cy_table.specs.declared.hold.Hold.{Hold}
 use Rattle.cy_table.specs.declared.table.FlagTable.{FlagTable}
 use Rattle.cy_table.specs.Layout.{routine_slot, visitor_slot, tape_slot}
-use Rattle.cy_table.specs.Seats.{Seat, Sight, TapeView}
-use Rattle.cy_table.specs.Seats.{IsEmpty}
+use Rattle.cy_table.specs.Deeds.{Deed}
+use Rattle.cy_table.specs.Seats.{Seat, Sight, TapeView, IsEmpty}
+use Rattle.cy_table.specs.Deeds as deed
 use Rattle.cy_table.specs.Shown.{roles_at, queue_at, overflow_at}
 use Rattle.cy_comp.specs.declared.state.State.{State}
 use Rattle.cy_table.specs.Steps.{visiting, entering, fetching, MayTape, MaySend, sending, out_at}
@@ -81,10 +83,11 @@ pub record Stays (t : FlagTable) (p q : Pass) : Type 0 where
   pub at : IsAt t q
   pub number : pass_number q ≡ pass_number p
 
--- What a call noted, in order: each entry has a number above that of the last step of the pass
--- before the call, and the rule of the table says that it was so on a way at that number.
-abbrev pub NotedSince : (p q : Pass) → Type 0
-NotedSince p q = Since (sight_of p) (sight_of q)
+-- What a call noted, in order, and which events it made: each entry and each event has a number
+-- above that of the last step of the pass before the call. The rule of the table says that an entry
+-- was so on a way at its number, and that an event is the step of its number there.
+abbrev pub NotedSince : List Deed → (p q : Pass) → Type 0
+NotedSince deeds p q = Since deeds (sight_of p) (sight_of q)
 
 -- The component in hand was stepped on each tuple that a fetch gave.
 abbrev pub IsStepped : Hold → Type 0
@@ -121,6 +124,10 @@ pub record Acquired (t : FlagTable) (p : Pass) (c : ℕ) (q : Pass) (h : Hold) :
   pub holds : Holds t q h
   pub stepped : IsStepped h
   pub seen : HasSeen c (routine_of h).calls (seat_of p).seen
+
+abbrev pub acquire_deeds : (c : ℕ) → Result Hold Busy → List Deed
+acquire_deeds c (Ok h) = deed.Acquire c ∷ []
+acquire_deeds c (Err busy) = []
 
 pub record FoundHeld (p : Pass) (c : ℕ) (q : Pass) : Type 0 where
   pub seat : seat_of q ≡ failing (seat_of p) c
@@ -178,6 +185,10 @@ pub record CanLook (t : FlagTable) (p : Pass) (c : ℕ) : Type 0 where
 abbrev pub after_look : Seat → Seat
 after_look v = record v { news = but_first v.news }
 
+-- The event Look, and Clear where the component was found to wait for a message.
+abbrev pub look_deeds : (c : ℕ) → (waits : Bool) → List Deed
+look_deeds c waits = deed.Look c ∷ (if waits then deed.Clear c ∷ [] else [])
+
 -- The player's pass, and a pass with nothing in hand and nothing owed that is joined into it.
 pub record IsPlayer (t : FlagTable) (p : Pass) : Type 0 where
   pub at : IsAt t p
@@ -224,6 +235,16 @@ ready_if woken v = if woken then readying v (in_hand v) else v
 abbrev pub after_spend : Seat → (was_spent : Bool) → Seat
 after_spend v was_spent =
     ready_if (is_waiting (state_of v) && not was_spent) (spending v (in_hand v) was_spent)
+
+-- The events of an update: Ready of one that is due; else Spend, and Ready where that woke the
+-- croutine. It did where the croutine waited and is READY then.
+abbrev pub spend_deeds : (c : ℕ) → (clock : ℕ) → (woken : Bool) → List Deed
+spend_deeds c clock woken = deed.Spend c clock ∷ (if woken then deed.Ready c ∷ [] else [])
+
+abbrev pub update_deeds : (c : ℕ) → (before : State) → (clock : ℕ) → (after : State) → List Deed
+update_deeds c before clock after =
+    if is_due before clock then deed.Ready c ∷ []
+    else spend_deeds c clock (is_waiting before && is_ready after)
 
 pub record Updated (v : Seat) (state : State) (u : Seat) : Type 0 where
   pub later : v.clock ≤ u.clock

@@ -1,5 +1,6 @@
 pub mod private
 pub mod Layout
+pub mod Deeds
 pub mod Seats
 pub mod Shown
 pub mod Rule

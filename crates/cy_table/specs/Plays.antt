@@ -1,5 +1,5 @@
 -- The rule for a world that a table is made of, and what each step tells the thread that makes it:
--- its seat, and the slots that it took, after the step.
+-- its seat, and the slots that it took, after the step; and which deed the step is.
 use Rattle.std.specs.Prelude.{ℕ, ◌+◌, ◌≡◌, ◌≢◌, ◌≤◌, ◌<◌, ◌⊎◌, ◌==◌, true, List, [], ◌∷◌}
 use Rattle.std.specs.Prelude.{length, take, Option, Some, None}
 use Rattle.atomic_table.specs.Table.{State as Table, Me, Step, rest}
@@ -21,14 +21,16 @@ use Rattle.cy_table.specs.declared.part.Part.{Part}
 use Rattle.cy_table.specs.declared.part.Part.TheVariants as part
 use Rattle.cy_table.specs.Layout.{hold_word, routine_slot, visitor_door, visitor_slot}
 use Rattle.cy_table.specs.Layout.{tape_slot}
+use Rattle.cy_table.specs.Deeds.{Deed}
 use Rattle.cy_table.specs.Seats.{Seat, Sight, Seen, Grip, Visit, TapeView}
+use Rattle.cy_table.specs.Deeds as deed
 use Rattle.cy_table.specs.Shown.{roles_at, queue_at, overflow_at}
 use Rattle.cy_table.specs.Rule.{Ruled}
 use Rattle.cy_table.specs.Steps.{acquiring, failing, releasing, asking, yielding, first_seat}
 use Rattle.cy_table.specs.Steps.{visiting, filling, called, fetching, entering, MayTape, taping}
 use Rattle.cy_table.specs.Steps.{sending, readying, spending, seeing}
 use Rattle.cy_table.specs.Steps.{ticking, heeding, closing_all, looking, clearing_but, checking}
-use Rattle.cy_table.specs.Steps.{raising}
+use Rattle.cy_table.specs.Steps.{raising, next_state, phase_sent}
 
 -- The calls of the first components of a world, the last component first.
 abbrev pub calls_from : Plain → ℕ → List Seen
@@ -227,3 +229,75 @@ taped step m found n = n ≡ (taping m.0 (last_put m.1), rest m.1)
 -- .. and by the holder of a component.
 abbrev pub sent : Step Part → Thread → ℕ → Thread → Type 0
 sent step m found n = n ≡ (sending m.0 (in_hand m.0) (last_put m.1), rest m.1)
+
+-- Which deed a step is, by the thread before it and after it, and by the word that it found. The
+-- loads of the clock and of the closing word, and the swaps of doors, are none.
+abbrev pub no_deed : Step Part → Thread → ℕ → Thread → List Deed
+no_deed step m found n = []
+
+-- A swap of a hold word: that of the croutine which is in hand then, where one is.
+abbrev pub taking : Option Grip → List Deed
+taking None = []
+taking (Some g) = deed.Acquire g.croutine ∷ []
+
+abbrev pub acquire_deed : Step Part → Thread → ℕ → Thread → List Deed
+acquire_deed step m found n = taking n.0.hand
+
+-- Of the croutine in hand ..
+abbrev pub release_deed : Step Part → Thread → ℕ → Thread → List Deed
+release_deed step m found n = deed.Release (in_hand m.0).croutine ∷ []
+
+abbrev pub ask_deed : Step Part → Thread → ℕ → Thread → List Deed
+ask_deed step m found n = deed.Ask (in_hand m.0).croutine ∷ []
+
+abbrev pub yield_deed : Step Part → Thread → ℕ → Thread → List Deed
+yield_deed step m found n =
+    deed.Yield (in_hand m.0).croutine (next_state (in_hand m.0)) ∷ []
+
+abbrev pub check_deed : Step Part → Thread → ℕ → Thread → List Deed
+check_deed step m found n = deed.Check (in_hand m.0).croutine ∷ []
+
+abbrev pub ready_deed : Step Part → Thread → ℕ → Thread → List Deed
+ready_deed step m found n = deed.Ready (in_hand m.0).croutine ∷ []
+
+abbrev pub spend_deed : Step Part → Thread → ℕ → Thread → List Deed
+spend_deed step m found n = deed.Spend (in_hand m.0).croutine m.0.clock ∷ []
+
+abbrev pub fetch_deed : Step Part → Thread → ℕ → Thread → List Deed
+fetch_deed step m found n = deed.Fetch (in_hand m.0).croutine ∷ []
+
+abbrev pub send_deed : Step Part → Thread → ℕ → Thread → List Deed
+send_deed step m found n =
+    deed.Send (in_hand m.0).croutine (phase_sent (in_hand m.0).phase) (last_put m.1) ∷ []
+
+-- .. of what the thread owes ..
+abbrev pub fill_deed : Step Part → Thread → ℕ → Thread → List Deed
+fill_deed step m found n = deed.Fill (first_fill m.0.fills).0 (first_fill m.0.fills).1 ∷ []
+
+abbrev pub first_number : List ℕ → ℕ
+first_number [] = 0
+first_number (c ∷ rest) = c
+
+abbrev pub last_number : List ℕ → ℕ
+last_number [] = 0
+last_number (c ∷ []) = c
+last_number (c ∷ d ∷ rest) = last_number (d ∷ rest)
+
+abbrev pub look_deed : Step Part → Thread → ℕ → Thread → List Deed
+look_deed step m found n = deed.Look (first_number m.0.news) ∷ []
+
+abbrev pub clear_deed : Step Part → Thread → ℕ → Thread → List Deed
+clear_deed step m found n = deed.Clear (last_number m.0.clearing) ∷ []
+
+-- .. and of the player.
+abbrev pub tape_deed : Step Part → Thread → ℕ → Thread → List Deed
+tape_deed step m found n = deed.Tape (last_put m.1) ∷ []
+
+abbrev pub tick_deed : Step Part → Thread → ℕ → Thread → List Deed
+tick_deed step m found n = deed.Tick n.0.clock ∷ []
+
+abbrev pub close_deed : Step Part → Thread → ℕ → Thread → List Deed
+close_deed step m found n = deed.Close ∷ []
+
+abbrev pub stop_deed : Step Part → Thread → ℕ → Thread → List Deed
+stop_deed step m found n = deed.Stop ∷ []

@@ -1,7 +1,7 @@
 -- The rule of the table: between any two steps, the words, the values at home in the slots and the
 -- seats of all threads show one plain world. A way leads to it from the world that the table was
--- made of, by at most one event a step, and what a thread noted was so behind the step that noted
--- it.
+-- made of, by at most one event a step. What a thread noted was so behind the step that noted it,
+-- and each event that a thread made is the event of the step of its number.
 use Rattle.std.specs.Prelude.{ℕ, ◌+◌, ◌≡◌, ◌≢◌, ◌≤◌, ◌<◌, ◌⊎◌, Bool, true, List, [], ◌∷◌}
 use Rattle.std.specs.Prelude.{length, map, Option}
 use mathlib.Core.Option.{some}
@@ -17,14 +17,18 @@ use Rattle.wake_core.specs.Run.{played_of}
 use Rattle.wake_core.specs.Plain.{Plain, hand}
 use Rattle.wake_core.specs.Fields.{IsFixed}
 use Rattle.wake_core.specs.Sound.{Sound}
+use Rattle.wake_core.specs.Events.{Acquires, Spends, Readies, Checks, Asks, Fetches, Tapes, Sends}
+use Rattle.wake_core.specs.Events.{Fills, Looks, Clears, Yields, Releases, Ticks, Closes, Stops}
 use Rattle.wake_core.specs.Laws.{Event}
 use Rattle.cy_table.specs.declared.part.Part.{Part}
 use Rattle.cy_table.specs.Layout.{clock_word, closing_word, tape_door, hold_word, state_word}
 use Rattle.cy_table.specs.Layout.{flag_word, visitor_door, tape_slot, routine_slot, visitor_slot}
 use Rattle.cy_table.specs.Layout.{words_for, slots_for, state_number, yes_or_no, stop_word}
 use Rattle.cy_table.specs.Layout.{stop_number}
+use Rattle.cy_table.specs.Deeds.{Deed, Did, numbers_of}
 use Rattle.cy_table.specs.Seats.{Seat, Entry, Noted, Sight, TapeView, IsEmpty, AreSeen}
 use Rattle.cy_table.specs.Seats.{Rise, total_live}
+use Rattle.cy_table.specs.Deeds as deed
 use Rattle.cy_table.specs.Seats.Entry.{Busy, Found, Saw, Clock, Closing}
 use Rattle.cy_table.specs.Shown.{Spread, spread, routine_in, visitor_in, tape_in, routine_of}
 use Rattle.cy_table.specs.Shown.{visitor_of, hand_of, Kept, Rooms, AreRoomy, roles_at, queue_at}
@@ -110,6 +114,25 @@ IsSo w (Saw c visitor) = IsVisitorOf w c visitor
 IsSo w (Clock time) = w.clock ≡ time
 IsSo w (Closing closing) = w.closing ≡ closing
 
+-- What a thread does leads from one world to another: it is that thread's event.
+abbrev pub Makes : (id : ℕ) → Deed → Plain → Plain → Type 0
+Makes id (deed.Acquire c) w v = Acquires id c w v
+Makes id (deed.Spend c seen) w v = Spends id c seen w v
+Makes id (deed.Ready c) w v = Readies id c w v
+Makes id (deed.Check c) w v = Checks id c w v
+Makes id (deed.Ask c) w v = Asks id c w v
+Makes id (deed.Fetch c) w v = Fetches id c w v
+Makes id (deed.Tape token) w v = Tapes token w v
+Makes id (deed.Send c next token) w v = Sends id c next token w v
+Makes id (deed.Fill c role) w v = Fills id c role w v
+Makes id (deed.Look c) w v = Looks id c w v
+Makes id (deed.Clear c) w v = Clears id c w v
+Makes id (deed.Yield c state) w v = Yields id c state w v
+Makes id (deed.Release c) w v = Releases id c w v
+Makes id (deed.Tick time) w v = Ticks time w v
+Makes id deed.Close w v = Closes w v
+Makes id deed.Stop w v = Stops w v
+
 -- A way from one world to another, step by step. Each step is one event, or leaves the world as it
 -- is.
 abbrev pub Moves : Plain → Plain → Type 0
@@ -130,19 +153,38 @@ AreSo at [] (k ∷ marks) = ⊥
 AreSo at (x ∷ entries) [] = ⊥
 AreSo at (x ∷ entries) (k ∷ marks) = IsSo (at k) x × AreSo at entries marks
 
--- .. and they were noted in order, up to a step.
-pub record WereSo (at : ℕ → Plain) (last : ℕ) (entries : List Entry) (marks : List ℕ) : Type 0 where
+-- A thread's deed is the event of the step of its number: it leads from the world before that step
+-- to the one behind it. So is each of many.
+pub record IsDone (at : ℕ → Plain) (id : ℕ) (d : Did) : Type 0 where
+  pub before : ℕ
+  pub next : d.number ≡ before + 1
+  pub makes : Makes id d.deed (at before) (at d.number)
+
+abbrev pub AreDone : (ℕ → Plain) → (id : ℕ) → List Did → Type 0
+AreDone at id [] = Unit {0}
+AreDone at id (d ∷ rest) = IsDone at id d × AreDone at id rest
+
+-- A thread noted its entries in order, up to a step, and so it did what it did.
+pub record WereSo (at : ℕ → Plain) (id last : ℕ) (entries : List Entry) (marks : List ℕ)
+    (deeds : List Did) : Type 0 where
   pub rising : Rise 0 last marks
   pub so : AreSo at entries marks
+  pub ordered : Rise 0 last (numbers_of deeds)
+  pub done : AreDone at id deeds
+
+-- .. some thread, which handed it on.
+pub record WereHanded (at : ℕ → Plain) (last : ℕ) (n : Noted) : Type 0 where
+  pub thread : ℕ
+  pub were : WereSo at thread last n.entries n.marks n.deeds
 
 abbrev pub AllWereSo : (ℕ → Plain) → (last : ℕ) → List Noted → Type 0
 AllWereSo at last [] = Unit {0}
-AllWereSo at last (n ∷ rest) = WereSo at last n.entries n.marks × AllWereSo at last rest
+AllWereSo at last (n ∷ rest) = WereHanded at last n × AllWereSo at last rest
 
--- What a thread noted was so on a way, and so was what was handed on to it.
-pub record IsMarked {from to : Plain} (way : Way from to) (v : Sight) : Type 0 where
+-- What a thread noted and did was so on a way, and so was what was handed on to it.
+pub record IsMarked {from to : Plain} (way : Way from to) (id : ℕ) (v : Sight) : Type 0 where
   pub last : v.last ≤ way.steps
-  pub own : WereSo way.at v.last v.seat.note v.marks
+  pub own : WereSo way.at id v.last v.seat.note v.marks v.deeds
   pub others : AllWereSo way.at way.steps v.handed
 
 -- The table without the numbers of steps.
@@ -150,8 +192,8 @@ abbrev pub seats_of : Table Part Sight → Table Part Seat
 seats_of s = record { words = s.words; homes = s.homes; views = map (λ v. v.seat) s.views }
 
 -- The rule of a table that was made of a world: there is a way from this to the world that the
--- table shows, with a step for each step of a thread, and each entry that a thread noted was so on
--- it behind the step that noted it.
+-- table shows, with a step for each step of a thread. Each entry that a thread noted was so on it
+-- behind the step that noted it, and each deed of a thread is the event of its step.
 pub record Ruled (made : Plain) (s : Table Part Sight) : Type 0 where
   pub world : Plain
   pub rooms : Rooms
@@ -159,5 +201,5 @@ pub record Ruled (made : Plain) (s : Table Part Sight) : Type 0 where
   pub planned : world.counts ≡ made.counts
   pub stop : world.stop ≡ made.stop
   pub way : Way made world
-  pub noted : (j : ℕ) (v : Sight) → get_elem? s.views j ≡ some v → IsMarked way v
+  pub noted : (j : ℕ) (v : Sight) → get_elem? s.views j ≡ some v → IsMarked way j v
   pub rules : Rules rooms world (seats_of s)

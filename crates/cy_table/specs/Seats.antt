@@ -10,6 +10,7 @@ use Rattle.wake_core.specs.declared.route.Route.{Route}
 use Rattle.cy_comp.specs.declared.state.State.{State}
 use Rattle.wake_core.specs.declared.phase.Phase.{Phase}
 use Rattle.wake_core.specs.Plain.{blank}
+use Rattle.cy_table.specs.Deeds.{Did}
 
 -- A croutine in hand, with its phase and its routine as it is after the thread's events: a call
 -- counts from its fetch on, though the component is stepped later.
@@ -74,11 +75,12 @@ pub record Seat : Type 0 where
   pub split : ℕ
   pub live : ℕ
 
--- What a thread noted, as it is handed on when the thread is joined: the entries in order, and the
--- number of the step that noted each.
+-- What a thread noted and did, as it is handed on when the thread is joined: the entries in order,
+-- the number of the step that noted each, and the deeds in order.
 pub record Noted : Type 0 where
   pub entries : List Entry
   pub marks : List ℕ
+  pub deeds : List Did
 
 -- What a thread knows, with numbers of steps. Each step of any thread has the next number, from 1
 -- on. No thread can read such a number: they are for contracts alone.
@@ -87,7 +89,9 @@ pub record Sight : Type 0 where
   -- The number of the thread's last step, and those of the steps that noted the entries.
   pub last : ℕ
   pub marks : List ℕ
-  -- What the threads noted that were joined into this one.
+  -- What the thread did, in order. A step that is no event is no deed.
+  pub deeds : List Did
+  -- What the threads noted and did that were joined into this one.
   pub handed : List Noted
 
 -- A seat that has nothing and owes nothing.

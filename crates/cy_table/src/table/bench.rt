@@ -17,7 +17,7 @@ impl FlagTable {
     pub fn split(&self, pass: &mut Pass) -> Result<Pass, TableError>
         requires { CanSplit self.now pass.old }
         ensures same { Stays self.now pass.old pass.new }
-        ensures noted { NotedSince pass.old pass.new }
+        ensures noted { NotedSince [] pass.old pass.new }
         ensures split { IfOk result (λ q. IsAt self.now q
             × (thread_of q ≡ (split_off (seat_of pass.old), []))
             × (thread_of pass.new ≡ knowing pass.old (splitting (seat_of pass.old)))) }

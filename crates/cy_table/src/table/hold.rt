@@ -11,11 +11,12 @@ use crate::table::FlagTable;
 use cy_comp::State;
 
 impl FlagTable {
-    ghost use Rattle.std.specs.Prelude.{◌≡◌, IfOk, IfErr};
+    ghost use Rattle.std.specs.Prelude.{◌≡◌, ◌∷◌, [], IfOk, IfErr};
+    ghost use Rattle.cy_table.specs.Deeds as deed;
     ghost use Rattle.cy_table.specs.Steps.{releasing, checking, asking, yielding};
     ghost use Rattle.cy_table.specs.Plays.{in_hand};
     ghost use Rattle.cy_table.specs.Calls.{seat_of, Stays, NotedSince, HasNoHold, Holds, IsStepped};
-    ghost use Rattle.cy_table.specs.Calls.{MayAcquire};
+    ghost use Rattle.cy_table.specs.Calls.{MayAcquire, acquire_deeds, component_of};
     ghost use Rattle.cy_table.specs.Calls.{Acquired, FoundHeld, CanRelease, CanResume, CanAsk};
     ghost use Rattle.cy_table.specs.Calls.{CanYield, ShowsTheSame};
 
@@ -25,7 +26,7 @@ impl FlagTable {
     pub fn acquire(&self, pass: &mut Pass, component: u32) -> Result<Hold, Busy>
         requires { MayAcquire self.now pass.old component }
         ensures same { Stays self.now pass.old pass.new }
-        ensures noted { NotedSince pass.old pass.new }
+        ensures noted { NotedSince (acquire_deeds component result) pass.old pass.new }
         ensures taken { IfOk result (λ h. Acquired self.now pass.old component pass.new h) }
         ensures busy { IfErr result (λ _. FoundHeld pass.old component pass.new) }
     {
@@ -55,7 +56,7 @@ impl FlagTable {
     pub fn resume(&self, pass: &mut Pass, hold: &mut Hold) -> bool
         requires { CanResume self.now pass.old hold.old }
         ensures same { Stays self.now pass.old pass.new }
-        ensures noted { NotedSince pass.old pass.new }
+        ensures noted { NotedSince (deed.Check (component_of hold.old) ∷ []) pass.old pass.new }
         ensures seat { seat_of pass.new
             ≡ checking (seat_of pass.old) (in_hand (seat_of pass.old)) result }
         ensures holds { Holds self.now pass.new hold.new × ShowsTheSame hold.old hold.new
@@ -72,7 +73,7 @@ impl FlagTable {
     pub fn ask(&self, pass: &mut Pass, hold: &mut Hold)
         requires { CanAsk self.now pass.old hold.old }
         ensures same { Stays self.now pass.old pass.new }
-        ensures noted { NotedSince pass.old pass.new }
+        ensures noted { NotedSince (deed.Ask (component_of hold.old) ∷ []) pass.old pass.new }
         ensures seat { seat_of pass.new ≡ asking (seat_of pass.old) (in_hand (seat_of pass.old)) }
         ensures holds { Holds self.now pass.new hold.new × IsStepped hold.new }
     {
@@ -88,7 +89,7 @@ impl FlagTable {
     pub fn yield_as(&self, pass: &mut Pass, hold: &mut Hold, state: State)
         requires { CanYield self.now pass.old hold.old state }
         ensures same { Stays self.now pass.old pass.new }
-        ensures noted { NotedSince pass.old pass.new }
+        ensures noted { NotedSince (deed.Yield (component_of hold.old) state ∷ []) pass.old pass.new }
         ensures seat { seat_of pass.new
             ≡ yielding (seat_of pass.old) (in_hand (seat_of pass.old)) }
         ensures holds { Holds self.now pass.new hold.new × IsStepped hold.new }
@@ -105,7 +106,7 @@ impl FlagTable {
     pub fn release(&self, pass: &mut Pass, hold: Hold)
         requires { CanRelease self.now pass.old hold }
         ensures same { Stays self.now pass.old pass.new }
-        ensures noted { NotedSince pass.old pass.new }
+        ensures noted { NotedSince (deed.Release (component_of hold) ∷ []) pass.old pass.new }
         ensures seat { seat_of pass.new ≡ releasing (seat_of pass.old) }
         ensures free { HasNoHold pass.new }
     {

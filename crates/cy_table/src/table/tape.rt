@@ -10,10 +10,12 @@ use cy_msg::Token;
 use std::sync::Wait;
 
 impl FlagTable {
-    ghost use Rattle.std.specs.Prelude.{◌≡◌, IfSome, IfNone};
-    ghost use Rattle.cy_table.specs.Steps.{taping};
+    ghost use Rattle.std.specs.Prelude.{◌≡◌, ◌∷◌, [], IfSome, IfNone};
+    ghost use Rattle.cy_table.specs.Deeds as deed;
+    ghost use Rattle.cy_table.specs.Steps.{taping, phase_sent};
+    ghost use Rattle.cy_table.specs.Plays.{in_hand};
     ghost use Rattle.cy_table.specs.Calls.{seat_of, thread_of, knowing, Stays, NotedSince, CanTape};
-    ghost use Rattle.cy_table.specs.Calls.{CanSend};
+    ghost use Rattle.cy_table.specs.Calls.{CanSend, component_of};
     ghost use Rattle.cy_table.specs.Calls.{Sent, CanEnter, Entered};
 
     /// The player puts a message onto the tape, the next one of its channel, and owes it to the
@@ -21,7 +23,7 @@ impl FlagTable {
     pub fn tape<R: Wait>(&self, rt: &R, pass: &mut Pass, token: Token)
         requires { CanTape self.now pass.old token }
         ensures same { Stays self.now pass.old pass.new }
-        ensures noted { NotedSince pass.old pass.new }
+        ensures noted { NotedSince (deed.Tape token ∷ []) pass.old pass.new }
         ensures thread { thread_of pass.new ≡ knowing pass.old (taping (seat_of pass.old) token) }
     {
         laws::tape_stores();
@@ -38,7 +40,8 @@ impl FlagTable {
     pub fn send<R: Wait>(&self, rt: &R, pass: &mut Pass, hold: &mut Hold) -> Token
         requires { CanSend self.now pass.old hold.old }
         ensures same { Stays self.now pass.old pass.new }
-        ensures noted { NotedSince pass.old pass.new }
+        ensures noted { NotedSince (deed.Send (component_of hold.old)
+            (phase_sent (in_hand (seat_of pass.old)).phase) result ∷ []) pass.old pass.new }
         ensures sent { Sent self.now pass.old hold.old result pass.new hold.new }
     {
         laws::tape_stores();
@@ -59,7 +62,7 @@ impl FlagTable {
     fn enter_at_last<R: Wait>(&self, rt: &R, pass: &mut Pass) -> Tape
         requires { CanEnter self.now pass.old }
         ensures same { Stays self.now pass.old pass.new }
-        ensures noted { NotedSince pass.old pass.new }
+        ensures noted { NotedSince [] pass.old pass.new }
         ensures entered { Entered pass.old result pass.new }
     {
         let backoff = Backoff::new();
@@ -76,7 +79,7 @@ impl FlagTable {
     fn enter(&self, pass: &mut Pass) -> Option<Tape>
         requires { CanEnter self.now pass.old }
         ensures same { Stays self.now pass.old pass.new }
-        ensures noted { NotedSince pass.old pass.new }
+        ensures noted { NotedSince [] pass.old pass.new }
         ensures entered { IfSome result (λ x. Entered pass.old x pass.new) }
         ensures shut { IfNone result (thread_of pass.new ≡ thread_of pass.old) }
     {

@@ -11,13 +11,16 @@ use crate::table::FlagTable;
 use cy_comp::State;
 
 impl FlagTable {
-    ghost use Rattle.std.specs.Prelude.{◌≡◌, ◌≤◌};
+    ghost use Rattle.std.specs.Prelude.{◌≡◌, ◌≤◌, ◌∷◌, [], ◌&&◌, not};
+    ghost use Rattle.wake_core.specs.Events.{is_waiting};
+    ghost use Rattle.cy_table.specs.Deeds as deed;
     ghost use Rattle.cy_table.specs.Steps.{readying, spending, seeing};
     ghost use Rattle.cy_table.specs.Plays.{in_hand};
     ghost use Rattle.cy_table.specs.Calls.{seat_of, thread_of, knowing, IsAt, Stays, NotedSince};
     ghost use Rattle.cy_table.specs.Calls.{Holds};
     ghost use Rattle.cy_table.specs.Calls.{IsStepped, CanUpdate, Updated, CanReady, CanSpend};
-    ghost use Rattle.cy_table.specs.Calls.{after_spend};
+    ghost use Rattle.cy_table.specs.Calls.{after_spend, component_of, state_of, spend_deeds};
+    ghost use Rattle.cy_table.specs.Calls.{update_deeds};
 
     /// Loads the clock once. A croutine that is due at that time is made READY; of another the flag
     /// is spent, and it is made READY where that woke it. The state in which it is then.
@@ -25,7 +28,8 @@ impl FlagTable {
     pub fn update(&self, pass: &mut Pass, hold: &mut Hold) -> State
         requires { CanUpdate self.now pass.old hold.old }
         ensures same { Stays self.now pass.old pass.new }
-        ensures noted { NotedSince pass.old pass.new }
+        ensures noted { NotedSince (update_deeds (component_of hold.old)
+            (state_of (seat_of pass.old)) (seat_of pass.new).clock result) pass.old pass.new }
         ensures updated { Updated (seat_of pass.old) result (seat_of pass.new) }
         ensures holds { Holds self.now pass.new hold.new × IsStepped hold.new }
     {
@@ -43,7 +47,7 @@ impl FlagTable {
     fn see_clock(&self, pass: &mut Pass) -> u64
         requires { IsAt self.now pass.old }
         ensures same { Stays self.now pass.old pass.new }
-        ensures noted { NotedSince pass.old pass.new }
+        ensures noted { NotedSince [] pass.old pass.new }
         ensures thread { thread_of pass.new ≡ knowing pass.old (seeing (seat_of pass.old) result) }
         ensures past { (seat_of pass.old).clock ≤ result }
     {
@@ -56,7 +60,7 @@ impl FlagTable {
     fn ready(&self, pass: &mut Pass, hold: &mut Hold)
         requires { CanReady self.now pass.old hold.old }
         ensures same { Stays self.now pass.old pass.new }
-        ensures noted { NotedSince pass.old pass.new }
+        ensures noted { NotedSince (deed.Ready (component_of hold.old) ∷ []) pass.old pass.new }
         ensures seat { seat_of pass.new
             ≡ readying (seat_of pass.old) (in_hand (seat_of pass.old)) }
         ensures holds { Holds self.now pass.new hold.new × IsStepped hold.new }
@@ -72,7 +76,8 @@ impl FlagTable {
     fn spend(&self, pass: &mut Pass, hold: &Hold) -> bool
         requires { CanSpend self.now pass.old hold.now }
         ensures same { Stays self.now pass.old pass.new }
-        ensures noted { NotedSince pass.old pass.new }
+        ensures noted { NotedSince
+            (deed.Spend (component_of hold.now) (seat_of pass.old).clock ∷ []) pass.old pass.new }
         ensures seat { seat_of pass.new
             ≡ spending (seat_of pass.old) (in_hand (seat_of pass.old)) result }
         ensures holds { Holds self.now pass.new hold.now }
@@ -89,7 +94,8 @@ impl FlagTable {
     fn wake(&self, pass: &mut Pass, hold: &mut Hold) -> bool
         requires { CanSpend self.now pass.old hold.old }
         ensures same { Stays self.now pass.old pass.new }
-        ensures noted { NotedSince pass.old pass.new }
+        ensures noted { NotedSince (spend_deeds (component_of hold.old) (seat_of pass.old).clock
+            (is_waiting (state_of (seat_of pass.old)) && not result)) pass.old pass.new }
         ensures seat { seat_of pass.new ≡ after_spend (seat_of pass.old) result }
         ensures holds { Holds self.now pass.new hold.new × IsStepped hold.new }
     {

@@ -14,14 +14,15 @@ use cy_msg::{Token, Tuple};
 use std::sync::Wait;
 
 impl FlagTable {
-    ghost use Rattle.std.specs.Prelude.{ℕ, ◌≡◌, ◌≤◌, List, ◌∷◌, IfSome, IfNone};
+    ghost use Rattle.std.specs.Prelude.{ℕ, ◌≡◌, ◌≤◌, List, ◌∷◌, [], IfSome, IfNone};
+    ghost use Rattle.cy_table.specs.Deeds as deed;
     ghost use Rattle.cy_table.specs.declared.part.Part.TheVariants as part;
     ghost use Rattle.cy_table.specs.Layout.{visitor_slot};
     ghost use Rattle.cy_table.specs.Steps.{visiting, filling};
     ghost use Rattle.cy_table.specs.Shown.{roles_at};
     ghost use Rattle.cy_table.specs.Plays.{later_fills};
     ghost use Rattle.cy_table.specs.Calls.{seat_of, thread_of, knowing, Stays, NotedSince};
-    ghost use Rattle.cy_table.specs.Calls.{CanVisit, CanFill};
+    ghost use Rattle.cy_table.specs.Calls.{CanVisit, CanFill, component_of};
     ghost use Rattle.cy_table.specs.Calls.{Visiting, CanFetch, Fetched};
 
     /// A message comes to a reader of a component, the first of those that the pass owes it to. It
@@ -29,7 +30,7 @@ impl FlagTable {
     pub fn fill<R: Wait>(&self, rt: &R, pass: &mut Pass, component: u32, role: u8, token: Token)
         requires { CanFill self.now pass.old component role token }
         ensures same { Stays self.now pass.old pass.new }
-        ensures noted { NotedSince pass.old pass.new }
+        ensures noted { NotedSince (deed.Fill component role ∷ []) pass.old pass.new }
         ensures thread { thread_of pass.new ≡ knowing pass.old (filling (seat_of pass.old)
             component role (later_fills (seat_of pass.old).fills)) }
     {
@@ -50,7 +51,7 @@ impl FlagTable {
     pub fn fetch<R: Wait>(&self, rt: &R, pass: &mut Pass, hold: &mut Hold) -> Option<Tuple>
         requires { CanFetch self.now pass.old hold.old }
         ensures same { Stays self.now pass.old pass.new }
-        ensures noted { NotedSince pass.old pass.new }
+        ensures noted { NotedSince (deed.Fetch (component_of hold.old) ∷ []) pass.old pass.new }
         ensures fetched { Fetched self.now pass.old hold.old result pass.new hold.new }
     {
         laws::fetch_stores();
@@ -71,7 +72,7 @@ impl FlagTable {
     fn visit_at_last<R: Wait>(&self, rt: &R, pass: &mut Pass, component: u32) -> BoxedVisitor
         requires { CanVisit self.now pass.old component }
         ensures same { Stays self.now pass.old pass.new }
-        ensures noted { NotedSince pass.old pass.new }
+        ensures noted { NotedSince [] pass.old pass.new }
         ensures visiting { Visiting pass.old component result pass.new }
     {
         let backoff = Backoff::new();
@@ -88,7 +89,7 @@ impl FlagTable {
     fn visit(&self, pass: &mut Pass, component: u32) -> Option<BoxedVisitor>
         requires { CanVisit self.now pass.old component }
         ensures same { Stays self.now pass.old pass.new }
-        ensures noted { NotedSince pass.old pass.new }
+        ensures noted { NotedSince [] pass.old pass.new }
         ensures visiting { IfSome result (λ x. Visiting pass.old component x pass.new) }
         ensures shut { IfNone result (thread_of pass.new ≡ thread_of pass.old) }
     {

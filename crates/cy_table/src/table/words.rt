@@ -5,19 +5,20 @@ use crate::rule::{Clear, Close, Heed, Look, Raise, Tick};
 use crate::table::{FlagTable, stop_number};
 
 impl FlagTable {
-    ghost use Rattle.std.specs.Prelude.{◌≡◌, ◌<◌, ◌++◌, ◌∷◌, [], length, true};
+    ghost use Rattle.std.specs.Prelude.{◌≡◌, ◌<◌, ◌++◌, ◌∷◌, [], length, Bool, true};
+    ghost use Rattle.cy_table.specs.Deeds as deed;
     ghost use Rattle.cy_table.specs.Steps.{ticking, heeding, closing_all, raising, looking};
     ghost use Rattle.cy_table.specs.Steps.{clearing_but};
     ghost use Rattle.cy_table.specs.Plays.{but_first, but_last};
     ghost use Rattle.cy_table.specs.Calls.{seat_of, thread_of, knowing, IsAt, Stays, NotedSince};
-    ghost use Rattle.cy_table.specs.Calls.{CanTick};
+    ghost use Rattle.cy_table.specs.Calls.{CanTick, look_deeds};
     ghost use Rattle.cy_table.specs.Calls.{CanRaise, CanClose, CanLook, after_look, made_of};
 
     /// The player sets the clock forward, to a time in nanoseconds.
     pub fn tick(&self, pass: &mut Pass, time: u64)
         requires { CanTick self.now pass.old time }
         ensures same { Stays self.now pass.old pass.new }
-        ensures noted { NotedSince pass.old pass.new }
+        ensures noted { NotedSince (deed.Tick time ∷ []) pass.old pass.new }
         ensures thread { thread_of pass.new ≡ knowing pass.old (ticking (seat_of pass.old) time) }
     {
         laws::clock_steps();
@@ -30,7 +31,7 @@ impl FlagTable {
     pub fn closing(&self, pass: &mut Pass) -> bool
         requires { IsAt self.now pass.old }
         ensures same { Stays self.now pass.old pass.new }
-        ensures noted { NotedSince pass.old pass.new }
+        ensures noted { NotedSince [] pass.old pass.new }
         ensures thread { thread_of pass.new
             ≡ knowing pass.old (heeding (seat_of pass.old) result) }
         ensures stays { (seat_of pass.old).closing ≡ true → result ≡ true }
@@ -45,7 +46,7 @@ impl FlagTable {
     pub fn raise(&self, pass: &mut Pass)
         requires { CanRaise self.now pass.old }
         ensures same { Stays self.now pass.old pass.new }
-        ensures noted { NotedSince pass.old pass.new }
+        ensures noted { NotedSince (deed.Stop ∷ []) pass.old pass.new }
         ensures thread { thread_of pass.new ≡ knowing pass.old (raising (seat_of pass.old)) }
     {
         laws::stop_stores();
@@ -58,7 +59,7 @@ impl FlagTable {
     pub fn set_closing(&self, pass: &mut Pass)
         requires { CanClose self.now pass.old }
         ensures same { Stays self.now pass.old pass.new }
-        ensures noted { NotedSince pass.old pass.new }
+        ensures noted { NotedSince (deed.Close ∷ []) pass.old pass.new }
         ensures thread { thread_of pass.new ≡ knowing pass.old (closing_all (seat_of pass.old)) }
     {
         laws::closing_steps();
@@ -71,7 +72,8 @@ impl FlagTable {
     pub fn look_and_clear(&self, pass: &mut Pass, component: u32)
         requires { CanLook self.now pass.old component }
         ensures same { Stays self.now pass.old pass.new }
-        ensures noted { NotedSince pass.old pass.new }
+        ensures noted { (waits : Bool)
+            × NotedSince (look_deeds component waits) pass.old pass.new }
         ensures thread { thread_of pass.new ≡ knowing pass.old (after_look (seat_of pass.old)) }
     {
         if self.look(pass, component) {
@@ -83,7 +85,7 @@ impl FlagTable {
     fn look(&self, pass: &mut Pass, component: u32) -> bool
         requires { CanLook self.now pass.old component }
         ensures same { Stays self.now pass.old pass.new }
-        ensures noted { NotedSince pass.old pass.new }
+        ensures noted { NotedSince (deed.Look component ∷ []) pass.old pass.new }
         ensures thread { thread_of pass.new ≡ knowing pass.old
             (looking (seat_of pass.old) component (but_first (seat_of pass.old).news) result) }
     {
@@ -101,7 +103,7 @@ impl FlagTable {
             ≡ but_last (seat_of pass.old).clearing ++ component ∷ [] }
         requires inside { component < length (made_of self.now).routes }
         ensures same { Stays self.now pass.old pass.new }
-        ensures noted { NotedSince pass.old pass.new }
+        ensures noted { NotedSince (deed.Clear component ∷ []) pass.old pass.new }
         ensures thread { thread_of pass.new ≡ knowing pass.old
             (clearing_but (seat_of pass.old) (but_last (seat_of pass.old).clearing)) }
     {

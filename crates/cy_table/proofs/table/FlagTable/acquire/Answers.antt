@@ -6,12 +6,12 @@ use Rattle.wake_core.specs.declared.entries.TheConstants.{MOST_PLANNED}
 use Rattle.wake_core.specs.WorldOf.{plain_of, routes_in}
 use Rattle.cy_table.specs.declared.part.Part.TheVariants as part
 use Rattle.cy_table.specs.Steps.{acquiring}
-use Rattle.cy_table.specs.Plays.{Thread, in_hand, HasSeen}
+use Rattle.cy_table.specs.Plays.{Thread, in_hand, HasSeen, taking}
 use Rattle.cy_table.specs.Sights.{thread_in}
-use Rattle.cy_table.proofs.Marking.{allowed}
+use Rattle.cy_table.proofs.Marking.{since_as, allowed}
 use Rattle.cy_table.proofs.Allowing.{acquires}
 use Rattle.cy_table.proofs.Channels.{out_is}
-use Rattle.cy_table.proofs.Slots.{in_front, exchanged, routine_or}
+use Rattle.cy_table.proofs.Slots.{in_front, exchanged, since_exchange, routine_or}
 use Rattle.cy_table.proofs.table.FlagTable.acquire.Goals as goal
 
 pub swap-found-requires : goal.swap-found-requires
@@ -89,6 +89,17 @@ returns-else-found-eq0-clause-busy c =
         out = ap (λ (m : Thread). m.1) t ∙ c.requires.free.out;
       };
     }
+
+-- What was done is told by the hand after the swap.
+pub returns-in-Routine-clause-noted : goal.returns-in-Routine-clause-noted
+returns-in-Routine-clause-noted c =
+    let t = (c.swap-found.ensures.2.0 c.args.component refl).free c.if-found-eq0.true in
+    since_exchange _ _ c.swap-found.new.seat.me c.exchange-taken.new.seat.me _ (since_as _ _ _ _ (ap (λ (m : Thread). taking m.0.hand) t.1) c.swap-found.ensures.2.1) c.exchange-taken.ensures.3
+
+pub returns-else-found-eq0-clause-noted : goal.returns-else-found-eq0-clause-noted
+returns-else-found-eq0-clause-noted c =
+    let t = (c.swap-found.ensures.2.0 c.args.component refl).held c.if-found-eq0.false in
+    since_as _ _ _ _ (ap (λ (m : Thread). taking m.0.hand) t ∙ ap taking c.requires.free.hand) c.swap-found.ensures.2.1
 
 pub invariant_of-pass : goal.invariant_of-pass
 invariant_of-pass c =

@@ -32,4 +32,4 @@ pub returns-clause-noted : goal.returns-clause-noted
 returns-clause-noted g c =
     let t = c.visit_at_last-visitor in
     let e = c.exchange-left.ensures in
-    since_on _ _ _ (since_exchange _ t.new.pass.seat.me c.exchange-left.new.seat.me _ t.ensures.noted e.3) c.store.ensures.2.1
+    since_on _ _ _ _ _ (since_exchange [] _ t.new.pass.seat.me c.exchange-left.new.seat.me _ t.ensures.noted e.3) c.store.ensures.2.1

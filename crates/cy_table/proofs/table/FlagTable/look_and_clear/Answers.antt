@@ -26,4 +26,4 @@ returns-then-look-clause-thread c =
     ∙ ap (λ l. let n : Thread = (clearing_but (looking v i (but_first v.news) true) l, old.1) in n) (but_last_is v.clearing i)
 
 pub returns-then-look-clause-noted : goal.returns-then-look-clause-noted
-returns-then-look-clause-noted c = since_on _ _ _ c.look.ensures.noted c.clear.ensures.noted
+returns-then-look-clause-noted c = (true, since_on _ _ _ _ _ c.look.ensures.noted c.clear.ensures.noted)

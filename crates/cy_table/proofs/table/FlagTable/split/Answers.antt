@@ -1,5 +1,5 @@
 -- A seat is split off the player's.
-use Rattle.std.proofs.Common.{ap, arith}
+use Rattle.std.proofs.Common.{[], ap, arith}
 use Rattle.atomic_table.specs.Table.{Me}
 use Rattle.wake_core.specs.WorldOf.{plain_of}
 use Rattle.cy_table.specs.declared.part.Part.{Part}
@@ -17,4 +17,4 @@ split_seat-seat-requires c =
     (c.requires.mine.at.table, omega (arith, c.args.self.now.words), splits c.bench_steps.ensures made seat.id seat.me.0 c.requires.mine.at.live c.requires.mine.player)
 
 pub returns-clause-noted : goal.returns-clause-noted
-returns-clause-noted c = let v = c.args.pass.now.seat.me.0 in since_is v (staying v) _ (since_split v) (ap (λ (m : Me Part Sight). m.0) c.split_seat-seat.ensures.2)
+returns-clause-noted c = let v = c.args.pass.now.seat.me.0 in since_is [] v (staying v) _ (since_split v) (ap (λ (m : Me Part Sight). m.0) c.split_seat-seat.ensures.2)

@@ -7,7 +7,7 @@ pub loop-init : goal.loop-init
 loop-init g c = (search rules, search rules, refl, refl, refl, since_still _)
 
 pub loop-preserved : goal.loop-preserved
-loop-preserved g c = let i = c.loop.invariant in (search rules, search rules, search rules, search rules, c.in_default.ensures.shut ∙ i.4, since_on _ _ _ i.5 c.visit.ensures.noted)
+loop-preserved g c = let i = c.loop.invariant in (search rules, search rules, search rules, search rules, c.in_default.ensures.shut ∙ i.4, since_on _ _ _ _ _ i.5 c.visit.ensures.noted)
 
 pub returns-in-Some-visit-clause-noted : goal.returns-in-Some-visit-clause-noted
-returns-in-Some-visit-clause-noted g c = since_on _ _ _ c.loop.invariant.5 c.visit.ensures.noted
+returns-in-Some-visit-clause-noted g c = since_on _ _ _ _ _ c.loop.invariant.5 c.visit.ensures.noted
