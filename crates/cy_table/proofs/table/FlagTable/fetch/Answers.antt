@@ -1,14 +1,16 @@
 -- The visitor goes back to its slot as it was, and the store of its door makes the call.
-use Rattle.std.proofs.Common.{◌≤◌, length, Option, sym, ap, ◌∙◌, subst, arith}
+use Rattle.std.proofs.Common.{◌≤◌, [], ◌∷◌, length, Option, sym, ap, ◌∙◌, subst, arith}
 use Rattle.std.specs.Option.{ForSome}
 use Rattle.cy_fuse.specs.Visitor.{visited}
 use Rattle.cy_comp.specs.Routine.{MayTake}
 use Rattle.wake_core.specs.declared.entries.TheConstants.{MOST_PLANNED}
 use Rattle.wake_core.specs.WorldOf.{plain_of}
 use Rattle.cy_table.specs.declared.hold.Found.{Found}
+use Rattle.cy_table.specs.Deeds as deed
+use Rattle.cy_table.specs.Plays.{Thread, in_hand}
 use Rattle.cy_table.specs.Hold.{with_found}
 use Rattle.cy_table.specs.Sights.{thread_in}
-use Rattle.cy_table.proofs.Marking.{since_on, allowed}
+use Rattle.cy_table.proofs.Marking.{since_as, since_on, allowed}
 use Rattle.cy_table.proofs.Visits.{fetches}
 use Rattle.cy_table.proofs.Slots.{exchanged, since_exchange}
 use Rattle.cy_table.proofs.Resuming.{fetched_so}
@@ -49,4 +51,5 @@ pub returns-clause-noted : goal.returns-clause-noted
 returns-clause-noted g c =
     let t = c.visit_at_last-visitor in
     let e = c.exchange-left.ensures in
-    since_on _ _ _ _ _ (since_exchange [] _ t.new.pass.seat.me c.exchange-left.new.seat.me _ t.ensures.noted e.3) c.store.ensures.2.1
+    let p = exchanged t.new.pass.seat.me c.exchange-left.new.seat.me _ _ _ _ _ _ t.ensures.visiting.thread e.2 e.3 in
+    since_on _ _ _ _ _ (since_exchange [] _ t.new.pass.seat.me c.exchange-left.new.seat.me _ t.ensures.noted e.3) (since_as _ _ _ _ (ap (λ (m : Thread). deed.Fetch (in_hand m.0).croutine ∷ []) p.1 ∙ ap (λ n. deed.Fetch n ∷ []) c.requires.holds.croutine) c.store.ensures.2.1)

@@ -1,12 +1,13 @@
 -- The visitor goes back to its slot with one arrival more, and the store of its door gives it home.
-use Rattle.std.proofs.Common.{◌+◌, ◌*◌, ◌∷◌, ap, ◌∙◌, arith}
+use Rattle.std.proofs.Common.{ℕ, ◌+◌, ◌*◌, List, [], ◌∷◌, ap, ◌∙◌, arith}
 use Rattle.cy_fuse.specs.Visitor.{VisitorView, arrived}
 use Rattle.wake_core.specs.WorldOf.{plain_of}
 use Rattle.cy_table.specs.declared.part.Part.TheVariants as part
 use Rattle.cy_table.specs.Steps.{visiting}
-use Rattle.cy_table.specs.Plays.{Thread}
+use Rattle.cy_table.specs.Deeds as deed
+use Rattle.cy_table.specs.Plays.{Thread, first_fill}
 use Rattle.cy_table.specs.Sights.{thread_in}
-use Rattle.cy_table.proofs.Marking.{since_on, allowed}
+use Rattle.cy_table.proofs.Marking.{since_as, since_on, allowed}
 use Rattle.cy_table.proofs.Visits.{fills}
 use Rattle.cy_table.proofs.Slots.{exchanged, since_exchange}
 use Rattle.cy_table.proofs.table.FlagTable.fill.Goals as goal
@@ -32,4 +33,5 @@ pub returns-clause-noted : goal.returns-clause-noted
 returns-clause-noted g c =
     let t = c.visit_at_last-visitor in
     let e = c.exchange-left.ensures in
-    since_on _ _ _ _ _ (since_exchange [] _ t.new.pass.seat.me c.exchange-left.new.seat.me _ t.ensures.noted e.3) c.store.ensures.2.1
+    let p = exchanged t.new.pass.seat.me c.exchange-left.new.seat.me _ _ _ _ _ _ t.ensures.visiting.thread e.2 e.3 in
+    since_on _ _ _ _ _ (since_exchange [] _ t.new.pass.seat.me c.exchange-left.new.seat.me _ t.ensures.noted e.3) (since_as _ _ _ _ (ap (λ (m : Thread). deed.Fill (first_fill m.0.fills).0 (first_fill m.0.fills).1 ∷ []) p.1 ∙ ap (λ (l : List (ℕ × ℕ)). deed.Fill (first_fill l).0 (first_fill l).1 ∷ []) c.requires.owes) c.store.ensures.2.1)

@@ -1,18 +1,19 @@
 -- The tape goes back to its slot with the output behind the others, and the store of its door gives
 -- it home.
-use Rattle.std.proofs.Common.{◌≡◌, ◌∷◌, length, Some, sym, ap, ◌∙◌, inr, arith}
+use Rattle.std.proofs.Common.{◌≡◌, [], ◌∷◌, length, Some, sym, ap, ◌∙◌, inr, arith}
 use Rattle.atomic_table.specs.Table.{rest}
 use Rattle.cy_comp.specs.Calls.{output, outs}
 use Rattle.cy_comp.specs.Routine.{RoutineView}
 use Rattle.wake_core.specs.WorldOf.{plain_of}
 use Rattle.cy_table.specs.declared.part.Part.TheVariants as part
+use Rattle.cy_table.specs.Deeds as deed
 use Rattle.cy_table.specs.Seats.{TapeView}
-use Rattle.cy_table.specs.Steps.{entering, with_message, out_at, sending}
+use Rattle.cy_table.specs.Steps.{entering, with_message, out_at, phase_sent, sending}
 use Rattle.cy_table.specs.Plays.{Thread, in_hand, last_put}
 use Rattle.cy_table.specs.Hold.{with_found}
 use Rattle.cy_table.specs.Calls.{channel_of}
 use Rattle.cy_table.specs.Sights.{thread_in}
-use Rattle.cy_table.proofs.Marking.{since_on, allowed}
+use Rattle.cy_table.proofs.Marking.{since_as, since_on, allowed}
 use Rattle.cy_table.proofs.Taping.{sends, last_here}
 use Rattle.cy_table.proofs.Slots.{exchanged, since_exchange}
 use Rattle.cy_table.proofs.Resuming.{some_is, output_of}
@@ -75,4 +76,8 @@ pub returns-clause-noted : goal.returns-clause-noted
 returns-clause-noted g c =
     let t = c.enter_at_last-tape in
     let e = c.exchange-left.ensures in
-    since_on _ _ _ _ _ (since_exchange [] _ t.new.pass.seat.me c.exchange-left.new.seat.me _ t.ensures.noted e.3) c.store.ensures.2.1
+    let old = thread_in c.args.pass.now.seat.me in
+    let k = in_hand old.0 in
+    let p = exchanged t.new.pass.seat.me c.exchange-left.new.seat.me _ _ _ _ _ _ t.ensures.entered.thread e.2 e.3 in
+    let is = p.1 ∙ ap (λ (y : TapeView). let n : Thread = (entering old.0 t.result, (0, part.Tape y) ∷ old.1) in n) c.put.ensures in
+    since_on _ _ _ _ _ (since_exchange [] _ t.new.pass.seat.me c.exchange-left.new.seat.me _ t.ensures.noted e.3) (since_as _ _ _ _ (ap (λ (m : Thread). deed.Send (in_hand m.0).croutine (phase_sent (in_hand m.0).phase) (last_put m.1) ∷ []) is ∙ (ap (λ d. deed.Send k.croutine (phase_sent k.phase) d ∷ []) (last_here t.result c.in-Some.token old.1) ∙ ap (λ n. deed.Send n (phase_sent k.phase) c.in-Some.token ∷ []) c.requires.holds.croutine)) c.store.ensures.2.1)

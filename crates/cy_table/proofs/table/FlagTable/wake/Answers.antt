@@ -2,4 +2,4 @@ use Rattle.cy_table.proofs.Marking.{since_on}
 use Rattle.cy_table.proofs.table.FlagTable.wake.Goals as goal
 
 pub returns-then-wakes-clause-noted : goal.returns-then-wakes-clause-noted
-returns-then-wakes-clause-noted c = since_on _ _ _ _ _ c.spend-was_spent.ensures.noted c.ready.ensures.noted
+returns-then-wakes-clause-noted c = ?
