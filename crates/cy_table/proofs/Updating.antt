@@ -1,5 +1,5 @@
 -- What the steps of an update may do, by their laws.
-use Rattle.std.proofs.Common.{ℕ, ◌+◌, ◌*◌, ◌==◌, ◌≡◌, ◌≢◌, ◌&&◌, not, cond, Bool, true, false, refl, sym, ◌∙◌, ap, subst, inl, inr, [], ◌∷◌, Some, slice_index, arith}
+use Rattle.std.proofs.Common.{ℕ, ◌+◌, ◌*◌, ◌==◌, ◌≡◌, ◌≢◌, ◌&&◌, not, cond, if◌then◌else◌, Bool, true, false, refl, sym, ◌∙◌, ap, subst, inl, inr, [], ◌∷◌, Some, slice_index, arith}
 use Rattle.std.proofs.lemmas.Bool.Decides.{nat_tests}
 use mathlib.Core.Option as maybe
 use mathlib.Core.Option.{some}
@@ -10,7 +10,7 @@ use Rattle.cy_comp.specs.declared.state.State.TheVariants.{Ready, DataWait, Slee
 use Rattle.cy_comp.specs.Routine.{RoutineView}
 use Rattle.wake_core.specs.declared.phase.Phase.TheVariants.{Woken, Known}
 use Rattle.wake_core.specs.Plain.{Plain}
-use Rattle.wake_core.specs.Events.{IsDue, is_waiting, phase_after_spend}
+use Rattle.wake_core.specs.Events.{IsDue, is_waiting, is_ready, phase_after_spend}
 use Rattle.wake_core.specs.Turns.{is_due}
 use Rattle.cy_table.specs.declared.part.Part.{Part}
 use Rattle.cy_table.specs.Seats.{Seat, Grip}
@@ -19,6 +19,7 @@ use Rattle.cy_table.specs.Deeds as deed
 use Rattle.cy_table.specs.Steps.{Sits, readying, MayReady, spent_note, spending, MaySpend}
 use Rattle.cy_table.specs.Laws.{StateStores, FlagSwaps}
 use Rattle.cy_table.specs.Plays.{Thread, in_hand, readied, spent, ready_deed, spend_deed}
+use Rattle.cy_table.specs.Calls.{state_of, ready_if, after_spend, spend_deeds, update_deeds}
 use Rattle.cy_table.proofs.Places.{there}
 use Rattle.cy_table.proofs.Holding.{routine_known}
 use Rattle.cy_table.proofs.Marking.{ShowsFor, NotesOne, Leaves, Plays}
@@ -88,3 +89,37 @@ not_due_is Finished time e due = due
 -- A swap that woke a croutine left it woken.
 pub woken_is : (st : State) (was_spent : Bool) → is_waiting st && not was_spent ≡ true → phase_after_spend st was_spent ≡ Woken
 woken_is st was_spent e = ap (λ b. cond b Woken Known) e
+
+-- What an update did, by the state in which the croutine is then.
+pub due_deeds : (i clock : ℕ) (before after : State) → is_due before clock ≡ true → deed.Ready i ∷ [] ≡ update_deeds i before clock after
+due_deeds i clock before after e = ap (λ b. if b then deed.Ready i ∷ [] else spend_deeds i clock (is_waiting before && is_ready after)) (sym e)
+
+abbrev left_by : State → (was_spent : Bool) → State
+left_by before was_spent = if is_waiting before && not was_spent then Ready else before
+
+woken_shows : (before : State) (was_spent : Bool) → is_waiting before && not was_spent ≡ is_waiting before && is_ready (left_by before was_spent)
+woken_shows Ready was_spent = refl
+woken_shows DataWait true = refl
+woken_shows DataWait false = refl
+woken_shows (Sleep until) was_spent = refl
+woken_shows Finished was_spent = refl
+
+pub spent_deeds : (i clock : ℕ) (before after : State) (was_spent : Bool) → is_due before clock ≡ false → after ≡ left_by before was_spent
+    → spend_deeds i clock (is_waiting before && not was_spent) ≡ update_deeds i before clock after
+spent_deeds i clock before after was_spent e is =
+    ap (spend_deeds i clock) (woken_shows before was_spent ∙ ap (λ (s : State). is_waiting before && is_ready s) (sym is))
+    ∙ ap (λ b. if b then deed.Ready i ∷ [] else spend_deeds i clock (is_waiting before && is_ready after)) (sym e)
+
+woken_state : (v : Seat) (was_spent woken : Bool) → state_of (ready_if woken (spending v (in_hand v) was_spent)) ≡ (if woken then Ready else state_of v)
+woken_state v was_spent true = refl
+woken_state v was_spent false = refl
+
+woken_clock : (v : Seat) (was_spent woken : Bool) → (ready_if woken (spending v (in_hand v) was_spent)).clock ≡ v.clock
+woken_clock v was_spent true = refl
+woken_clock v was_spent false = refl
+
+pub state_then : (v : Seat) (was_spent : Bool) → state_of (after_spend v was_spent) ≡ left_by (state_of v) was_spent
+state_then v was_spent = woken_state v was_spent (is_waiting (state_of v) && not was_spent)
+
+pub clock_then : (v : Seat) (was_spent : Bool) → (after_spend v was_spent).clock ≡ v.clock
+clock_then v was_spent = woken_clock v was_spent (is_waiting (state_of v) && not was_spent)
