@@ -126,8 +126,8 @@ clears law made slots id c m live last less = record {
         keeps,
         tt,
         leaves_as (ap (λ n. deed.Clear n ∷ []) (sym (ap last_number last ∙ last_number_is kept c)))
-        (subst (λ l. Leaves k.rooms id (deed.Clear c ∷ []) k.world m.0 (clearing_but m.0 l) (stepped s (4 * c + 6) 0 id m.1 (clearing_but m.0 l) keeps)) (nothing_after kept)
-        (moved_then k id m.0 (clearing_but m.0 (kept ++ [])) (deed.Clear c) (law.clear k.rooms k.world s id m.0 c kept [] m.1 (sits_at k id m.0 at live) last inside) refl)),
+            (subst (λ l. Leaves k.rooms id (deed.Clear c ∷ []) k.world m.0 (clearing_but m.0 l) (stepped s (4 * c + 6) 0 id m.1 (clearing_but m.0 l) keeps)) (nothing_after kept)
+            (moved_then k id m.0 (clearing_but m.0 (kept ++ [])) (deed.Clear c) (law.clear k.rooms k.world s id m.0 c kept [] m.1 (sits_at k id m.0 at live) last inside) refl)),
         refl,
       );
 }

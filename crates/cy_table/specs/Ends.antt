@@ -51,9 +51,9 @@ pub record IsReached (from w : Plain) : Type 0 where
 -- A world that a table leaves to the player: one at rest, which events reached from the world that
 -- the table was made of, with its components, counts and stop. What the player and the threads that
 -- were joined noted was so on one way to it, each note in its order, and the events that their
--- calls made are steps of this way. It has the played messages, the clock and the closing that the player knows, and its stop is raised just where the player
--- knows so; and each component with all calls that the player has seen, those of the passes that
--- were joined among them.
+-- calls made are steps of this way. It has the played messages, the clock and the closing that the
+-- player knows, and its stop is raised just where the player knows so; and each component with all
+-- calls that the player has seen, those of the passes that were joined among them.
 pub record IsLeft (t : FlagTable) (p : Pass) (w : Plain) : Type 0 where
   pub reached : IsReached (made_of t) w
   pub way : Way (made_of t) reached.world
