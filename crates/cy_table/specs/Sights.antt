@@ -53,7 +53,8 @@ abbrev pub no_sight : Sight
 no_sight = first_sight no_seat
 
 -- A thread is split off the player's, behind the player's last step; and one is joined, whose notes
--- and deeds are handed on with their numbers. What the player notes then is behind the last step of both.
+-- and deeds are handed on with their numbers. What the player notes then is behind the last step of
+-- both.
 abbrev pub staying : Sight → Sight
 staying v = record v { seat = splitting v.seat }
 

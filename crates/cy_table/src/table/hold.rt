@@ -89,7 +89,8 @@ impl FlagTable {
     pub fn yield_as(&self, pass: &mut Pass, hold: &mut Hold, state: State)
         requires { CanYield self.now pass.old hold.old state }
         ensures same { Stays self.now pass.old pass.new }
-        ensures noted { NotedSince (deed.Yield (component_of hold.old) state ∷ []) pass.old pass.new }
+        ensures noted { NotedSince
+            (deed.Yield (component_of hold.old) state ∷ []) pass.old pass.new }
         ensures seat { seat_of pass.new
             ≡ yielding (seat_of pass.old) (in_hand (seat_of pass.old)) }
         ensures holds { Holds self.now pass.new hold.new × IsStepped hold.new }
