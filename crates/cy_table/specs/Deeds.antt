@@ -1,10 +1,10 @@
--- What a thread does, without the thread: the events of a run that its calls make.
+-- The events that the calls of a thread make, by name.
 use Rattle.std.specs.Prelude.{ℕ, List, [], ◌∷◌}
 use Rattle.cy_msg.specs.declared.token.Token.{Token}
 use Rattle.cy_comp.specs.declared.state.State.{State}
 use Rattle.wake_core.specs.declared.phase.Phase.{Phase}
 
--- What a thread does: an event of a run, but for the thread whose event it is.
+-- An event of a run, with what it is of, but without the thread that makes it.
 pub data Deed : Type 0 where
   Acquire : (c : ℕ) → Deed
   Spend : (c seen : ℕ) → Deed

@@ -114,7 +114,7 @@ IsSo w (Saw c visitor) = IsVisitorOf w c visitor
 IsSo w (Clock time) = w.clock ≡ time
 IsSo w (Closing closing) = w.closing ≡ closing
 
--- What a thread does leads from one world to another: it is that thread's event.
+-- A deed of a thread leads from one world to another: it is this event, by this thread.
 abbrev pub Makes : (id : ℕ) → Deed → Plain → Plain → Type 0
 Makes id (deed.Acquire c) w v = Acquires id c w v
 Makes id (deed.Spend c seen) w v = Spends id c seen w v
@@ -164,7 +164,7 @@ abbrev pub AreDone : (ℕ → Plain) → (id : ℕ) → List Did → Type 0
 AreDone at id [] = Unit {0}
 AreDone at id (d ∷ rest) = IsDone at id d × AreDone at id rest
 
--- A thread noted its entries in order, up to a step, and so it did what it did.
+-- A thread noted its entries in order and made its deeds in order, by steps up to a last one.
 pub record WereSo (at : ℕ → Plain) (id last : ℕ) (entries : List Entry) (marks : List ℕ)
     (deeds : List Did) : Type 0 where
   pub rising : Rise 0 last marks

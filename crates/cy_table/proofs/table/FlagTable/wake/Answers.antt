@@ -1,10 +1,10 @@
 -- The swap of a flag, and the store of READY where it woke the croutine.
-use Rattle.std.proofs.Common.{◌≡◌, ◌&&◌, not, true, false, sym, ap, ◌∙◌}
+use Rattle.std.proofs.Common.{◌&&◌, not, sym, ap, ◌∙◌}
 use Rattle.cy_comp.specs.declared.state.State.{State}
 use Rattle.cy_comp.specs.Routine.{RoutineView}
 use Rattle.wake_core.specs.Events.{is_waiting}
 use Rattle.cy_table.specs.Hold.{with_found}
-use Rattle.cy_table.specs.Calls.{component_of, state_of, spend_deeds}
+use Rattle.cy_table.specs.Calls.{component_of, spend_deeds}
 use Rattle.cy_table.proofs.Marking.{since_as, since_on}
 use Rattle.cy_table.proofs.table.FlagTable.wake.Goals as goal
 
