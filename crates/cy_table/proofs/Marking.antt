@@ -16,7 +16,7 @@ use Rattle.cy_table.specs.Deeds.{Deed, Did, numbers_of, deeds_of}
 use Rattle.cy_table.specs.Seats.{Seat, Sight, Noted, Entry, Rise}
 use Rattle.cy_table.specs.Deeds as deed
 use Rattle.cy_table.specs.Shown.{Rooms}
-use Rattle.cy_table.specs.Rule.{Rules, Ruled, IsSo, Makes, Moves, Way, AreSo, IsDone, AreDone, WereSo, WereHanded, AllWereSo, IsMarked, seats_of}
+use Rattle.cy_table.specs.Rule.{Rules, Ruled, IsSo, Makes, Moves, Way, AreSo, IsDone, AreDone, WereSo, AllWereSo, IsMarked, seats_of}
 use Rattle.cy_table.specs.Plays.{Thread}
 use Rattle.cy_table.specs.Sights.{Since, thread_in, staying, uniting}
 use Rattle.cy_table.proofs.Places.{place, there, other}
