@@ -1,2 +1,3 @@
 pub mod OnceSteps
 pub mod Quoting
+pub mod Lists

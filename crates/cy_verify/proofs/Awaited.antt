@@ -8,9 +8,7 @@ use Rattle.cy_fuse.specs.Fusion.{Arrival, added, fused}
 use Rattle.cy_fuse.specs.Visitor.{VisitorView, arrived, tuples_at}
 use Rattle.wake_core.specs.declared.route.Route.{Route}
 use Rattle.wake_core.specs.Plain.{of_role}
-use Rattle.wake_core.proofs.Listing.{get_append, get_last, take_next}
-use Rattle.wake_core.proofs.Arrived.{fused-append}
-use Rattle.wake_core.proofs.Arriving.{there}
+use Rattle.wake_core.proofs.Cited.{fused-append}
 use Rattle.cy_verify.specs.declared.follower.Follower.{Follower}
 use Rattle.cy_verify.specs.private.Following.{IsSearched, IsNextOn, Stays}
 use Rattle.cy_verify.specs.private.Leading.{IsDue, IsHere, Awaits, AwaitsTo}
@@ -19,6 +17,7 @@ use Rattle.cy_verify.proofs.CallMade.{shorter}
 use Rattle.cy_verify.proofs.Placed.{on_beginning}
 use Rattle.cy_verify.proofs.Fusing.{added_few}
 use Rattle.std.proofs.lemmas.List.{length-map}
+use Rattle.cy_msg.proofs.Lists.{get_append, get_last, take_next, there}
 
 one : {X : Type 0} {a b : X} → Some a ≡ Some b → a ≡ b
 one e = cc

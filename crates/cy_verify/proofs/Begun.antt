@@ -4,7 +4,7 @@ use Rattle.wake_core.specs.declared.route.Route.{Route}
 use Rattle.wake_core.specs.Plain.{Plain}
 use Rattle.wake_core.specs.Planned.{counts_from}
 use Rattle.wake_core.specs.Run.{routes_of}
-use Rattle.wake_core.proofs.Totals.{tape_planned}
+use Rattle.wake_core.proofs.Cited.{tape_planned}
 use Rattle.cy_trace.specs.declared.trace.Trace.{Trace}
 use Rattle.cy_verify.specs.declared.walk.Walk.{Walk}
 use Rattle.cy_verify.specs.private.Led.{AreLed, IsLed}

@@ -5,6 +5,7 @@ use Rattle.std.proofs.Math.Seq.{take-append_seam}
 use Rattle.cy_msg.specs.declared.token.Token.{Token}
 use Rattle.cy_msg.specs.declared.token.Tuple.{Tuple}
 use Rattle.cy_msg.specs.Tuple.{messages_of}
+use Rattle.cy_msg.proofs.Lists.{take_next}
 use Rattle.cy_fuse.specs.Fusion.{Arrival, added, fused_after, fused}
 use Rattle.cy_fuse.specs.Fetch.{fetch}
 use Rattle.cy_fuse.specs.Laws.{FetchesFind}
@@ -15,7 +16,6 @@ use Rattle.cy_comp.specs.Step.{outcome_after, out_of}
 use Rattle.cy_comp.specs.Calls.{cursor_after, tail_after, tuples_of, last_outcome, is_last, outs_after, outs, output, numbered}
 use Rattle.cy_comp.specs.Routine.{RoutineView, answer_to, taken}
 use Rattle.wake_core.specs.declared.route.Route.{Route}
-use Rattle.wake_core.proofs.Listing.{take_next}
 use Rattle.cy_trace.specs.TraceOfRun.{output_of_call, trace_call, trace_calls}
 use Rattle.cy_trace.specs.declared.trace.TraceCall.{TraceCall}
 use Rattle.cy_trace.specs.declared.trace.TraceComponent.{TraceComponent}

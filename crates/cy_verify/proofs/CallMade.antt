@@ -6,6 +6,7 @@ use Rattle.cy_msg.specs.declared.token.Token.{Token}
 use Rattle.cy_msg.specs.declared.token.Tuple.{Tuple}
 use Rattle.cy_msg.specs.Tuple.{messages_of}
 use Rattle.cy_msg.specs.Tokens.{on_channel, IsNumbered}
+use Rattle.cy_msg.proofs.Lists.{get_snoc, take_next, there}
 use Rattle.cy_fuse.specs.declared.overflow.Overflow.{Overflow}
 use Rattle.cy_fuse.specs.Fusion.{Arrival, fused}
 use Rattle.cy_fuse.specs.Fetch.{fetch}
@@ -19,11 +20,7 @@ use Rattle.cy_comp.specs.Routine.{RoutineView, MayTake, answer_to, taken}
 use Rattle.wake_core.specs.declared.route.Route.{Route}
 use Rattle.wake_core.specs.Planned.{first_reader}
 use Rattle.wake_core.specs.Plain.{of_role}
-use Rattle.wake_core.proofs.Listing.{get_snoc, take_next}
-use Rattle.wake_core.proofs.Outputs.{outs_few, last_push}
-use Rattle.wake_core.proofs.Fetching.{tail_bounded, calls_below, position_rises, fused_few}
-use Rattle.wake_core.proofs.Calling.{IsNextCall, lawful_call, earlier_output}
-use Rattle.wake_core.proofs.Arriving.{there}
+use Rattle.wake_core.proofs.Cited.{outs_few, last_push, tail_bounded, calls_below, position_rises, fused_few, IsNextCall, lawful_call, earlier_output}
 use Rattle.cy_trace.specs.TraceOfRun.{output_of_call, trace_call, trace_calls}
 use Rattle.cy_trace.specs.declared.trace.TraceCall.{TraceCall}
 use Rattle.cy_trace.specs.declared.trace.TraceComponent.{TraceComponent}

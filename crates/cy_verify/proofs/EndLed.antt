@@ -3,6 +3,7 @@ use Rattle.std.proofs.Common.{ℕ, zero, suc, ◌+◌, ◌≡◌, ◌⊎◌, inl
 use Rattle.std.proofs.Math.Seq.{take-length}
 use Rattle.cy_msg.specs.declared.token.Token.{Token}
 use Rattle.cy_msg.specs.Tokens.{on_channel}
+use Rattle.cy_msg.proofs.Lists.{there}
 use Rattle.cy_fuse.specs.Fusion.{Arrival, fused}
 use Rattle.cy_fuse.specs.Fetch.{fetch}
 use Rattle.cy_fuse.specs.Laws.{FetchesFind}
@@ -13,9 +14,7 @@ use Rattle.cy_comp.specs.Calls.{cursor_after, last_outcome, is_last, outs}
 use Rattle.cy_comp.specs.Routine.{RoutineView}
 use Rattle.wake_core.specs.declared.route.Route.{Route}
 use Rattle.wake_core.specs.Plain.{of_role}
-use Rattle.wake_core.proofs.Arriving.{there}
-use Rattle.wake_core.proofs.Outputs.{outs_take}
-use Rattle.wake_core.proofs.MoreCalls.{length_outs-push}
+use Rattle.wake_core.proofs.Cited.{outs_take, length_outs-push}
 use Rattle.cy_trace.specs.declared.trace.TraceComponent.{TraceComponent}
 use Rattle.cy_verify.specs.declared.follower.Follower.{Follower}
 use Rattle.cy_verify.specs.private.Following.{MayFollow, Follows, HasCalled, Listens, Stays, ends_as}

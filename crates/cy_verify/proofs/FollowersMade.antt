@@ -1,9 +1,9 @@
 -- The followers of components with these visitors and routines.
 use Rattle.std.proofs.Common.{ℕ, ◌≡◌, false, refl, sym, ◌∙◌, ap, subst, inl, inr, arith, List, [], ◌∷◌, ◌++◌, length, map, Some, slice_get, append_assoc, append-nil, length-append}
 use Rattle.std.proofs.lemmas.List.{map-append, length-map}
+use Rattle.cy_msg.proofs.Lists.{get_snoc}
 use Rattle.cy_fuse.specs.Visitor.{VisitorView}
 use Rattle.cy_comp.specs.Routine.{RoutineView}
-use Rattle.wake_core.proofs.Listing.{get_snoc}
 use Rattle.cy_verify.specs.declared.follower.Follower.{Follower}
 
 -- It has nothing of its own yet.

@@ -4,8 +4,8 @@ use Rattle.std.proofs.lemmas.Bool.Decides.{nat_tests, eqb_tells}
 use Rattle.cy_msg.specs.declared.token.Token.{Token}
 use Rattle.cy_msg.specs.declared.token.Tuple.{Tuple}
 use Rattle.cy_msg.specs.Tuple.{messages_of}
+use Rattle.cy_msg.proofs.Lists.{there}
 use Rattle.cy_fuse.specs.Fusion.{Arrival, later_or, latest, latest_of, joined, added, fused_after, fused}
-use Rattle.wake_core.proofs.Arriving.{there}
 
 latest_other : (j : ℕ) (before : List Arrival) (x : Arrival) → (x.0 == j) ≡ false → latest j (before ++ x ∷ []) ≡ latest j before
 latest_other j [] x e = ap (λ (b : Bool). later_or None (if b then Some x.1 else None)) e

@@ -5,6 +5,7 @@ use Rattle.std.proofs.lemmas.Option.{slice_get_within}
 use Rattle.cy_msg.specs.declared.token.Token.{Token}
 use Rattle.cy_msg.specs.declared.token.Tuple.{Tuple}
 use Rattle.cy_msg.specs.Tokens.{on_channel}
+use Rattle.cy_msg.proofs.Lists.{place, get_append, get_snoc, get_in, take_next}
 use Rattle.cy_fuse.specs.Fusion.{Arrival, added, fused}
 use Rattle.cy_fuse.specs.Fetch.{fetch}
 use Rattle.cy_fuse.specs.Laws.{FetchesFind}
@@ -12,9 +13,7 @@ use Rattle.cy_fuse.specs.Visitor.{VisitorView, visited, tuples_at}
 use Rattle.cy_comp.specs.declared.call.Call.{Call}
 use Rattle.wake_core.specs.declared.route.Route.{Route}
 use Rattle.wake_core.specs.Plain.{of_role}
-use Rattle.wake_core.proofs.Places.{place}
-use Rattle.wake_core.proofs.Listing.{get_append, get_snoc, get_in, take_next}
-use Rattle.wake_core.proofs.Arrived.{of_role_own, of_role_other, fused-append}
+use Rattle.wake_core.proofs.Cited.{of_role_own, of_role_other, fused-append}
 use Rattle.cy_fuse.specs.Visitor.{arrived}
 use Rattle.cy_comp.specs.declared.plan.Plan.{Plan}
 use Rattle.wake_core.specs.Run.{route_of}

@@ -5,6 +5,7 @@ use Rattle.cy_msg.specs.declared.play_list.PlayList.{PlayList}
 use Rattle.cy_msg.specs.declared.stop.Stop.{Stop}
 use Rattle.cy_msg.specs.declared.token.Token.{Token}
 use Rattle.cy_msg.specs.Tokens.{IsTimed}
+use Rattle.cy_msg.proofs.Lists.{there}
 use Rattle.cy_fuse.specs.Laws.{FetchesFind}
 use Rattle.cy_comp.specs.Laws.{OutcomesAreAnswers}
 use Rattle.cy_comp.specs.declared.call.Call.{Call}
@@ -15,7 +16,6 @@ use Rattle.wake_core.specs.Rest.{run_shown}
 use Rattle.wake_core.specs.Run.{route_of, routes_of, played_of}
 use Rattle.wake_core.specs.Serial.{last_clock}
 use Rattle.wake_core.specs.WorldOf.{IsMade}
-use Rattle.wake_core.proofs.Arriving.{there}
 use Rattle.cy_trace.specs.TraceOfRun.{tape_entry}
 use Rattle.cy_trace.specs.declared.trace.Trace.{Trace}
 use Rattle.cy_verify.specs.Verdict.{Task, MayJudge, IsTold, IsOfRun, Judges}

@@ -2,9 +2,9 @@
 use Rattle.std.proofs.Common.{◌≡◌, ◌<◌, ◌∙◌, subst, arith, List, length}
 use Rattle.std.proofs.lemmas.Option.{slice_get_within}
 use Rattle.std.proofs.lemmas.List.{length-map}
+use Rattle.cy_msg.proofs.Lists.{there}
 use Rattle.wake_core.specs.Fields.{IsWithin}
 use Rattle.wake_core.specs.Run.{route_of, routes_of}
-use Rattle.wake_core.proofs.Arriving.{there}
 use Rattle.cy_trace.specs.declared.trace.TraceComponent.{TraceComponent}
 use Rattle.cy_verify.specs.declared.walk.Walk.{Walk}
 use Rattle.cy_verify.specs.private.Allowing.{MayAsk}

@@ -6,11 +6,11 @@ use Rattle.std.specs.Bool.{Decides}
 use Rattle.cy_msg.specs.declared.token.Token.{Token}
 use Rattle.cy_msg.specs.Tuple.{messages_of}
 use Rattle.cy_msg.specs.Tokens.{on_channel, IsNumbered}
+use Rattle.cy_msg.proofs.Lists.{take_next, either}
 use Rattle.cy_comp.specs.declared.call.Call.{Call}
 use Rattle.wake_core.specs.declared.route.Route.{Route}
 use Rattle.wake_core.specs.Sound.{StandsOn, IsLate, HasLate}
-use Rattle.wake_core.proofs.Listing.{take_next, either}
-use Rattle.wake_core.proofs.Arrived.{on_channel-own}
+use Rattle.wake_core.proofs.Cited.{on_channel-own}
 use Rattle.cy_trace.specs.TraceOfRun.{trace_call, trace_calls}
 use Rattle.cy_trace.specs.declared.trace.TraceCall.{TraceCall}
 use Rattle.cy_verify.specs.private.Passes.{IsEarly, late_from, late_seqs, TakesFrom, HasOneLate}

@@ -7,10 +7,9 @@ use Rattle.cy_fuse.specs.Visitor.{VisitorView}
 use Rattle.cy_comp.specs.Routine.{RoutineView, new_routine}
 use Rattle.cy_comp.specs.declared.plan.Plan.{Plan}
 use Rattle.wake_core.specs.declared.entries.TheConstants.{MOST_PLANNED}
-use Rattle.wake_core.proofs.FoundBounds.{planned_kept}
+use Rattle.wake_core.proofs.Cited.{planned_kept, read_at}
 use Rattle.cy_comp.specs.declared.call.Out.{Out}
 use Rattle.cy_comp.specs.Calls.{outs, last_outcome, is_last}
-use Rattle.wake_core.proofs.Arriving.{there}
 use Rattle.wake_core.specs.declared.route.Route.{Route}
 use Rattle.wake_core.specs.declared.parts.Parts.{Parts}
 use Rattle.wake_core.specs.Plain.{Plain, Stop, opening_world}
@@ -22,9 +21,9 @@ use Rattle.cy_verify.specs.declared.follower.Follower.{Follower}
 use Rattle.cy_verify.specs.declared.walk.Walk.{Walk}
 use Rattle.cy_verify.specs.private.Walking.{IsOpening}
 use Rattle.wake_core.specs.Planned.{first_reader, planned_count}
-use Rattle.wake_core.proofs.Reading.{read_at}
 use Rattle.std.proofs.Common.{false, slice_index, take}
 use Rattle.cy_msg.specs.Tokens.{on_channel}
+use Rattle.cy_msg.proofs.Lists.{there}
 use Rattle.cy_comp.specs.declared.call.Call.{Call}
 use Rattle.cy_fuse.specs.Fusion.{Arrival}
 use Rattle.wake_core.specs.Sound.{IsWired}

@@ -3,18 +3,14 @@ use Rattle.std.proofs.Common.{ℕ, zero, suc, ◌+◌, ◌-◌, ◌≡◌, ◌�
 use Rattle.std.proofs.lemmas.Option.{slice_get_within}
 use Rattle.cy_msg.specs.declared.token.Token.{Token}
 use Rattle.cy_msg.specs.Tokens.{on_channel}
+use Rattle.cy_msg.proofs.Lists.{place, there, get_last, take_next}
 use Rattle.cy_fuse.specs.Fusion.{Arrival}
 use Rattle.cy_comp.specs.declared.call.Call.{Call}
 use Rattle.cy_comp.specs.declared.call.Out.{Out}
 use Rattle.cy_comp.specs.Calls.{LawfulCalls, tail_after, outs_after, outs, output, numbered}
 use Rattle.wake_core.specs.declared.route.Route.{Route}
 use Rattle.wake_core.specs.Sound.{IsOutput, StandsOn}
-use Rattle.wake_core.proofs.Places.{place}
-use Rattle.wake_core.proofs.Arriving.{there}
-use Rattle.wake_core.proofs.Listing.{get_last, take_next}
-use Rattle.wake_core.proofs.Outputs.{outs_take}
-use Rattle.wake_core.proofs.MoreCalls.{outs-push, length_outs-push}
-use Rattle.wake_core.proofs.Standing.{tape_stands}
+use Rattle.wake_core.proofs.Cited.{outs_take, outs-push, length_outs-push, tape_stands}
 use Rattle.cy_trace.specs.declared.trace.TraceComponent.{TraceComponent}
 use Rattle.cy_verify.specs.declared.follower.Follower.{Follower}
 use Rattle.cy_verify.specs.private.Following.{HasCalled}

@@ -8,12 +8,12 @@ use Rattle.cy_msg.specs.declared.token.Token.{Token}
 use Rattle.cy_msg.specs.declared.token.Tuple.{Tuple}
 use Rattle.cy_msg.specs.Tuple.{messages_of}
 use Rattle.cy_msg.specs.Tokens.{on_channel, IsNumbered}
+use Rattle.cy_msg.proofs.Lists.{there}
 use Rattle.cy_fuse.specs.Fusion.{Arrival, fused}
 use Rattle.wake_core.specs.declared.route.Route.{Route}
 use Rattle.wake_core.specs.Plain.{of_role}
 use Rattle.wake_core.specs.Sound.{StandsOn}
-use Rattle.wake_core.proofs.Outputs.{IsAt}
-use Rattle.wake_core.proofs.Arriving.{there}
+use Rattle.wake_core.proofs.Cited.{IsAt}
 use Rattle.cy_trace.specs.declared.trace.TraceComponent.{TraceComponent}
 use Rattle.cy_verify.specs.private.Leading.{Ended, IsRun, IsHere, AreHere}
 use Rattle.cy_verify.proofs.Heard.{get_front}

@@ -3,10 +3,9 @@ use Rattle.std.proofs.Common.{ℕ, zero, suc, ◌+◌, ◌-◌, ◌≡◌, ◌�
 use Rattle.std.proofs.lemmas.Bool.Decides.{eqb_tells}
 use Rattle.std.proofs.lemmas.List.{length-map}
 use Rattle.std.proofs.lemmas.List.Sums.{sum_by-cons}
+use Rattle.cy_msg.proofs.Lists.{place, there}
 use Rattle.cy_fuse.specs.Fusion.{Arrival}
 use Rattle.wake_core.specs.Plain.{of_role}
-use Rattle.wake_core.proofs.Places.{place}
-use Rattle.wake_core.proofs.Arriving.{there}
 
 one : {X : Type 0} {a b : X} → Some a ≡ Some b → a ≡ b
 one e = cc

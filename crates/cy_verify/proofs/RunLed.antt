@@ -17,7 +17,7 @@ use Rattle.wake_core.specs.LawfulRun.{LawfulRun}
 use Rattle.wake_core.specs.Plain.{Plain, found_by, last_of, lists_reader, made_of, reads, stops, tail_at, taped_of}
 use Rattle.wake_core.specs.Planned.{planned_count}
 use Rattle.wake_core.specs.Sound.{NotRunning}
-use Rattle.wake_core.proofs.Arriving.{arrived_few}
+use Rattle.wake_core.proofs.Cited.{arrived_few}
 use Rattle.wake_core.specs.Rest.{run_shown}
 use Rattle.wake_core.specs.Run.{routes_of}
 use Rattle.cy_trace.specs.TraceOfRun.{trace_component, trace_components}

@@ -5,12 +5,12 @@ use Rattle.cy_msg.specs.declared.token.Token.{Token}
 use Rattle.cy_msg.specs.declared.token.Tuple.{Tuple}
 use Rattle.cy_msg.specs.Tuple.{messages_of}
 use Rattle.cy_msg.specs.Tokens.{on_channel, IsNumbered}
+use Rattle.cy_msg.proofs.Lists.{get_append, get_snoc, get_taken}
 use Rattle.cy_fuse.specs.Fusion.{Arrival, later_or, latest, latest_of, joined, added, fused_after, fused}
 use Rattle.cy_comp.specs.declared.call.Call.{Call}
 use Rattle.cy_trace.specs.declared.trace.TraceComponent.{TraceComponent}
 use Rattle.wake_core.specs.declared.route.Route.{Route}
-use Rattle.wake_core.proofs.Listing.{get_append, get_snoc, get_taken}
-use Rattle.wake_core.proofs.Standing.{get_parts}
+use Rattle.wake_core.proofs.Cited.{get_parts}
 use Rattle.cy_verify.specs.declared.follower.Follower.{Follower}
 use Rattle.cy_verify.specs.private.Following.{IsSearched, Follows}
 use Rattle.cy_verify.specs.private.Passes.{TakesFrom}

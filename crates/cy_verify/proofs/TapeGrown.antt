@@ -1,7 +1,7 @@
 -- What a message more on the tape keeps of the components that are followed.
 use Rattle.std.proofs.Common.{ℕ, zero, suc, ◌+◌, ◌≡◌, ◌≢◌, ◌≤◌, ◌<◌, refl, sym, ◌∙◌, ap, subst, inl, inr, arith, List, [], ◌∷◌, ◌++◌, length, take, drop, map, filter, Some, None, Option, slice_get, slice_index, ◌==◌, Bool, true, false, cond, is_some, if◌then◌else◌, length-append, le_of_lt}
 use Rattle.std.proofs.lemmas.Bool.Decides.{eqb_tells}
-use Rattle.wake_core.proofs.Putting.{outs_none}
+use Rattle.wake_core.proofs.Cited.{outs_none, on_channel-own, on_channel-other, outs-push, length_outs-push, fused_arrived, tape_stands}
 use Rattle.std.proofs.lemmas.List.{take-append-le, take-append-drop, length-take}
 use Rattle.std.proofs.lemmas.Option.{slice_get_within}
 use Rattle.std.proofs.Math.Seq.{take-append_seam}
@@ -9,6 +9,7 @@ use Rattle.cy_msg.specs.declared.token.Token.{Token}
 use Rattle.cy_msg.specs.declared.token.Tuple.{Tuple}
 use Rattle.cy_msg.specs.Tuple.{messages_of}
 use Rattle.cy_msg.specs.Tokens.{on_channel, IsNumbered}
+use Rattle.cy_msg.proofs.Lists.{get_snoc, get_append}
 use Rattle.cy_fuse.specs.Fusion.{Arrival, fused}
 use Rattle.cy_comp.specs.declared.call.Call.{Call}
 use Rattle.cy_comp.specs.declared.call.Out.{Out}
@@ -16,10 +17,6 @@ use Rattle.cy_comp.specs.Calls.{outs, output}
 use Rattle.wake_core.specs.declared.route.Route.{Route}
 use Rattle.wake_core.specs.Plain.{of_role}
 use Rattle.wake_core.specs.Sound.{IsOutput, StandsOn}
-use Rattle.wake_core.proofs.Listing.{get_snoc, get_append}
-use Rattle.wake_core.proofs.Arrived.{on_channel-own, on_channel-other}
-use Rattle.wake_core.proofs.MoreCalls.{outs-push, length_outs-push}
-use Rattle.wake_core.proofs.Standing.{fused_arrived, tape_stands}
 use Rattle.cy_trace.specs.TraceOfRun.{trace_calls}
 use Rattle.cy_trace.specs.declared.trace.TraceComponent.{TraceComponent}
 use Rattle.cy_verify.specs.declared.follower.Follower.{Follower}

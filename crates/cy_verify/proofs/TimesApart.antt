@@ -3,6 +3,7 @@ use Rattle.std.proofs.Common.{ℕ, ◌≡◌, ◌<◌, ◌==◌, true, sym, ◌�
 use Rattle.std.proofs.lemmas.Bool.Decides.{eqb_tells}
 use Rattle.cy_msg.specs.declared.token.Token.{Token}
 use Rattle.cy_msg.specs.Tokens.{on_channel}
+use Rattle.cy_msg.proofs.Lists.{get_taken}
 use Rattle.cy_comp.specs.declared.plan.Plan.{Plan}
 use Rattle.cy_comp.specs.declared.call.Call.{Call}
 use Rattle.cy_comp.specs.Calls.{tuples_of, outs, output}
@@ -10,7 +11,6 @@ use Rattle.wake_core.specs.declared.route.Route.{Route}
 use Rattle.wake_core.specs.Run.{route_of, routes_of, writes_from}
 use Rattle.wake_core.specs.Plain.{Plain}
 use Rattle.wake_core.specs.Sound.{IsOutput, WasHeld, Sound}
-use Rattle.wake_core.proofs.Listing.{get_taken}
 use Rattle.cy_trace.proofs.OutsMade.{Made, outs_made, outs_count, passing}
 use Rattle.cy_verify.specs.private.Passes.{held_on, IsApart}
 use Rattle.cy_comp.proofs.Holding.{held_holds, holds_held}

@@ -3,7 +3,7 @@ use Rattle.std.proofs.Common.{ℕ, zero, suc, ◌+◌, ◌-◌, ◌≡◌, ◌�
 use Rattle.std.proofs.lemmas.Option.{slice_get_within}
 use Rattle.cy_msg.specs.declared.token.Token.{Token}
 use Rattle.cy_msg.specs.Tokens.{IsTimed}
-use Rattle.wake_core.proofs.Arriving.{there}
+use Rattle.cy_msg.proofs.Lists.{there}
 
 one : {X : Type 0} {a b : X} → Some a ≡ Some b → a ≡ b
 one e = cc

@@ -6,6 +6,7 @@ use Rattle.std.proofs.lemmas.List.{drop_all}
 use Rattle.cy_msg.specs.declared.token.Token.{Token}
 use Rattle.cy_msg.specs.declared.token.Tuple.{Tuple}
 use Rattle.cy_msg.specs.Tokens.{on_channel, IsTimed}
+use Rattle.cy_msg.proofs.Lists.{there}
 use Rattle.cy_fuse.specs.Fusion.{Arrival, fused}
 use Rattle.cy_fuse.specs.Fetch.{fetch}
 use Rattle.cy_fuse.specs.Laws.{FetchesFind}
@@ -26,11 +27,7 @@ use Rattle.wake_core.specs.Plain.{Plain, Stop, Ready, DataWait, Sleep, Finished,
 use Rattle.wake_core.specs.Sound.{HeldIn, Called, Delivered, Causal, Room, Wakes, Timely, Obedient, Sound, IsOutput}
 use Rattle.wake_core.specs.LawfulRun.{Quiet, LawfulRun}
 use Rattle.wake_core.specs.Rest.{IsToPlay}
-use Rattle.wake_core.proofs.Arriving.{there}
-use Rattle.wake_core.proofs.Beginning.{read_within_equal}
-use Rattle.wake_core.proofs.HeldTimes.{held_so}
-use Rattle.wake_core.proofs.Listed.{to_play_total}
-use Rattle.wake_core.proofs.Outputs.{outs_take}
+use Rattle.wake_core.proofs.Cited.{read_within_equal, held_so, to_play_total, outs_take}
 use Rattle.cy_trace.specs.declared.trace.TraceComponent.{TraceComponent}
 use Rattle.cy_verify.specs.Verdict.{Task}
 use Rattle.cy_verify.specs.declared.walk.Walk.{Walk}

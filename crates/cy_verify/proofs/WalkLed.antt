@@ -8,14 +8,14 @@ use Rattle.std.proofs.lemmas.List.Quantifiers.{position-Some}
 use Rattle.cy_msg.specs.declared.token.Token.{Token}
 use Rattle.cy_msg.specs.declared.play_list.PlayList.{PlayList}
 use Rattle.cy_msg.specs.Tokens.{on_channel}
+use Rattle.cy_msg.proofs.Lists.{take_next}
 use Rattle.cy_comp.specs.declared.plan.Plan.{Plan}
 use Rattle.cy_comp.specs.declared.wiring.Wiring.{Wiring}
 use Rattle.wake_core.specs.declared.route.Route.{Route}
 use Rattle.wake_core.specs.Plain.{Plain}
 use Rattle.wake_core.specs.Run.{played_of, route_of, routes_of, writes_from}
 use Rattle.wake_core.specs.WorldOf.{counts_in, stop_in}
-use Rattle.wake_core.proofs.Listing.{take_next}
-use Rattle.wake_core.proofs.Writers.{writes_some, counted_known}
+use Rattle.wake_core.proofs.Cited.{writes_some, counted_known}
 use Rattle.cy_trace.specs.declared.trace.TapeEntry.{TapeEntry}
 use Rattle.cy_trace.specs.declared.trace.Trace.{Trace}
 use Rattle.cy_trace.specs.declared.trace.TraceComponent.{TraceComponent}

@@ -13,16 +13,12 @@ use Rattle.wake_core.specs.declared.route.Route.{Route}
 use Rattle.wake_core.specs.declared.entries.TheConstants.{MOST_PLANNED}
 use Rattle.wake_core.specs.Planned.{first_reader, planned_count}
 use Rattle.wake_core.specs.Run.{played_of, route_of, routes_of, writes_from}
-use Rattle.wake_core.proofs.Arriving.{planned_trigger}
-use Rattle.wake_core.proofs.Arrived.{on_channel-own, on_channel-other}
-use Rattle.wake_core.proofs.Listing.{snoc_at, get_snoc, take_next}
-use Rattle.wake_core.proofs.Outputs.{outs_few}
-use Rattle.wake_core.proofs.Places.{place}
-use Rattle.wake_core.proofs.Writers.{unwritten_out, writes_own, planned_root, counted_known}
+use Rattle.wake_core.proofs.Cited.{planned_trigger, on_channel-own, on_channel-other, outs_few, unwritten_out, writes_own, planned_root, counted_known}
 use Rattle.cy_trace.specs.declared.trace.TraceComponent.{TraceComponent}
 use Rattle.cy_msg.specs.declared.play_list.PlayList.{PlayList}
 use Rattle.cy_comp.specs.declared.wiring.Wiring.{Wiring}
 use Rattle.std.proofs.lemmas.List.{length-map, map-append}
+use Rattle.cy_msg.proofs.Lists.{snoc_at, get_snoc, take_next, place}
 use Rattle.wake_core.specs.declared.fixed.Fixed.{Fixed}
 use Rattle.wake_core.specs.WorldOf.{counts_in, stop_in}
 use Rattle.cy_trace.specs.TraceOfRun.{tape_entry}

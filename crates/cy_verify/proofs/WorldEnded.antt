@@ -8,10 +8,9 @@ use Rattle.cy_comp.specs.declared.state.State.TheVariants.{Ready, DataWait, Fini
 use Rattle.wake_core.specs.declared.route.Route.{Route}
 use Rattle.wake_core.specs.Fields.{read, no_routine}
 use Rattle.wake_core.specs.Run.{route_of, routes_of}
-use Rattle.wake_core.proofs.Arriving.{there}
-use Rattle.wake_core.proofs.Listing.{get_in}
 use Rattle.cy_trace.specs.declared.trace.TraceComponent.{TraceComponent}
 use Rattle.cy_msg.specs.declared.token.Token.{Token}
+use Rattle.cy_msg.proofs.Lists.{there, get_in}
 use Rattle.cy_verify.specs.Verdict.{Task}
 use Rattle.cy_verify.specs.declared.follower.Follower.{Follower}
 use Rattle.cy_verify.specs.declared.walk.Walk.{Walk}

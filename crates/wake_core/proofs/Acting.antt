@@ -2,6 +2,7 @@
 use Rattle.std.proofs.Common.{ℕ, ◌≡◌, ◌≢◌, Bool, true, false, refl, sym, ◌∙◌, ap, subst, inl, inr, List, [], Option, Some, None, is_some, option_map, arith, ◌<◌, ◌∷◌, ◌++◌, length, slice_get, if◌then◌else◌}
 use Rattle.cy_msg.specs.declared.token.Token.{Token}
 use Rattle.cy_msg.specs.declared.token.Tuple.{Tuple}
+use Rattle.cy_msg.proofs.Lists.{get_last}
 use Rattle.cy_fuse.specs.Laws.{FetchesFind}
 use Rattle.cy_comp.specs.declared.call.Call.{Call}
 use Rattle.cy_comp.specs.declared.call.Outcome.{Outcome}
@@ -16,7 +17,6 @@ use Rattle.wake_core.specs.WorldCalls.{in_hand, phase_sent, MayTape, Taped, IsSt
 use Rattle.wake_core.specs.Rest.{IsAtRest}
 use Rattle.wake_core.specs.Turns.{Delivers, OutputDelivered, PlaysOne, MayPut, IsInHand, Calls, IsCalledFrom, MaySendOut, MayGiveBack, GivesBack, SendsOut, IsNamed, Resumes, Finds, is_held}
 use Rattle.wake_core.proofs.Places.{set_at_same, set_at_other}
-use Rattle.wake_core.proofs.Listing.{get_last}
 use Rattle.wake_core.proofs.Playing.{plays_by, idle_by}
 use Rattle.wake_core.proofs.Taping.{send_written}
 use Rattle.wake_core.proofs.Sending.{delivered_by}

@@ -5,10 +5,11 @@ use Rattle.std.proofs.lemmas.List.Elements.{filter-append}
 use Rattle.std.proofs.lemmas.List.{map-append}
 use Rattle.cy_msg.specs.declared.token.Token.{Token}
 use Rattle.cy_msg.specs.Tokens.{on_channel}
+use Rattle.cy_msg.proofs.Lists.{place}
 use Rattle.cy_fuse.specs.Fusion.{Arrival, added, fused_after, fused}
 use Rattle.wake_core.specs.Run.{set_at}
 use Rattle.wake_core.specs.Plain.{of_role}
-use Rattle.wake_core.proofs.Places.{place, set_at_there, set_at_other}
+use Rattle.wake_core.proofs.Places.{set_at_there, set_at_other}
 
 -- A message more on its own channel, ..
 pub on_channel-own : (channel : ℕ) (tape : List Token) (t : Token) → t.channel ≡ channel → on_channel channel (tape ++ t ∷ []) ≡ on_channel channel tape ++ t ∷ []

@@ -1,5 +1,5 @@
 -- How much comes to a reader, and to a component.
-use Rattle.std.proofs.Common.{ℕ, zero, suc, ◌+◌, ◌≡◌, ◌≤◌, ◌<◌, refl, arith, ap, List, [], ◌∷◌, length, slice_get, Some, take, map, sum, le_trans}
+use Rattle.std.proofs.Common.{ℕ, zero, suc, ◌+◌, ◌≡◌, ◌≤◌, arith, ap, List, [], ◌∷◌, length, slice_get, Some, take, map, sum, le_trans}
 use Rattle.std.proofs.lemmas.List.{length-take}
 use Rattle.std.proofs.lemmas.List.Sums.{sum_by-cons}
 use Rattle.cy_msg.specs.declared.token.Token.{Token}
@@ -18,12 +18,6 @@ shorter xs ys e = omega (arith, length-take (length xs) ys, ap length e)
 -- No more messages arrive in a role than are planned on its channel.
 pub arrived_few : (w : Plain) (c role channel : ℕ) → reads w.routes c role ≡ Some channel → Consistent w → length (of_role role (w.arrivals c)) ≤ planned_count w.routes w.counts channel
 arrived_few w c role channel reading s = le_trans (shorter (of_role role (w.arrivals c)) (on_channel channel w.tape) (s.delivered.begins c role channel reading)) (s.room.taped channel)
-
--- What stands at a place of a list.
-pub there : {X : Type 0} (xs : List X) (n : ℕ) → n < length xs → (x : X) × (slice_get xs n ≡ Some x)
-there [] n l = absurd (omega arith)
-there (x ∷ xs) zero l = (x, refl)
-there (x ∷ xs) (suc n) l = there xs n (omega arith)
 
 one_of_sum : {X : Type 0} (f : X → ℕ) (xs : List X) (n : ℕ) (x : X) → slice_get xs n ≡ Some x → f x ≤ sum (map f xs)
 one_of_sum f [] n x e = cc

@@ -6,6 +6,7 @@ use Rattle.std.proofs.lemmas.List.{length-append, length-replicate, drop_all}
 use Rattle.std.proofs.lemmas.Option.{slice_get-map}
 use Rattle.cy_msg.specs.declared.token.Token.{Token}
 use Rattle.cy_msg.specs.Tokens.{on_channel}
+use Rattle.cy_msg.proofs.Lists.{get_snoc}
 use Rattle.cy_fuse.specs.Fusion.{Arrival}
 use Rattle.cy_fuse.specs.Visitor.{VisitorView, prepared}
 use Rattle.cy_comp.specs.declared.plan.Plan.{Plan}
@@ -22,7 +23,6 @@ use Rattle.wake_core.specs.Fields.{read, no_visitor, no_routine, queue_of, IsVis
 use Rattle.wake_core.specs.private.Shown.{shown_calls, calls_at, fills_of, plain_at, IsFlagged, IsStepping, IsWaiting, IsOwing, AreOwing}
 use Rattle.wake_core.specs.private.Opening.{first_visitor, first_routine, IsNothing, AreNothing}
 use Rattle.wake_core.proofs.Runs.{opening_sound}
-use Rattle.wake_core.proofs.Listing.{get_snoc}
 use Rattle.wake_core.proofs.Counting.{sum_first}
 
 -- Lists of equal elements, and lists whose elements read as one value.

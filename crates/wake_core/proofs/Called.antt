@@ -6,6 +6,7 @@ use mathlib.Core.Path.{fun_ext}
 use Rattle.cy_msg.specs.declared.token.Token.{Token}
 use Rattle.cy_msg.specs.declared.token.Tuple.{Tuple}
 use Rattle.cy_msg.specs.Tokens.{on_channel}
+use Rattle.cy_msg.proofs.Lists.{place, get_last}
 use Rattle.cy_fuse.specs.Laws.{FetchesFind}
 use Rattle.cy_comp.specs.declared.call.Call.{Call}
 use Rattle.cy_comp.specs.declared.call.Out.{Out}
@@ -23,8 +24,7 @@ use Rattle.wake_core.specs.Laws.{Events}
 use Rattle.wake_core.specs.Sound.{Sound, Consistent}
 use Rattle.wake_core.specs.Rest.{run_shown, StaysFixed}
 use Rattle.wake_core.specs.Turns.{IsInHand, OutputDelivered, IsCalled, Keeps, Resumes, left_of}
-use Rattle.wake_core.proofs.Places.{place, set_at_same, set_at_there, set_at_other}
-use Rattle.wake_core.proofs.Listing.{get_last}
+use Rattle.wake_core.proofs.Places.{set_at_same, set_at_there, set_at_other}
 use Rattle.wake_core.proofs.Outputs.{last_push}
 use Rattle.wake_core.proofs.Totals.{call_in_room}
 use Rattle.wake_core.proofs.MoreCalls.{outs-push, length_outs-push}

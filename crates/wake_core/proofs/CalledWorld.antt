@@ -3,6 +3,7 @@ use Rattle.std.proofs.Common.{ℕ, ◌-◌, ◌^◌, ◌≡◌, ◌≢◌, ◌�
 use mathlib.Core.Path.{fun_ext}
 use Rattle.cy_msg.specs.declared.token.Token.{Token}
 use Rattle.cy_msg.specs.declared.token.Tuple.{Tuple}
+use Rattle.cy_msg.proofs.Lists.{place, get_last, there}
 use Rattle.cy_fuse.specs.Laws.{FetchesFind}
 use Rattle.cy_fuse.specs.Visitor.{VisitorView, visited}
 use Rattle.cy_comp.specs.declared.call.Call.{Call}
@@ -22,13 +23,12 @@ use Rattle.wake_core.specs.Fields.{read, no_visitor, no_routine, IsRoomy}
 use Rattle.wake_core.specs.private.Shown.{shown_calls, calls_at, IsWaiting}
 use Rattle.wake_core.specs.Turns.{IsInHand, Calls}
 use Rattle.wake_core.specs.Laws.{call_of}
-use Rattle.wake_core.proofs.Places.{place, set_at_same, set_at_there, set_at_other, set_at_again, set_at_itself}
+use Rattle.wake_core.proofs.Places.{set_at_same, set_at_there, set_at_other, set_at_again, set_at_itself}
 use Rattle.wake_core.proofs.HeldLaws.{not_running_of}
 use Rattle.wake_core.proofs.Reading.{read_is, read-set}
-use Rattle.wake_core.proofs.Listing.{get_last}
 use Rattle.wake_core.proofs.Outputs.{last_push}
 use Rattle.wake_core.proofs.Joining.{fused_messages}
-use Rattle.wake_core.proofs.Arriving.{there, fused_planned, planned_trigger}
+use Rattle.wake_core.proofs.Arriving.{fused_planned, planned_trigger}
 use Rattle.wake_core.proofs.Fetched.{next_visited}
 use Rattle.wake_core.proofs.Shown.{calls_stepped, none_waiting, called_world, found_waiting}
 use Rattle.wake_core.proofs.Stepped.{stepped_waiting, stepped_roomy}

@@ -8,6 +8,7 @@ use Rattle.cy_msg.specs.declared.token.Token.{Token}
 use Rattle.cy_msg.specs.declared.token.Tuple.{Tuple}
 use Rattle.cy_msg.specs.Tuple.{messages_of}
 use Rattle.cy_msg.specs.Tokens.{on_channel, IsNumbered}
+use Rattle.cy_msg.proofs.Lists.{place, get_append, get_snoc, snoc_at, take_next}
 use Rattle.cy_fuse.specs.Fusion.{Arrival, added, fused}
 use Rattle.cy_fuse.specs.Fetch.{fetch}
 use Rattle.cy_comp.specs.declared.call.Call.{Call}
@@ -15,8 +16,7 @@ use Rattle.cy_comp.specs.Step.{outcome_after, out_of}
 use Rattle.cy_comp.specs.Calls.{cursor_after, tail_after, tuples_of, last_outcome, is_last, outs, output, LawfulCalls}
 use Rattle.wake_core.specs.Run.{Route, set_at}
 use Rattle.wake_core.specs.Sound.{Called, Causal, IsOutput, StandsOn}
-use Rattle.wake_core.proofs.Places.{place, set_at_there, set_at_other}
-use Rattle.wake_core.proofs.Listing.{get_append, get_snoc, snoc_at, take_next}
+use Rattle.wake_core.proofs.Places.{set_at_there, set_at_other}
 use Rattle.wake_core.proofs.Arrived.{on_channel-own, fused-append}
 use Rattle.wake_core.proofs.Fetching.{cursor_push}
 

@@ -1,12 +1,13 @@
 -- What each event keeps of holders, states, calls, deliveries, causes and room, where it makes no call and tapes nothing.
 use Rattle.std.proofs.Common.{ℕ, ◌≡◌, ◌≢◌, ◌⊎◌, ◌<◌, Bool, true, false, true≢false, Option, Some, refl, sym, ◌∙◌, ap, inl, inr, List, [], ◌∷◌, ◌++◌, length, None, if◌then◌else◌}
+use Rattle.cy_msg.proofs.Lists.{place, get_in}
 use Rattle.cy_comp.specs.declared.call.Outcome.{Outcome}
 use Rattle.wake_core.specs.Run.{set_at}
 use Rattle.wake_core.specs.Plain.{Plain, Stop, Hand, hand, State, Ready, DataWait, Sleep, Finished, Fresh, Woken, Known, Checked, Stopping, Asked, Empty, Running, LastSending, Done, stops, made_of, taped_of, unsent_of, outs_of, lists}
 use Rattle.wake_core.specs.Events.{IsFree, phase_after_spend, phase_after_check, is_waiting, after_acquire, after_spend, after_ready, after_check, after_stop, after_ask, after_none, after_fill, after_look, after_clear, MayYield, after_yield, after_release}
 use Rattle.wake_core.specs.Sound.{Held, HeldIn, Consistent, state_in, is_ending}
-use Rattle.wake_core.proofs.Places.{place, set_at_there, set_at_other}
-use Rattle.wake_core.proofs.Listing.{lists_wider, lists_snoc, lists_first, lists_rest, get_in}
+use Rattle.wake_core.proofs.Places.{set_at_there, set_at_other}
+use Rattle.wake_core.proofs.Listing.{lists_wider, lists_snoc, lists_first, lists_rest}
 use Rattle.wake_core.proofs.HeldLaws.{acquire_held, phase_held, ready_held, ask_held, release_held, yield_empty_held, yield_running_held, yield_sending_held, yield_stopped_held}
 use Rattle.wake_core.proofs.Delivering.{hand_delivered, phase_delivered, idle_hand_delivered, renew_delivered, fill_delivered}
 use Rattle.wake_core.proofs.Calling.{arrival_called, arrival_causal}

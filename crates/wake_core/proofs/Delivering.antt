@@ -5,14 +5,15 @@ use Rattle.std.proofs.lemmas.List.{take-append-le, length-drop, length-take}
 use Rattle.std.proofs.lemmas.Bool.Decides.{nat_tests, eqb_tells}
 use Rattle.cy_msg.specs.declared.token.Token.{Token}
 use Rattle.cy_msg.specs.Tokens.{on_channel}
+use Rattle.cy_msg.proofs.Lists.{place, get_snoc, snoc_at, take_next}
 use Rattle.cy_fuse.specs.Fusion.{Arrival}
 use Rattle.cy_comp.specs.declared.call.Call.{Call}
 use Rattle.cy_comp.specs.Calls.{outs}
 use Rattle.wake_core.specs.Run.{Route, set_at, readers_of, writes_from}
 use Rattle.wake_core.specs.Plain.{Hand, hand, Phase, reads, of_role, lists, lists_reader}
 use Rattle.wake_core.specs.Sound.{Delivered, IsFilled, is_handing, hands_on}
-use Rattle.wake_core.proofs.Places.{place, set_at_there, set_at_other}
-use Rattle.wake_core.proofs.Listing.{get_snoc, snoc_at, take_next, lists_snoc}
+use Rattle.wake_core.proofs.Places.{set_at_there, set_at_other}
+use Rattle.wake_core.proofs.Listing.{lists_snoc}
 use Rattle.wake_core.proofs.Readers.{lists_reader_first, lists_reader_other, reader_reads, reads_reader, left_once, left_reads}
 use Rattle.wake_core.proofs.Arrived.{on_channel-own, on_channel-other, role_own, role_other}
 

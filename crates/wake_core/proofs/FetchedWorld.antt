@@ -1,6 +1,7 @@
 -- What a fetch finds in a world, over its fields.
 use Rattle.std.proofs.Common.{ℕ, ◌≡◌, ◌<◌, ◌∷◌, ◌++◌, sym, ◌∙◌, ap, arith, Option, Some, None, List, [], length, get_or, option_map}
 use Rattle.cy_msg.specs.declared.token.Tuple.{Tuple}
+use Rattle.cy_msg.proofs.Lists.{there}
 use Rattle.cy_fuse.specs.Laws.{FetchesFind}
 use Rattle.cy_fuse.specs.Visitor.{VisitorView, visited}
 use Rattle.cy_comp.specs.declared.call.Call.{Call}
@@ -14,7 +15,6 @@ use Rattle.wake_core.specs.WorldOf.{plain_of, to_step}
 use Rattle.wake_core.specs.WorldCalls.{in_hand, MayFetch}
 use Rattle.wake_core.specs.Fields.{read, no_visitor, no_routine}
 use Rattle.wake_core.specs.private.Shown.{shown_calls}
-use Rattle.wake_core.proofs.Arriving.{there}
 use Rattle.wake_core.proofs.Reading.{read_is}
 use Rattle.wake_core.specs.Laws.{call_of}
 use Rattle.wake_core.proofs.Fetched.{next_visited}

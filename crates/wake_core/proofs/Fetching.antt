@@ -3,13 +3,13 @@ use Rattle.std.proofs.Common.{ℕ, zero, suc, ◌+◌, ◌-◌, ◌≡◌, ◌�
 use Rattle.std.proofs.lemmas.Option.{slice_get_within}
 use Rattle.std.proofs.Math.Seq.{take-length}
 use Rattle.cy_msg.specs.declared.token.Token.{Token}
+use Rattle.cy_msg.proofs.Lists.{take_next}
 use Rattle.cy_fuse.specs.Fusion.{Arrival, joined, latest_of, fused_after, fused}
 use Rattle.cy_fuse.specs.Laws.{FetchesFind}
 use Rattle.cy_comp.specs.declared.call.Call.{Call}
 use Rattle.cy_comp.specs.Calls.{cursor_after, tail_after, LawfulCalls}
 use Rattle.wake_core.specs.Run.{Route}
 use Rattle.wake_core.specs.Plain.{of_role}
-use Rattle.wake_core.proofs.Listing.{take_next}
 
 pub cursor_push : (calls : List Call) (x : Call) → cursor_after (calls ++ x ∷ []) ≡ x.position + 1
 cursor_push [] x = refl

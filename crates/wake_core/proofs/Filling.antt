@@ -2,6 +2,7 @@
 use Rattle.std.proofs.Common.{ℕ, zero, suc, ◌+◌, ◌-◌, ◌≡◌, ◌≤◌, ◌<◌, ◌==◌, Bool, true, false, if◌then◌else◌, refl, sym, ◌∙◌, ap, inl, inr, arith, Option, Some, None, List, [], ◌∷◌, ◌++◌, length, length-append, get_or, set, slice_get, drop, map, sum}
 use Rattle.std.proofs.lemmas.Option.{slice_get_within}
 use Rattle.cy_msg.specs.declared.token.Token.{Token}
+use Rattle.cy_msg.proofs.Lists.{place}
 use Rattle.cy_fuse.specs.Fusion.{Arrival}
 use Rattle.cy_fuse.specs.Visitor.{VisitorView, arrived}
 use Rattle.cy_comp.specs.Routine.{RoutineView}
@@ -14,7 +15,7 @@ use Rattle.wake_core.specs.private.Owing.{FilledFirst, MayFillFirst}
 use Rattle.wake_core.specs.Fields.{read, IsVisited, IsRoomy}
 use Rattle.wake_core.specs.private.Shown.{fills_of, IsOwing}
 use Rattle.wake_core.specs.Sound.{Sound}
-use Rattle.wake_core.proofs.Places.{place, set_at_there, set_at_other}
+use Rattle.wake_core.proofs.Places.{set_at_there, set_at_other}
 use Rattle.wake_core.proofs.Reading.{read-set, read-set_same, read_is, read_within}
 use Rattle.wake_core.proofs.Readers.{lists_reader_first}
 use Rattle.wake_core.proofs.Delivering.{owes_channel}

@@ -1,12 +1,13 @@
 -- Acquire flags, and components that are still to be stepped, when a hand changes.
 use Rattle.std.proofs.Common.{ℕ, ◌≡◌, ◌≢◌, Bool, true, refl, sym, ◌∙◌, ap, inl, inr, arith, Option, Some, None}
+use Rattle.cy_msg.proofs.Lists.{place}
 use Rattle.wake_core.specs.declared.found.Found.{Found}
 use Rattle.wake_core.specs.Run.{set_at}
 use Rattle.wake_core.specs.Plain.{Hand, hand, Phase, Fresh, Running}
 use Rattle.wake_core.specs.Events.{IsFree}
 use Rattle.wake_core.specs.Sound.{NotRunning}
 use Rattle.wake_core.specs.private.Shown.{IsFlagged, IsStepping}
-use Rattle.wake_core.proofs.Places.{place, set_at_is, set_at_there, set_at_other}
+use Rattle.wake_core.proofs.Places.{set_at_is, set_at_there, set_at_other}
 
 -- Whom this thread doesn't hold, nor takes, is as free as before.
 free_before : (hands : ℕ → Option Hand) (p : ℕ) (new : Option Hand) (k : ℕ) → ((f : Phase) → hands p ≢ hand k f) → IsFree (set_at p new hands) k → IsFree hands k

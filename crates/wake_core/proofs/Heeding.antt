@@ -2,6 +2,7 @@
 use Rattle.std.proofs.Common.{ℕ, ◌+◌, ◌≡◌, ◌≢◌, ◌≤◌, ◌<◌, ◌⊎◌, ◌==◌, ◌&&◌, ◌||◌, Bool, true, false, true≢false, not, nat_lt, refl, sym, ◌∙◌, ap, subst, inl, inr, arith, List, [], ◌∷◌, ◌++◌, length, Option, Some, None, is_some, length-append}
 use Rattle.std.proofs.lemmas.Bool.Decides.{nat_tests, eqb_tells}
 use Rattle.cy_msg.specs.declared.token.Token.{Token}
+use Rattle.cy_msg.proofs.Lists.{place}
 use Rattle.cy_fuse.specs.Fusion.{Arrival}
 use Rattle.wake_core.specs.Run.{set_at, arrive}
 use Rattle.wake_core.specs.Plain.{Plain, Stop, State, Ready, DataWait, Sleep, Finished, stops, lists, lists_reader, of_role, unsent_of}
@@ -9,7 +10,7 @@ use Rattle.wake_core.specs.Events.{is_waiting, is_finished, IsDue}
 use Rattle.wake_core.specs.Serial.{Raised, heard_by, is_roused}
 use Rattle.wake_core.specs.Rest.{Heeds, is_loose}
 use Rattle.wake_core.specs.Turns.{flag_after, Keeps, Takes, Passes, is_woken, is_ready}
-use Rattle.wake_core.proofs.Places.{place, set_at_other}
+use Rattle.wake_core.proofs.Places.{set_at_other}
 use Rattle.wake_core.proofs.Arrived.{role_own, role_other}
 use Rattle.wake_core.proofs.Obeying.{named_stops}
 use Rattle.wake_core.proofs.Parking.{unsent_some}

@@ -1,12 +1,13 @@
 -- What a call, and an output that is sent, keep of holders, phases and states.
 use Rattle.std.proofs.Common.{ℕ, ◌≡◌, ◌≢◌, ◌≤◌, ◌<◌, ◌+◌, Bool, true, refl, sym, ◌∙◌, ap, subst, inl, inr, arith, Option, Some, None}
 use mathlib.Core.Path.{fun_ext}
+use Rattle.cy_msg.proofs.Lists.{place}
 use Rattle.cy_comp.specs.declared.call.Outcome.{Outcome}
 use Rattle.cy_comp.specs.Calls.{is_last, held_until}
 use Rattle.wake_core.specs.Run.{set_at}
 use Rattle.wake_core.specs.Plain.{Hand, hand, State, Ready, DataWait, Sleep, Phase, Asked, Running}
 use Rattle.wake_core.specs.Sound.{Held, NotRunning, state_in, is_ending}
-use Rattle.wake_core.proofs.Places.{place, set_at_there}
+use Rattle.wake_core.proofs.Places.{set_at_there}
 use Rattle.wake_core.proofs.HeldLaws.{not_running, moved, not_running_of}
 
 -- A call more of one component, with this outcome.

@@ -1,5 +1,6 @@
 -- What each event keeps of holders, phases and states.
 use Rattle.std.proofs.Common.{ℕ, ◌≡◌, ◌≢◌, ◌⊎◌, ◌<◌, Bool, true, false, refl, sym, ◌∙◌, ap, subst, inl, inr, arith, Option, Some, None, option_map}
+use Rattle.cy_msg.proofs.Lists.{place}
 use Rattle.cy_comp.specs.declared.call.Outcome.{Outcome}
 use Rattle.cy_comp.specs.declared.call.Outcome.TheVariants.{Emit, Hold, Last}
 use Rattle.cy_comp.specs.Calls.{is_last, held_until}
@@ -7,7 +8,7 @@ use Rattle.wake_core.specs.Run.{set_at}
 use Rattle.wake_core.specs.Plain.{Hand, hand, State, Ready, DataWait, Sleep, Finished, Phase, Fresh, Known, Checked, Asked, Empty, Running, Sending, Done}
 use Rattle.wake_core.specs.Events.{IsFree, state_after}
 use Rattle.wake_core.specs.Sound.{Held, NotRunning, state_in, is_ending}
-use Rattle.wake_core.proofs.Places.{place, set_at_is, set_at_there, set_at_other}
+use Rattle.wake_core.proofs.Places.{set_at_is, set_at_there, set_at_other}
 
 -- Who isn't Running after a thread's hand changed was not before, if that thread wasn't.
 pub not_running : (hands : ℕ → Option Hand) (p : ℕ) (new : Option Hand) (k : ℕ) → hands p ≢ hand k Running → NotRunning (set_at p new hands) k

@@ -2,6 +2,7 @@
 use Rattle.std.proofs.Common.{ℕ, ◌+◌, ◌-◌, ◌≡◌, ◌≢◌, ◌≤◌, ◌<◌, refl, sym, ◌∙◌, ap, subst, inl, inr, arith, Some, None, length, take, slice_get, length-append}
 use Rattle.std.proofs.lemmas.Option.{slice_get_within}
 use Rattle.cy_msg.specs.declared.token.Token.{Token}
+use Rattle.cy_msg.proofs.Lists.{take_next}
 use Rattle.cy_comp.specs.declared.call.Call.{Call}
 use Rattle.cy_comp.specs.declared.call.Out.{Out}
 use Rattle.cy_comp.specs.declared.call.Outcome.{Outcome}
@@ -12,7 +13,6 @@ use Rattle.wake_core.specs.Run.{Route}
 use Rattle.wake_core.specs.Plain.{Plain, Phase, Ready, last_of, unsent_of}
 use Rattle.wake_core.specs.Events.{MaySend}
 use Rattle.wake_core.specs.Sound.{Consistent, IsOutput, WasHeld, Timely}
-use Rattle.wake_core.proofs.Listing.{take_next}
 use Rattle.wake_core.proofs.Outputs.{put_out, put_out_one, outs_push, outs_take, last_at}
 use Rattle.wake_core.specs.TapeLaws.{IsUnsent}
 use Rattle.wake_core.proofs.Taping.{unsent_is, unsent_less, from_held}

@@ -76,3 +76,4 @@ pub mod Parting
 pub mod Outside
 pub mod Led
 pub mod CalledWorld
+pub mod Cited

@@ -1,8 +1,8 @@
 -- What is planned is within the limit, part by part.
 use Rattle.std.proofs.Common.{ℕ, zero, suc, ◌+◌, ◌≤◌, ◌<◌, inl, inr, arith, List, length}
+use Rattle.cy_msg.proofs.Lists.{place}
 use Rattle.wake_core.specs.Run.{Route}
 use Rattle.wake_core.specs.Planned.{planned, planned_count, counts_from}
-use Rattle.wake_core.proofs.Places.{place}
 
 pub counts_in : (routes : List Route) (counts : List ℕ) (first more channel : ℕ) → first ≤ channel → channel < first + more → planned_count routes counts channel ≤ counts_from routes counts first more
 counts_in routes counts first zero channel a b = absurd (omega (arith, a, b))

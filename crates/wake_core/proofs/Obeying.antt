@@ -7,13 +7,13 @@ use Rattle.std.proofs.lemmas.Option.{slice_get_within, slice_get_cases}
 use Rattle.cy_msg.specs.declared.token.Token.{Token}
 use Rattle.cy_msg.specs.Tuple.{messages_of}
 use Rattle.cy_msg.specs.Tokens.{on_channel}
+use Rattle.cy_msg.proofs.Lists.{place, get_snoc, get_taken}
 use Rattle.cy_fuse.specs.Fusion.{fused}
 use Rattle.cy_comp.specs.declared.call.Call.{Call}
 use Rattle.wake_core.specs.Run.{Route, set_at, writes_from, played_of}
 use Rattle.wake_core.specs.Plain.{Plain, Stop, Hand, hand, Phase, Checked, Stopping, Asked, Running, stops}
 use Rattle.wake_core.specs.Sound.{StandsOn, IsLate, HasLate, Obedient, Consistent, is_asking}
-use Rattle.wake_core.proofs.Places.{place, set_at_is, set_at_there, set_at_other}
-use Rattle.wake_core.proofs.Listing.{get_snoc, get_taken}
+use Rattle.wake_core.proofs.Places.{set_at_is, set_at_there, set_at_other}
 use Rattle.wake_core.proofs.Standing.{item_stands}
 
 pub same_hand : (c k : ℕ) (f g : Phase) → hand c f ≡ hand k g → (c ≡ k) × (f ≡ g)

@@ -3,6 +3,7 @@ use Rattle.std.proofs.Common.{ℕ, zero, suc, ◌+◌, ◌-◌, ◌≡◌, ◌�
 use Rattle.std.proofs.Math.Seq.{take-length}
 use Rattle.cy_msg.specs.declared.token.Token.{Token}
 use Rattle.cy_msg.specs.declared.token.Tuple.{Tuple}
+use Rattle.cy_msg.proofs.Lists.{take_next}
 use Rattle.cy_comp.specs.declared.call.Call.{Call}
 use Rattle.cy_comp.specs.declared.call.Out.{Out}
 use Rattle.cy_comp.specs.declared.call.Outcome.{Outcome}
@@ -10,7 +11,6 @@ use Rattle.cy_comp.specs.declared.call.Outcome.TheVariants.{Emit, Hold, Last}
 use Rattle.cy_comp.specs.Step.{outcome_after, out_of}
 use Rattle.cy_comp.specs.Calls.{tuples_of, last_after, last_outcome, held_until, output, numbered, outs_after, outs}
 use Rattle.wake_core.specs.Run.{Route}
-use Rattle.wake_core.proofs.Listing.{take_next}
 
 -- What a call puts out behind so many outputs.
 pub put_out : (channel before : ℕ) → Option Out → List Token

@@ -6,6 +6,7 @@ use Rattle.std.proofs.lemmas.List.{length-append}
 use Rattle.std.proofs.lemmas.List.Quantifiers.{position-Some}
 use Rattle.std.proofs.lemmas.Option.{slice_get_within, slice_get-get_or}
 use Rattle.cy_msg.specs.declared.token.Token.{Token}
+use Rattle.cy_msg.proofs.Lists.{place}
 use Rattle.wake_core.specs.declared.owed.Owed.{Owed}
 use Rattle.wake_core.specs.Run.{Route, set_at, readers_of}
 use Rattle.wake_core.specs.Plain.{Plain, lists, blank, reads}
@@ -15,7 +16,6 @@ use Rattle.wake_core.specs.Fields.{read}
 use Rattle.wake_core.specs.private.Shown.{fills_of, IsOwing, AreOwing}
 use Rattle.wake_core.specs.Sound.{Sound}
 use Rattle.wake_core.specs.private.Owing.{MayLookAt, LookedAt, IsTakenOut}
-use Rattle.wake_core.proofs.Places.{place}
 use Rattle.wake_core.proofs.Listing.{lists_first}
 use Rattle.wake_core.proofs.Reading.{read-set, read-set_same, read_is, read_within}
 

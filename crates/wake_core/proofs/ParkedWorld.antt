@@ -1,5 +1,6 @@
 -- A croutine that is parked, in a world at rest, over its fields.
 use Rattle.std.proofs.Common.{ℕ, ◌+◌, ◌≡◌, ◌<◌, ◌&&◌, true, not, refl, sym, ◌∙◌, ap, arith, Option, Some, None, [], length, get_or, set, is_some, option_map}
+use Rattle.cy_msg.proofs.Lists.{there}
 use Rattle.cy_fuse.specs.Laws.{FetchesFind}
 use Rattle.cy_fuse.specs.Visitor.{VisitorView, position_at}
 use Rattle.cy_comp.specs.Calls.{cursor_after, output}
@@ -12,7 +13,6 @@ use Rattle.wake_core.specs.private.Shown.{calls_at}
 use Rattle.wake_core.specs.Rest.{IsAtRest}
 use Rattle.wake_core.specs.Turns.{is_ready, finds_nothing, parked_world}
 use Rattle.wake_core.proofs.Reading.{read_is, read-set}
-use Rattle.wake_core.proofs.Arriving.{there}
 use Rattle.wake_core.proofs.Fetched.{found_visited}
 use Rattle.wake_core.proofs.Shown.{calls_stepped}
 use Rattle.wake_core.proofs.Showing.{unsent_is}

@@ -3,6 +3,7 @@ use Rattle.std.proofs.Common.{ℕ, zero, suc, ◌≡◌, ◌≢◌, ◌<◌, ◌
 use Rattle.std.proofs.lemmas.Bool.Decides.{nat_tests}
 use Rattle.std.proofs.lemmas.Option.{slice_get_within, slice_get_past}
 use Rattle.cy_msg.specs.declared.token.Token.{Token}
+use Rattle.cy_msg.proofs.Lists.{place}
 use Rattle.cy_fuse.specs.Fetch.{fetch}
 use Rattle.cy_comp.specs.declared.call.Outcome.{Outcome}
 use Rattle.cy_comp.specs.Calls.{held_until, last_outcome}
@@ -13,7 +14,6 @@ use Rattle.wake_core.specs.Events.{is_finished}
 use Rattle.wake_core.specs.Sound.{Sound, Consistent, NotRunning}
 use Rattle.wake_core.specs.Rest.{IsAtRest, run_shown}
 use Rattle.wake_core.specs.Turns.{IsParked, IsInHand}
-use Rattle.wake_core.proofs.Places.{place}
 use Rattle.wake_core.proofs.Listing.{lists_first, lists_rest}
 
 -- Whether a component can be resumed, by whether it has ended, its last outcome, whether an output is unsent, and whether there is something for it to do.

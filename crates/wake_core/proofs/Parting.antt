@@ -7,6 +7,7 @@ use Rattle.std.proofs.lemmas.List.{drop_all}
 use Rattle.std.proofs.lemmas.Option.{slice_get_within, slice_get-get_or}
 use Rattle.cy_msg.specs.declared.token.Token.{Token}
 use Rattle.cy_msg.specs.Tokens.{on_channel}
+use Rattle.cy_msg.proofs.Lists.{get_in}
 use Rattle.cy_fuse.specs.Visitor.{VisitorView}
 use Rattle.cy_comp.specs.declared.call.Call.{Call}
 use Rattle.cy_comp.specs.declared.call.Out.{Out}
@@ -29,7 +30,6 @@ use Rattle.wake_core.specs.Rest.{IsAtRest, at_rest}
 use Rattle.wake_core.specs.Parts.{routine_in, shown_by, AreFit}
 use Rattle.wake_core.specs.private.Sent.{outputs_of, waiting_of, sent_count, IsCounted, AreCounted}
 use Rattle.wake_core.proofs.Reading.{read_at, read_past}
-use Rattle.wake_core.proofs.Listing.{get_in}
 use Rattle.wake_core.proofs.Limits.{count_limit}
 use Rattle.wake_core.proofs.Outputs.{outs_but_last}
 use Rattle.wake_core.proofs.Showing.{some_route, routine_of}

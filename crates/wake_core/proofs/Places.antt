@@ -2,6 +2,7 @@
 use Rattle.std.proofs.Common.{ℕ, ◌≡◌, ◌≢◌, ◌⊎◌, cond, refl, sym, ◌∙◌, ap, inl, inr}
 use Rattle.std.proofs.lemmas.Bool.Decides.{eqb_tells}
 use mathlib.Core.Path.{fun_ext}
+use Rattle.cy_msg.proofs.Lists.{place}
 use Rattle.wake_core.specs.Run.{set_at}
 
 pub set_at_same : {X : Type 0} (i : ℕ) (x : X) (f : ℕ → X) → set_at i x f i ≡ x
@@ -23,10 +24,6 @@ set_at_itself i f = fun_ext (λ k. elim (eqb_tells k i) [
   | inl h ↦ ap (λ b. cond b (f i) (f k)) h.0 ∙ ap f (sym h.1)
   | inr h ↦ ap (λ b. cond b (f i) (f k)) h.0
 ])
-
--- One place, or another.
-pub place : (k i : ℕ) → (k ≡ i) ⊎ (k ≢ i)
-place k i = elim (eqb_tells k i) [ inl h ↦ inl h.1 | inr h ↦ inr h.1 ]
 
 pub set_at_there : {X : Type 0} (i : ℕ) (x : X) (f : ℕ → X) (k : ℕ) → k ≡ i → set_at i x f k ≡ x
 unfolding set_at

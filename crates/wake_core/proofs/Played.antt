@@ -8,6 +8,7 @@ use Rattle.cy_msg.specs.declared.token.Token.{Token}
 use Rattle.cy_msg.specs.declared.placement.ContextPlan.{ContextPlan}
 use Rattle.cy_msg.specs.Placement.{scan_of}
 use Rattle.cy_msg.specs.Tokens.{on_channel, IsNumbered, IsTimed}
+use Rattle.cy_msg.proofs.Lists.{take_next}
 use Rattle.cy_comp.specs.Calls.{outs}
 use Rattle.cy_comp.specs.Laws.{OutcomesAreAnswers}
 use Rattle.wake_core.specs.Run.{Route, Run, opening, readers_of, writes_from, played_of}
@@ -22,7 +23,6 @@ use Rattle.wake_core.specs.LawfulRun.{Quiet, LawfulRun}
 use Rattle.wake_core.specs.Rest.{IsAtRest, run_shown, IsOpening, IsToPlay, IsScanOf, MayPlay, StaysMade, HeedsStop, Heeds, is_loose}
 use Rattle.wake_core.specs.WorldCalls.{MayStop}
 use Rattle.wake_core.specs.Turns.{PlaysOne, MayPut, IsSettled, IsPlayedTo, MayPlayOn, PlaysOn, place_of}
-use Rattle.wake_core.proofs.Listing.{take_next}
 use Rattle.wake_core.proofs.Listed.{on_played, to_play_total}
 use Rattle.wake_core.proofs.Heeding.{heeds_on, told_keeps, sleeper_holds, hears_more}
 use Rattle.wake_core.proofs.Ending.{settled_quiet}

@@ -3,6 +3,7 @@ use Rattle.std.proofs.Common.{ℕ, ◌≡◌, ◌≢◌, Bool, not, refl, sym, �
 use Rattle.std.proofs.lemmas.List.Elements.{filter-append}
 use mathlib.Core.Path.{fun_ext}
 use Rattle.cy_msg.specs.declared.token.Token.{Token}
+use Rattle.cy_msg.proofs.Lists.{place}
 use Rattle.cy_fuse.specs.Fusion.{Arrival}
 use Rattle.cy_comp.specs.declared.call.Call.{Call}
 use Rattle.wake_core.specs.Run.{Route, Run, set_at, arrive, readers_of, writes_from, played_of}
@@ -13,7 +14,7 @@ use Rattle.wake_core.specs.Laws as event
 use Rattle.wake_core.specs.Laws.{IsIdle}
 use Rattle.wake_core.specs.Rest.{IsAtRest, run_shown}
 use Rattle.wake_core.specs.Turns.{Delivers, PlaysOne, flag_after}
-use Rattle.wake_core.proofs.Places.{place, set_at_same, set_at_there, set_at_other}
+use Rattle.wake_core.proofs.Places.{set_at_same, set_at_there, set_at_other}
 use Rattle.wake_core.proofs.Taping.{played_taped}
 
 -- What a world shows is a run where each part of it is, but for what has ended.

@@ -4,6 +4,7 @@ use Rattle.std.proofs.lemmas.Option.{slice_get_within}
 use Rattle.std.proofs.Math.Seq.{take-append_seam}
 use Rattle.cy_msg.specs.declared.token.Token.{Token}
 use Rattle.cy_msg.specs.Tokens.{on_channel}
+use Rattle.cy_msg.proofs.Lists.{get_last}
 use Rattle.cy_comp.specs.declared.call.Call.{Call}
 use Rattle.cy_comp.specs.declared.call.Out.{Out}
 use Rattle.cy_comp.specs.Step.{outcome_after, out_of}
@@ -13,7 +14,6 @@ use Rattle.wake_core.specs.Serial.{last_out}
 use Rattle.wake_core.specs.Plain.{Plain}
 use Rattle.wake_core.specs.Sound.{Consistent}
 use Rattle.wake_core.proofs.Outputs.{last_push, outs_few}
-use Rattle.wake_core.proofs.Listing.{get_last}
 use Rattle.wake_core.specs.TapeLaws.{IsUnsent}
 use Rattle.wake_core.proofs.MoreCalls.{outs-push, length_outs-push}
 

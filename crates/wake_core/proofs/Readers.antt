@@ -1,9 +1,9 @@
 -- The readers of a channel: who is among them, each once.
 use Rattle.std.proofs.Common.{ℕ, zero, suc, ◌+◌, ◌-◌, ◌≡◌, ◌≤◌, Bool, true, false, refl, sym, ◌∙◌, ap, subst, inl, inr, arith, List, [], ◌∷◌, ◌++◌, Some, ◌==◌, ◌||◌, ◌&&◌, slice_get, drop, cond}
 use Rattle.std.proofs.lemmas.Bool.Decides.{nat_tests, eqb_tells}
+use Rattle.cy_msg.proofs.Lists.{either}
 use Rattle.wake_core.specs.Run.{Route, roles_of, readers_from, readers_of}
 use Rattle.wake_core.specs.Plain.{lists_reader, reads}
-use Rattle.wake_core.proofs.Listing.{either}
 
 is_reader : (u i v j : ℕ) → (u == v) && (i == j) ≡ true → (u ≡ v) × (i ≡ j)
 is_reader u i v j e = (grind (arith, nat_tests, e), grind (arith, nat_tests, e))

@@ -3,10 +3,11 @@ use Rattle.std.proofs.Common.{ℕ, zero, suc, ◌≡◌, ◌≢◌, ◌<◌, ◌
 use Rattle.std.proofs.lemmas.List.{map-set, get_or-map, length-map}
 use Rattle.std.proofs.Math.Seq.{map-set_same}
 use mathlib.Core.Path.{fun_ext}
+use Rattle.cy_msg.proofs.Lists.{place}
 use Rattle.wake_core.specs.Run.{set_at}
 use Rattle.wake_core.specs.Plain.{Plain, Hand}
 use Rattle.wake_core.specs.Fields.{read}
-use Rattle.wake_core.proofs.Places.{place, set_at_there, set_at_other}
+use Rattle.wake_core.proofs.Places.{set_at_there, set_at_other}
 
 -- A list that was written at one place.
 pub read-set : {X Y : Type 0} (g : X → Y) (d : Y) (xs : List X) (i : ℕ) (x : X) → i < length xs → read g d (set xs i x) ≡ set_at i (g x) (read g d xs)

@@ -2,12 +2,12 @@
 use Rattle.std.proofs.Common.{ℕ, ◌+◌, ◌≡◌, ◌≤◌, ◌<◌, sym, ap, inl, inr, arith, List, [], ◌∷◌, ◌++◌, length, Some, slice_get, length-append}
 use Rattle.cy_msg.specs.declared.token.Token.{Token}
 use Rattle.cy_msg.specs.Tokens.{on_channel}
+use Rattle.cy_msg.proofs.Lists.{place, get_snoc}
 use Rattle.cy_comp.specs.declared.call.Call.{Call}
 use Rattle.wake_core.specs.Run.{Route, set_at}
 use Rattle.wake_core.specs.Planned.{planned_count, first_reader}
 use Rattle.wake_core.specs.Sound.{Room}
-use Rattle.wake_core.proofs.Places.{place, set_at_there, set_at_other}
-use Rattle.wake_core.proofs.Listing.{get_snoc}
+use Rattle.wake_core.proofs.Places.{set_at_there, set_at_other}
 use Rattle.wake_core.proofs.Arrived.{on_channel-own, on_channel-other}
 
 module _ {routes : List Route} {counts : List ℕ} {calls : ℕ → List Call} {tape : List Token} where

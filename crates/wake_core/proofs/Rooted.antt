@@ -7,6 +7,7 @@ use Rattle.std.proofs.lemmas.Option.{slice_get-map, slice_get_within, slice_get-
 use Rattle.std.proofs.lemmas.Map.Steps.{length-le_from_distinct_below}
 use Rattle.std.specs.List.{list_any, IsDistinct, AllByRecursion}
 use Rattle.cy_msg.specs.declared.token.Tuple.{Tuple}
+use Rattle.cy_msg.proofs.Lists.{either}
 use Rattle.cy_comp.specs.declared.plan.Plan.{Plan}
 use Rattle.cy_comp.specs.declared.call.Out.{Out}
 use Rattle.cy_comp.specs.declared.call.Outcome.TheVariants.{Hold}
@@ -15,7 +16,6 @@ use Rattle.cy_comp.specs.Wiring.{IsWiring, writer_from, writer_of, trigger_of, t
 use Rattle.wake_core.specs.Run.{Route, route_of, routes_of, writes_from}
 use Rattle.wake_core.specs.Planned.{planned_count, source_of, source_after, first_reader}
 use Rattle.wake_core.specs.Sound.{IsWired}
-use Rattle.wake_core.proofs.Listing.{either}
 use Rattle.wake_core.proofs.Writers.{source_root, source_after_root, unwritten_out, writes_some, IsWriter}
 
 pub writes_from-routes : (first : ℕ) (plans : List Plan) (channel : ℕ) → writes_from first (routes_of plans) channel ≡ writer_from (λ (p : Plan). p.out) first plans channel

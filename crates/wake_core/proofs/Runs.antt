@@ -3,6 +3,7 @@ use Rattle.std.proofs.Common.{ℕ, ◌-◌, ap₂, drop, false, ◌≡◌, ◌�
 use Rattle.std.proofs.Math.Seq.{take-length, take-append_seam}
 use mathlib.Core.Path.{fun_ext}
 use Rattle.cy_msg.specs.declared.token.Token.{Token}
+use Rattle.cy_msg.proofs.Lists.{place}
 use Rattle.cy_fuse.specs.Laws.{FetchesFind}
 use Rattle.cy_comp.specs.declared.call.Call.{Call}
 use Rattle.cy_comp.specs.Calls.{last_outcome, outs, is_last}
@@ -12,7 +13,7 @@ use Rattle.wake_core.specs.Events.{OwesNothing, next_call, after_fetch, Fetches}
 use Rattle.wake_core.specs.Sound.{IsWired, HeldIn, Consistent, Sound}
 use Rattle.wake_core.specs.LawfulRun.{Lost}
 use Rattle.wake_core.specs.Laws.{KeepsCalls, Event, acquire, spend, ready, check, stop, ask, fetch, tape, send, fill, look, clear, yield_as, release, tick, close, Events, none, more, IsIdle, with_idle}
-use Rattle.wake_core.proofs.Places.{place, set_at_there, set_at_other, set_at_itself}
+use Rattle.wake_core.proofs.Places.{set_at_there, set_at_other, set_at_itself}
 use Rattle.wake_core.proofs.Sounding.{acquire_sound, spend_sound, ready_sound, check_sound, stop_sound, ask_sound, fetch_sound, tape_sound, send_sound, fill_sound, look_sound, clear_sound, yield_sound, release_sound, tick_sound, close_sound}
 
 -- Before any call there is no outcome, and nothing is put out.

@@ -3,12 +3,13 @@ use Rattle.std.proofs.Common.{ℕ, zero, suc, ◌+◌, ◌≡◌, ◌<◌, Bool,
 use Rattle.std.proofs.lemmas.Option.{slice_get-get_or}
 use Rattle.cy_msg.specs.declared.placement.ContextPlan.{ContextPlan}
 use Rattle.cy_msg.specs.Placement.{scan_of}
+use Rattle.cy_msg.proofs.Lists.{take_next}
 use Rattle.wake_core.specs.Run.{Route}
 use Rattle.wake_core.specs.Plain.{Plain, lists}
 use Rattle.wake_core.specs.Sound.{Sound}
 use Rattle.wake_core.specs.Rest.{IsAtRest}
 use Rattle.wake_core.specs.Turns.{Passes, Finds, IsTaken}
-use Rattle.wake_core.proofs.Listing.{take_next, lists_first, lists_rest, lists_left}
+use Rattle.wake_core.proofs.Listing.{lists_first, lists_rest, lists_left}
 use Rattle.wake_core.proofs.Taking.{passes_more, finds_here, finds_later, finds_first}
 
 pub lists_get : (xs : List ℕ) (i x : ℕ) → slice_get xs i ≡ Some x → lists x xs ≡ true

@@ -2,6 +2,7 @@
 use Rattle.std.proofs.Common.{ℕ, ◌≡◌, ◌≢◌, ◌≤◌, refl, sym, ◌∙◌, ap, subst, inl, inr, arith, Option, Some, None, option_map, slice_get}
 use Rattle.std.specs.Option.{option_map_or}
 use Rattle.cy_msg.specs.declared.token.Token.{Token}
+use Rattle.cy_msg.proofs.Lists.{there}
 use Rattle.wake_core.specs.declared.world.World.{World}
 use Rattle.wake_core.specs.declared.found.Found.{Found}
 use Rattle.wake_core.specs.Run.{Route, writes_from}
@@ -9,7 +10,6 @@ use Rattle.wake_core.specs.Plain.{Plain, Hand, hand, Phase, Running}
 use Rattle.wake_core.specs.Events.{Tapes, Sends, MaySend, after_tape, after_send}
 use Rattle.wake_core.specs.WorldOf.{plain_of, to_step}
 use Rattle.wake_core.specs.WorldCalls.{in_hand, phase_sent, MayTape, Taped, IsSender, IsStepped}
-use Rattle.wake_core.proofs.Arriving.{there}
 use Rattle.wake_core.proofs.Reading.{read_within}
 use Rattle.wake_core.proofs.HeldLaws.{not_running_of}
 use Rattle.wake_core.proofs.Writers.{writes_own}

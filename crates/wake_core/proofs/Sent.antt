@@ -15,10 +15,11 @@ use Rattle.wake_core.specs.Events.{Tapes, Sends, after_tape, after_send}
 use Rattle.wake_core.specs.private.Owing.{HasToFill}
 use Rattle.wake_core.specs.Fields.{read, no_routine, IsRoomy}
 use Rattle.wake_core.specs.private.Shown.{shown_calls, calls_at, fills_of, IsOwing, IsWaiting}
-use Rattle.wake_core.proofs.Places.{place, set_at_there, set_at_other}
+use Rattle.wake_core.proofs.Places.{set_at_there, set_at_other}
 use Rattle.wake_core.proofs.Reading.{read-set, read-set_same, read_is}
 use Rattle.wake_core.proofs.HeldCalls.{OneTaped}
 use mathlib.Core.Path.{fun_ext}
+use Rattle.cy_msg.proofs.Lists.{place}
 
 roles_few : (channel c role : ℕ) (xs : List ℕ) → length (roles_of channel c role xs) ≤ length xs
 roles_few channel c role [] = omega arith

@@ -2,6 +2,7 @@
 use Rattle.std.proofs.Common.{ℕ, ◌+◌, ◌≡◌, ◌<◌, ◌∷◌, ◌++◌, Bool, true, refl, sym, ◌∙◌, ap, arith, Option, Some, None, is_some, List, [], length, get_or, set, drop, length-append, option_map, vec_capacity}
 use Rattle.std.specs.Option.{option_map_or}
 use Rattle.cy_msg.specs.declared.token.Token.{Token}
+use Rattle.cy_msg.proofs.Lists.{there, get_last}
 use Rattle.cy_comp.specs.Calls.{cursor_after}
 use Rattle.cy_comp.specs.Routine.{RoutineView}
 use Rattle.wake_core.specs.declared.world.World.{World}
@@ -16,11 +17,10 @@ use Rattle.wake_core.specs.WorldOf.{plain_of, to_step}
 use Rattle.wake_core.specs.WorldCalls.{phase_sent}
 use Rattle.wake_core.specs.Fields.{read, no_visitor, no_routine, IsRoomy}
 use Rattle.wake_core.specs.private.Shown.{fills_of, calls_at, IsFlagged, IsStepping, IsWaiting, AreOwing}
-use Rattle.wake_core.proofs.Arriving.{there, planned_messages}
+use Rattle.wake_core.proofs.Arriving.{planned_messages}
 use Rattle.wake_core.proofs.Reading.{read-set, read-set_same, read_is, read_within, hands_set}
 use Rattle.wake_core.proofs.Flags.{phase_flags, hand_stepping}
 use Rattle.wake_core.proofs.Shown.{calls_stepped, waiting_unsent}
-use Rattle.wake_core.proofs.Listing.{get_last}
 use Rattle.wake_core.proofs.Taping.{message_room, send_room, send_taped, send_written, send_all, played_taped}
 use Rattle.wake_core.proofs.Totals.{output_room, message_total}
 use Rattle.wake_core.proofs.Timing.{played-own, played-other}

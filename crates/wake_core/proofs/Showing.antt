@@ -4,6 +4,7 @@ use Rattle.std.specs.Option.{option_map_or}
 use Rattle.std.proofs.lemmas.Option.{slice_get_within, slice_get-map, same_Some, none-some}
 use Rattle.cy_msg.specs.declared.token.Token.{Token}
 use Rattle.cy_msg.specs.Tokens.{on_channel}
+use Rattle.cy_msg.proofs.Lists.{get_in}
 use Rattle.cy_fuse.specs.Fusion.{Arrival}
 use Rattle.cy_comp.specs.declared.call.Call.{Call}
 use Rattle.cy_comp.specs.declared.call.Out.{Out}
@@ -18,7 +19,6 @@ use Rattle.wake_core.specs.Sound.{Sound}
 use Rattle.wake_core.specs.WorldCalls.{IsRoutineOf}
 use Rattle.wake_core.specs.Fields.{read, no_routine, IsFixed}
 use Rattle.wake_core.specs.private.Shown.{shown_calls, calls_at, IsWaiting}
-use Rattle.wake_core.proofs.Listing.{get_in}
 use Rattle.wake_core.proofs.Limits.{count_limit}
 
 -- A component that is stepped shows the calls of its routine.

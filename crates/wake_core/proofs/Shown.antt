@@ -3,6 +3,7 @@ use Rattle.std.proofs.Common.{ℕ, ◌+◌, ◌≡◌, ◌≤◌, ◌<◌, refl,
 use Rattle.std.proofs.lemmas.Option.{slice_get_past}
 use mathlib.Core.Path.{fun_ext}
 use Rattle.cy_msg.specs.declared.token.Token.{Token}
+use Rattle.cy_msg.proofs.Lists.{place}
 use Rattle.cy_comp.specs.declared.call.Call.{Call}
 use Rattle.cy_comp.specs.declared.call.Out.{Out}
 use Rattle.cy_comp.specs.Calls.{cursor_after, outs, output}
@@ -14,7 +15,7 @@ use Rattle.wake_core.specs.Sound.{HeldIn}
 use Rattle.wake_core.specs.Events.{Fetches, next_call, after_call, after_fetch}
 use Rattle.wake_core.specs.Fields.{read, no_routine}
 use Rattle.wake_core.specs.private.Shown.{shown_calls, calls_at, IsWaiting, IsStepping}
-use Rattle.wake_core.proofs.Places.{place, set_at_there, set_at_other, set_at_itself}
+use Rattle.wake_core.proofs.Places.{set_at_there, set_at_other, set_at_itself}
 use Rattle.wake_core.proofs.Reading.{read-set}
 use Rattle.wake_core.proofs.HeldLaws.{not_running_of}
 use Rattle.wake_core.proofs.Delivering.{phase_of}

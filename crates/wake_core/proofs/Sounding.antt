@@ -10,12 +10,13 @@ use Rattle.cy_comp.specs.declared.call.Outcome.{Outcome}
 use Rattle.cy_comp.specs.declared.call.Outcome.TheVariants.{Emit, Hold, Last}
 use Rattle.cy_comp.specs.Calls.{held_until}
 use Rattle.cy_msg.specs.Tokens.{on_channel}
+use Rattle.cy_msg.proofs.Lists.{place}
 use Rattle.wake_core.specs.Run.{Route, set_at, writes_from, played_of}
 use Rattle.wake_core.specs.TapeLaws.{IsUnsent}
 use Rattle.wake_core.specs.Plain.{Plain, Stop, hand, State, Ready, DataWait, Sleep, Finished, Phase, Fresh, Woken, Known, Checked, Stopping, Asked, Empty, Running, Sending, LastSending, Done, last_of, made_of, taped_of, found_by}
 use Rattle.wake_core.specs.Events.{IsDue, state_after, phase_after_spend, phase_after_check, next_call, after_fetch, after_call, after_fill, Acquires, Spends, Readies, Checks, Stops, Asks, Fetches, Tapes, Sends, Fills, Looks, Clears, Yields, Releases, Ticks, Closes}
 use Rattle.wake_core.specs.Sound.{HeldIn, Consistent, Sound, Wakes, is_asking, is_handing}
-use Rattle.wake_core.proofs.Places.{place, set_at_there, set_at_other, set_at_itself}
+use Rattle.wake_core.proofs.Places.{set_at_there, set_at_other, set_at_itself}
 use Rattle.wake_core.proofs.HeldLaws.{not_running_of}
 use Rattle.wake_core.proofs.HeldCalls.{OneTaped}
 use Rattle.wake_core.proofs.Arrived.{fused_other_role}

@@ -3,6 +3,7 @@ use Rattle.std.proofs.Common.{ℕ, ◌-◌, ◌≡◌, ◌≤◌, ◌<◌, ◌==
 use Rattle.std.proofs.lemmas.Bool.Decides.{eqb_tells}
 use Rattle.std.proofs.lemmas.List.{append-nil, length-set}
 use Rattle.std.proofs.Math.Seq.{drop-length}
+use Rattle.cy_msg.proofs.Lists.{there}
 use Rattle.cy_fuse.specs.Fusion.{Arrival}
 use Rattle.cy_fuse.specs.Visitor.{VisitorView, arrived}
 use Rattle.cy_comp.specs.Routine.{RoutineView}
@@ -20,7 +21,6 @@ use Rattle.wake_core.specs.private.Delivery.{arrived_at, arrived_at_all, MayArri
 use Rattle.wake_core.proofs.Places.{set_at_same, set_at_other, set_at_again, set_at_itself}
 use Rattle.wake_core.proofs.Reading.{read-set, read-set_same, read_at}
 use Rattle.wake_core.proofs.Owing.{owed_with}
-use Rattle.wake_core.proofs.Arriving.{there}
 use Rattle.wake_core.proofs.Filling.{fill_known, fill_role, fill_room, filled_visited, filled_roomy}
 use Rattle.wake_core.proofs.Sounding.{fill_sound}
 use Rattle.wake_core.proofs.Telling.{firsts, flags_after, all_told}

@@ -6,12 +6,12 @@ use Rattle.cy_msg.specs.declared.token.Token.{Token}
 use Rattle.cy_msg.specs.declared.token.Tuple.{Tuple}
 use Rattle.cy_msg.specs.Tuple.{messages_of}
 use Rattle.cy_msg.specs.Tokens.{on_channel, IsNumbered}
+use Rattle.cy_msg.proofs.Lists.{get_append, get_snoc}
 use Rattle.cy_comp.specs.declared.call.Call.{Call}
 use Rattle.cy_fuse.specs.Fusion.{Arrival, later_or, latest, latest_of, joined, added, fused_after, fused}
 use Rattle.wake_core.specs.Run.{Route}
 use Rattle.wake_core.specs.Plain.{Hand, reads, of_role}
 use Rattle.wake_core.specs.Sound.{Delivered, StandsOn}
-use Rattle.wake_core.proofs.Listing.{get_append, get_snoc}
 
 each_more : {X : Type 0} (P : X → Type 0) (xs : List X) (x : X) → ((n : ℕ) (y : X) → slice_get xs n ≡ Some y → P y) → P x → (n : ℕ) (y : X) → slice_get (xs ++ x ∷ []) n ≡ Some y → P y
 each_more P xs x all here n y e = elim (get_snoc xs x n y e) [ inl h ↦ all n y h | inr h ↦ subst P h.1 here ]

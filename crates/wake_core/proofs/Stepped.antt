@@ -3,6 +3,7 @@ use Rattle.std.proofs.Common.{ℕ, ◌+◌, ◌-◌, ◌≡◌, ◌≢◌, ◌�
 use mathlib.Core.Path.{fun_ext}
 use Rattle.cy_msg.specs.declared.token.Token.{Token}
 use Rattle.cy_msg.specs.declared.token.Tuple.{Tuple}
+use Rattle.cy_msg.proofs.Lists.{place, get_in}
 use Rattle.cy_comp.specs.declared.call.Call.{Call}
 use Rattle.cy_comp.specs.Calls.{cursor_after, outs, output}
 use Rattle.cy_comp.specs.Routine.{RoutineView, taken}
@@ -13,9 +14,8 @@ use Rattle.wake_core.specs.Plain.{Plain, Hand, State}
 use Rattle.wake_core.specs.Fields.{read, no_routine, IsRoomy}
 use Rattle.wake_core.specs.private.Shown.{shown_calls, calls_at, IsWaiting, IsStepping}
 use Rattle.cy_fuse.specs.Visitor.{VisitorView}
-use Rattle.wake_core.proofs.Places.{place, set_at_there, set_at_other}
+use Rattle.wake_core.proofs.Places.{set_at_there, set_at_other}
 use Rattle.wake_core.proofs.Reading.{read-set}
-use Rattle.wake_core.proofs.Listing.{get_in}
 use Rattle.wake_core.proofs.Outputs.{put_out, outs_push, next_out}
 use Rattle.wake_core.specs.Laws.{call_of}
 

@@ -1,6 +1,7 @@
 -- A component that is to be stepped in a world, over its fields.
 use Rattle.std.proofs.Common.{ℕ, ◌-◌, ◌^◌, ◌≡◌, ◌≢◌, ◌≤◌, ◌<◌, ◌∷◌, refl, sym, ◌∙◌, ap, arith, Option, Some, None, [], length, length-append, get_or, set, option_map, slice_get, le_trans}
 use Rattle.cy_msg.specs.declared.token.Tuple.{Tuple}
+use Rattle.cy_msg.proofs.Lists.{there, get_last}
 use Rattle.cy_fuse.specs.Laws.{FetchesFind}
 use Rattle.cy_comp.specs.declared.call.Call.{Call}
 use Rattle.cy_comp.specs.declared.call.Outcome.{Outcome}
@@ -15,9 +16,8 @@ use Rattle.wake_core.specs.WorldOf.{plain_of, to_step}
 use Rattle.wake_core.specs.WorldCalls.{in_hand, MayStep}
 use Rattle.wake_core.specs.Fields.{read, no_routine}
 use Rattle.wake_core.specs.private.Shown.{shown_calls, calls_at}
-use Rattle.wake_core.proofs.Arriving.{there, fused_planned, planned_trigger}
+use Rattle.wake_core.proofs.Arriving.{fused_planned, planned_trigger}
 use Rattle.wake_core.proofs.Reading.{read_is, read-set_same}
-use Rattle.wake_core.proofs.Listing.{get_last}
 use Rattle.wake_core.proofs.Joining.{fused_messages}
 use Rattle.wake_core.proofs.Outputs.{last_push}
 use Rattle.wake_core.specs.Laws.{call_of}

@@ -3,6 +3,7 @@ use Rattle.std.proofs.Common.{ℕ, ◌≡◌, Bool, true, false, true≢false, r
 use mathlib.Core.Path.{fun_ext}
 use Rattle.cy_msg.specs.declared.token.Token.{Token}
 use Rattle.cy_msg.specs.declared.token.Tuple.{Tuple}
+use Rattle.cy_msg.proofs.Lists.{place, there}
 use Rattle.cy_comp.specs.declared.call.Out.{Out}
 use Rattle.wake_core.specs.Run.{Route, Run, set_at, put, played_of}
 use Rattle.wake_core.specs.Serial.{Raised, resume, send, end_of}
@@ -13,8 +14,7 @@ use Rattle.wake_core.specs.Sound.{Sound}
 use Rattle.wake_core.specs.Rest.{run_shown}
 use Rattle.wake_core.specs.WorldCalls.{in_hand, phase_sent, IsStepped}
 use Rattle.wake_core.specs.Turns.{IsInHand, OutputDelivered, MaySendOut, MayGiveBack, GivesBack, IsNamed, IsStep, Resumes, left_of}
-use Rattle.wake_core.proofs.Places.{place, set_at_same, set_at_there, set_at_other}
-use Rattle.wake_core.proofs.Arriving.{there}
+use Rattle.wake_core.proofs.Places.{set_at_same, set_at_there, set_at_other}
 use Rattle.wake_core.proofs.Taping.{unsent_is}
 use Rattle.wake_core.proofs.Totals.{output_room}
 use Rattle.wake_core.proofs.Putting.{unsent_put}

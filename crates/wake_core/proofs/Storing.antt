@@ -3,6 +3,7 @@ use Rattle.std.proofs.Common.{ℕ, ◌+◌, ◌≡◌, ◌≢◌, ◌≤◌, ◌
 use mathlib.Core.Path.{fun_ext}
 use Rattle.cy_comp.specs.declared.call.Call.{Call}
 use Rattle.cy_msg.specs.declared.token.Token.{Token}
+use Rattle.cy_msg.proofs.Lists.{place}
 use Rattle.cy_fuse.specs.Visitor.{VisitorView}
 use Rattle.cy_comp.specs.Calls.{cursor_after, outs, output}
 use Rattle.cy_comp.specs.Routine.{RoutineView}
@@ -14,7 +15,7 @@ use Rattle.wake_core.specs.Events.{Spends, Readies, Checks, Asks, Yields, Releas
 use Rattle.wake_core.specs.WorldCalls.{in_hand, MaySpend, MayReady, MayCheck, MayAsk, MayYieldAs, MayRelease, IsStepped}
 use Rattle.wake_core.specs.Fields.{read, no_routine, IsRoomy}
 use Rattle.wake_core.specs.private.Shown.{shown_calls, calls_at, IsFlagged, IsStepping, IsWaiting}
-use Rattle.wake_core.proofs.Places.{place, set_at_there, set_at_other}
+use Rattle.wake_core.proofs.Places.{set_at_there, set_at_other}
 use Rattle.wake_core.proofs.Reading.{read-set}
 use Rattle.wake_core.proofs.Flags.{hand_stepping}
 use Rattle.wake_core.proofs.Holding.{in_hand_is}

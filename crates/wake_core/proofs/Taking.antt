@@ -1,6 +1,7 @@
 -- Croutines that are taken in turn, until one is READY.
 use Rattle.std.proofs.Common.{ℕ, ◌≡◌, ◌≢◌, ◌⊎◌, Bool, true, false, not, ◌&&◌, ◌||◌, refl, sym, ◌∙◌, ap, subst, inl, inr, List, [], ◌∷◌, ◌++◌, Option, None, append_assoc, if◌then◌else◌, length, ◌<◌}
 use Rattle.std.proofs.lemmas.Bool.Decides.{eqb_tells}
+use Rattle.cy_msg.proofs.Lists.{place, either}
 use Rattle.wake_core.specs.Run.{set_at}
 use Rattle.wake_core.specs.Plain.{Plain, Hand, hand, State, Ready, DataWait, Sleep, Finished, Fresh, Woken, Known, lists}
 use Rattle.wake_core.specs.Events.{Acquires, Spends, Readies, Releases, IsDue, is_waiting, is_finished, phase_after_spend, after_ready}
@@ -9,8 +10,8 @@ use Rattle.wake_core.specs.Laws.{Events}
 use Rattle.wake_core.specs.Sound.{Sound}
 use Rattle.wake_core.specs.Rest.{IsAtRest}
 use Rattle.wake_core.specs.Turns.{Takes, IsParked, Passes, Finds, IsInHand, is_woken}
-use Rattle.wake_core.proofs.Places.{place, set_at_same, set_at_other, set_at_again, set_at_itself}
-use Rattle.wake_core.proofs.Listing.{lists-append, lists_snoc, either}
+use Rattle.wake_core.proofs.Places.{set_at_same, set_at_other, set_at_again, set_at_itself}
+use Rattle.wake_core.proofs.Listing.{lists-append, lists_snoc}
 use Rattle.wake_core.proofs.Playing.{idle_by}
 use Rattle.wake_core.proofs.Ways.{one, linked}
 

@@ -4,14 +4,14 @@ use Rattle.std.proofs.lemmas.List.Elements.{filter-append}
 use Rattle.std.proofs.lemmas.Option.{slice_get_within}
 use Rattle.cy_msg.specs.declared.token.Token.{Token}
 use Rattle.cy_msg.specs.Tokens.{on_channel, IsNumbered, IsTimed}
+use Rattle.cy_msg.proofs.Lists.{place, get_snoc}
 use Rattle.cy_comp.specs.declared.call.Call.{Call}
 use Rattle.cy_comp.specs.Step.{outcome_after}
 use Rattle.cy_comp.specs.Calls.{tuples_of, held_until, outs}
 use Rattle.wake_core.specs.Run.{Route, set_at, writes_from, played_of}
 use Rattle.wake_core.specs.Plain.{State, Ready, taped_of, made_of, last_of}
 use Rattle.wake_core.specs.Sound.{IsOutput, WasHeld, Timely}
-use Rattle.wake_core.proofs.Places.{place, set_at_is, set_at_there, set_at_other}
-use Rattle.wake_core.proofs.Listing.{get_snoc}
+use Rattle.wake_core.proofs.Places.{set_at_is, set_at_there, set_at_other}
 use Rattle.wake_core.proofs.Calling.{earlier_output}
 
 -- A played message more is the last of the played ones, ..

@@ -6,6 +6,7 @@ use Rattle.std.proofs.lemmas.List.Sums.{sum_by-cons}
 use Rattle.std.proofs.lemmas.Option.{slice_get_within}
 use Rattle.cy_msg.specs.declared.token.Token.{Token}
 use Rattle.cy_msg.specs.Tokens.{on_channel}
+use Rattle.cy_msg.proofs.Lists.{place, get_snoc}
 use Rattle.cy_fuse.specs.Fusion.{Arrival}
 use Rattle.wake_core.specs.Run.{Route}
 use Rattle.cy_fuse.specs.Laws.{FetchesFind}
@@ -14,8 +15,6 @@ use Rattle.wake_core.specs.Planned.{planned_count, counts_from, first_reader}
 use Rattle.wake_core.specs.Plain.{Plain, hand, Asked, reads, of_role, lists_reader, unsent_of}
 use Rattle.wake_core.specs.Events.{IsNext, next_call}
 use Rattle.wake_core.specs.Sound.{Room, Consistent}
-use Rattle.wake_core.proofs.Places.{place}
-use Rattle.wake_core.proofs.Listing.{get_snoc}
 use Rattle.wake_core.proofs.Arrived.{of_role_own, of_role_other}
 use Rattle.wake_core.proofs.Delivering.{owes_channel}
 use Rattle.wake_core.proofs.Making.{call_made, fits}

@@ -10,7 +10,7 @@ use Rattle.wake_core.specs.Laws.{Events}
 use Rattle.wake_core.specs.Sound.{Sound}
 use Rattle.wake_core.specs.Rest.{IsAtRest, run_shown, StaysFixed, IsScanOf, HeedsStop, Heeds, is_loose}
 use Rattle.wake_core.specs.Turns.{Takes, Passes, Finds, IsNamed, IsStep, Rests, Resumes, Turns, IsSettled, sum_below, loose, loose_of, left_of, turns_left}
-use Rattle.wake_core.proofs.Places.{place, set_at_same, set_at_other}
+use Rattle.wake_core.proofs.Places.{set_at_same, set_at_other}
 use Rattle.wake_core.proofs.Playing.{shown_stored}
 use Rattle.wake_core.proofs.Parking.{parked_still, find_behind, find_none, unsent_some}
 use Rattle.wake_core.proofs.Resuming.{sum_less}
@@ -19,6 +19,7 @@ use Rattle.wake_core.proofs.Obeying.{named_stops}
 use Rattle.wake_core.proofs.Ways.{linked}
 use Rattle.wake_core.proofs.Heeding.{heeds_on, passes_keeps, takes_keeps}
 use Rattle.std.proofs.lemmas.Bool.Decides.{eqb_tells}
+use Rattle.cy_msg.proofs.Lists.{place}
 
 -- What a world shows while croutines are taken and given back.
 passes_shown : (order : List ℕ) (w v : Plain) → Passes order w v → run_shown v ≡ run_shown w

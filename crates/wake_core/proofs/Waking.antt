@@ -1,11 +1,12 @@
 -- What each event keeps of waking: no croutine parks with its flag spent while something waits for it.
 use Rattle.std.proofs.Common.{ℕ, ◌≡◌, ◌≢◌, ◌⊎◌, Bool, true, false, refl, sym, ◌∙◌, ap, inl, inr, arith, Option, None, List, ◌++◌, ◌∷◌, [], if◌then◌else◌}
 use Rattle.std.proofs.lemmas.Bool.Decides.{nat_tests}
+use Rattle.cy_msg.proofs.Lists.{place}
 use Rattle.wake_core.specs.Run.{set_at}
 use Rattle.wake_core.specs.Plain.{Hand, hand, State, Ready, DataWait, Phase, Fresh, Woken, Known, Checked, Asked, Empty, Running, Done, lists}
 use Rattle.wake_core.specs.Events.{phase_after_spend, is_waiting}
 use Rattle.wake_core.specs.Sound.{Wakes, Unwatched}
-use Rattle.wake_core.proofs.Places.{place, set_at_there, set_at_other}
+use Rattle.wake_core.proofs.Places.{set_at_there, set_at_other}
 use Rattle.wake_core.proofs.Listing.{lists_parts, lists_whole}
 
 -- Whoever nobody watches after a hand changed from a phase in which nobody watched it was not watched before.

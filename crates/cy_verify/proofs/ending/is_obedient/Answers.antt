@@ -1,8 +1,8 @@
 use Rattle.std.proofs.Common.{sym, ◌∙◌, ap, subst, get_or, List, Option}
 use Rattle.std.specs.Bool.{Decides}
 use Rattle.cy_msg.specs.declared.stop.Stop.{Stop}
+use Rattle.cy_msg.proofs.Lists.{there}
 use Rattle.cy_comp.specs.declared.plan.Plan.{Plan}
-use Rattle.wake_core.proofs.Arriving.{there}
 use Rattle.cy_trace.specs.declared.trace.TraceComponent.{TraceComponent}
 use Rattle.cy_verify.specs.private.Allowing.{IsObedient}
 use Rattle.cy_verify.proofs.Allowed.{obedient_one}

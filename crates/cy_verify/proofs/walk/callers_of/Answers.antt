@@ -1,9 +1,9 @@
 use Rattle.std.proofs.Common.{◌∙◌, ◌++◌, ◌∷◌, [], sym, ap, arith, map, take, option_map, List}
 use Rattle.std.proofs.lemmas.Option.{slice_get-map}
+use Rattle.cy_msg.proofs.Lists.{take_next}
 use Rattle.cy_comp.specs.Routine.{RoutineView, new_routine}
 use Rattle.cy_comp.specs.declared.plan.Plan.{Plan}
 use Rattle.wake_core.specs.declared.entries.TheConstants.{MOST_PLANNED}
-use Rattle.wake_core.proofs.Listing.{take_next}
 use Rattle.cy_verify.proofs.Heard.{there_is}
 use Rattle.cy_verify.proofs.walk.callers_of.Goals as goal
 

@@ -1,8 +1,8 @@
 use Rattle.std.proofs.Common.{◌≡◌, ◌<◌, ◌++◌, ◌∷◌, [], ◌∙◌, sym, ap, length, take, List, ℕ, refl, arith}
+use Rattle.cy_msg.proofs.Lists.{take_next}
 use Rattle.cy_comp.specs.declared.kind.Kind.{Kind}
 use Rattle.wake_core.specs.Run.{Route, route_of, routes_of}
 use Rattle.wake_core.proofs.Counting.{plan_at, route_at}
-use Rattle.wake_core.proofs.Listing.{take_next}
 use Rattle.wake_core.proofs.fixed.routes_from.Goals as goal
 
 pub loop-plan-preserved : goal.loop-plan-preserved

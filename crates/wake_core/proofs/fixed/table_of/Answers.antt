@@ -1,8 +1,8 @@
 use Rattle.std.proofs.Common.{ℕ, ◌+◌, ◌≡◌, ◌∙◌, ap, sym, subst, List, [], ◌∷◌, ◌++◌, length, length-append, Some, slice_get}
+use Rattle.cy_msg.proofs.Lists.{get_append, get_last}
 use borrow.Author.Count.{below_more}
 use Rattle.wake_core.specs.Run.{Route, readers_of}
 use Rattle.wake_core.specs.private.Shown.{IsTable}
-use Rattle.wake_core.proofs.Listing.{get_append, get_last}
 use Rattle.wake_core.proofs.fixed.table_of.Goals as goal
 
 -- The table with one more channel.

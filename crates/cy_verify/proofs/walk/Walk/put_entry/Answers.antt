@@ -1,6 +1,6 @@
 use Rattle.std.proofs.Common.{◌≡◌, sym, ◌∙◌, ap, slice_get}
 use Rattle.cy_trace.specs.declared.trace.TapeEntry.{TapeEntry}
-use Rattle.wake_core.proofs.Counting.{writes_position}
+use Rattle.wake_core.proofs.Cited.{writes_position}
 use Rattle.cy_trace.specs.Tapes.{entry_of}
 use Rattle.cy_verify.proofs.WalkLed.{known_channel, entry_named, writer_at}
 use Rattle.cy_verify.proofs.Walked.{writer_out}

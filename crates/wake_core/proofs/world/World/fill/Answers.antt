@@ -1,10 +1,10 @@
 use Rattle.std.proofs.Common.{◌<◌, length, length-set, refl, sym, ◌∙◌, ap, [], arith}
+use Rattle.cy_msg.proofs.Lists.{there}
 use Rattle.cy_fuse.specs.Visitor.{VisitorView, arrived}
 use Rattle.wake_core.specs.declared.owed.Owed.{Owed}
 use Rattle.wake_core.specs.WorldOf.{plain_of, to_step}
 use Rattle.wake_core.specs.Fields.{no_visitor}
 use Rattle.wake_core.specs.private.Shown.{fills_of}
-use Rattle.wake_core.proofs.Arriving.{there}
 use Rattle.wake_core.proofs.Reading.{read-set, read_is}
 use Rattle.wake_core.proofs.Sounding.{fill_sound}
 use Rattle.wake_core.proofs.Owing.{owing_set, owed_each}

@@ -1,7 +1,7 @@
 use Rattle.std.proofs.Common.{ℕ, ◌++◌, ◌∷◌, [], ◌∙◌, sym, ap, refl, length, take, map, arith, List}
 use Rattle.std.proofs.lemmas.Option.{slice_get_read}
+use Rattle.cy_msg.proofs.Lists.{take_next}
 use Rattle.wake_core.specs.private.Sent.{sent_count}
-use Rattle.wake_core.proofs.Listing.{take_next}
 use Rattle.wake_core.proofs.Beginning.{made_at}
 use Rattle.wake_core.proofs.world.apart.sent_by.Goals as goal
 

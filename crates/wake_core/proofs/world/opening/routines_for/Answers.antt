@@ -1,9 +1,9 @@
 use Rattle.std.proofs.Common.{◌≡◌, ◌<◌, ◌++◌, ◌∷◌, [], ◌∙◌, sym, ap, length, take, map, List, arith}
+use Rattle.cy_msg.proofs.Lists.{take_next}
 use Rattle.cy_comp.specs.Routine.{RoutineView}
 use Rattle.wake_core.specs.Run.{route_of, routes_of}
 use Rattle.wake_core.specs.private.Opening.{first_routine}
 use Rattle.wake_core.proofs.Counting.{plan_at, route_at}
-use Rattle.wake_core.proofs.Listing.{take_next}
 use Rattle.wake_core.proofs.Beginning.{routine_is, made_at}
 use Rattle.wake_core.proofs.world.opening.routines_for.Goals as goal
 

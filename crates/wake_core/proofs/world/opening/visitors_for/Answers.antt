@@ -1,11 +1,11 @@
 use Rattle.std.proofs.Common.{◌≡◌, ◌<◌, subst, Some, slice_get, ◌++◌, ◌∷◌, [], ◌∙◌, sym, ap, length, take, map, sum, List, ℕ, arith}
+use Rattle.cy_msg.proofs.Lists.{take_next}
 use Rattle.cy_fuse.specs.Visitor.{VisitorView}
 use Rattle.wake_core.specs.declared.entries.TheConstants.{MOST_PLANNED}
 use Rattle.wake_core.specs.Run.{route_of, routes_of}
 use Rattle.wake_core.specs.Planned.{planned_count}
 use Rattle.wake_core.specs.private.Opening.{first_visitor}
 use Rattle.wake_core.proofs.Counting.{plan_at, route_at}
-use Rattle.wake_core.proofs.Listing.{take_next}
 use Rattle.wake_core.proofs.Beginning.{visitor_is, arrivals_limit, made_at}
 use Rattle.wake_core.proofs.world.opening.visitors_for.Goals as goal
 
