@@ -19,7 +19,7 @@ use std::thread::Threads;
 use wake_core::World;
 
 /// How many parts of a trace are made side by side, and put in one piece.
-const AT_ONCE: usize = 16;
+const AT_ONCE: usize = 32;
 
 // The want of memory for which parts of a trace were not made.
 fn no_memory(error: TraceError) -> WriteError

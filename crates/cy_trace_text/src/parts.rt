@@ -33,6 +33,9 @@ const LINE_BYTES: usize = 56;
 /// How many lines are worth threads: below, their start takes as long as is won.
 const WORTH_THREADS: usize = 16_384;
 
+/// Into how many pieces parts are split that are made side by side.
+const MOST_PIECES: usize = 8;
+
 /// A part of a trace.
 #[derive(Clone, Copy, Debug, PartialEq, Eq)]
 pub enum Part {
@@ -265,12 +268,17 @@ pub fn push_texts<R: Threads + Sync>(
     Ok(())
 }
 
-// How few parts a thread takes: with few lines in all, one thread takes all.
+// How few parts a thread takes: with few lines in all, one thread takes all. Each thread is started
+// anew, which takes as long as hundreds of lines, so that there are not more pieces than pay.
 fn least_piece(parts: &[Part]) -> usize {
     let lines = parts
         .iter()
         .fold(0_usize, |sum, part| sum.saturating_add(lines_of(*part)));
-    if lines < WORTH_THREADS { usize::MAX } else { 1 }
+    if lines < WORTH_THREADS {
+        usize::MAX
+    } else {
+        (parts.len() / MOST_PIECES).max(1)
+    }
 }
 
 // The text of each part, made side by side.
