@@ -4,18 +4,18 @@ use Rattle.cy_store.specs.Files.{Files}
 use Rattle.cy_store.specs.Reads.{Reads, Accepts, ◌>>=◌}
 use Rattle.cy_store.specs.Store.{StoreView}
 use Rattle.cy_comp.specs.declared.wiring.Wiring.{Wiring}
-use Rattle.cy_replay.specs.declared.configuration.Configuration.{Configuration}
-use Rattle.cy_replay.specs.declared.error.Refusal.{Refusal}
-use Rattle.cy_replay.specs.declared.error.SetupError.{SetupError}
-use Rattle.cy_replay.specs.Comes.{ComesTo}
-use Rattle.cy_replay.specs.Configuration.{Configured, IsAsked, configuration_in}
-use Rattle.cy_replay.specs.Steps.{configured}
-use Rattle.cy_replay.specs.Wiring.{wiring_in, IsWiredBy}
-use Rattle.cy_replay.proofs.Coming.{comes_err, comes_ok, comes_then}
+use Rattle.cy_setup.specs.declared.configuration.Configuration.{Configuration}
+use Rattle.cy_setup.specs.declared.error.Refusal.{Refusal}
+use Rattle.cy_setup.specs.declared.error.SetupError.{SetupError}
+use Rattle.cy_setup.specs.Comes.{ComesTo}
+use Rattle.cy_setup.specs.Configuration.{Configured, IsAsked, configuration_in}
+use Rattle.cy_setup.specs.Steps.{configured}
+use Rattle.cy_setup.specs.Wiring.{wiring_in, IsWiredBy}
+use Rattle.cy_setup.proofs.Coming.{comes_err, comes_ok, comes_then}
 use Rattle.cy_commands.specs.declared.status.Status.{Status}
 use Rattle.cy_commands.specs.declared.status.Status.TheVariants.{Done}
-use Rattle.cy_words.specs.CheckWords.{CheckWords}
-use Rattle.cy_words.specs.Command.{Check}
+use Rattle.cy_args.specs.CheckWords.{CheckWords}
+use Rattle.cy_args.specs.Command.{Check}
 use Rattle.cy_commands.specs.Commands.CheckWork.{IsCheckWork, checked_in}
 use Rattle.cy_commands.specs.private.CheckEnds.{IsTextOf}
 use Rattle.cy_commands.specs.private.Unset.{IsDueUnset}

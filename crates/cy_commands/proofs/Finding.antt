@@ -5,10 +5,10 @@ use Rattle.std.specs.FinMap.{get}
 use Rattle.cy_store.specs.Files.{Files, Holds}
 use Rattle.cy_store.specs.Reads.{Reads, Refuses, Absent}
 use Rattle.cy_store.specs.Store.{StoreView, SameCounts, Rose}
-use Rattle.cy_replay.specs.declared.error.Refusal.{Refusal}
-use Rattle.cy_replay.specs.declared.error.SetupError.{SetupError}
-use Rattle.cy_replay.specs.declared.error.SetupError.TheVariants.{Refused, Store, Memory}
-use Rattle.cy_replay.specs.Comes.{ComesTo}
+use Rattle.cy_setup.specs.declared.error.Refusal.{Refusal}
+use Rattle.cy_setup.specs.declared.error.SetupError.{SetupError}
+use Rattle.cy_setup.specs.declared.error.SetupError.TheVariants.{Refused, Store, Memory}
+use Rattle.cy_setup.specs.Comes.{ComesTo}
 use Rattle.cy_commands.specs.Work.{Work}
 use Rattle.cy_commands.specs.private.VerifyEnds.{Finds}
 

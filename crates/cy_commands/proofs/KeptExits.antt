@@ -9,12 +9,12 @@ use Rattle.cy_reader.specs.Record.{Message, Met, record_of}
 use Rattle.cy_salvage.specs.Salvage.{salvage_of}
 use Rattle.cy_writer.specs.RecordWrites.{record_puts}
 use Rattle.cy_writer.proofs.RecordBytes.{after_record}
-use Rattle.cy_replay.specs.FaultText.{is_limit}
-use Rattle.cy_replay.specs.Listing.{contents_or, record_in}
-use Rattle.cy_replay.specs.declared.error.Fault.TheVariants as fault
-use Rattle.cy_replay.specs.declared.error.Refusal.{Refusal}
-use Rattle.cy_replay.proofs.Coming.{told_map}
-use Rattle.cy_replay.proofs.Texts.{held_is_told}
+use Rattle.cy_setup.specs.FaultText.{is_limit}
+use Rattle.cy_setup.specs.Listing.{contents_or, record_in}
+use Rattle.cy_setup.specs.declared.error.Fault.TheVariants as fault
+use Rattle.cy_setup.specs.declared.error.Refusal.{Refusal}
+use Rattle.cy_setup.proofs.Coming.{told_map}
+use Rattle.cy_setup.proofs.Texts.{held_is_told}
 use Rattle.cy_tools.specs.Answer.{IsRead, ToolAnswer}
 use Rattle.cy_tools.specs.Kept.{IsKeptText, channels_with, chunks_with, kept_writes, passing}
 use Rattle.cy_tools.specs.Tools.{Tool, met_in, recovering, splitting}
@@ -23,9 +23,9 @@ use Rattle.cy_tools.specs.declared.error.ToolError.{ToolError}
 use Rattle.cy_tools.specs.declared.error.ToolError.TheVariants as tool_error
 use Rattle.cy_tools.specs.declared.recovering.Recovered.{Recovered}
 use Rattle.cy_tools.specs.declared.splitting.Parted.{Parted}
-use Rattle.cy_words.specs.Command.{Command, Recover, Split}
-use Rattle.cy_words.specs.RecoverWords.{RecoverWords}
-use Rattle.cy_words.specs.SplitWords.{SplitWords}
+use Rattle.cy_args.specs.Command.{Command, Recover, Split}
+use Rattle.cy_args.specs.RecoverWords.{RecoverWords}
+use Rattle.cy_args.specs.SplitWords.{SplitWords}
 use Rattle.cy_commands.specs.declared.status.Status.{Status}
 use Rattle.cy_commands.specs.declared.status.Status.TheVariants.{Done}
 use Rattle.cy_commands.specs.Commands.{IsAccepted, outcome_of}
@@ -37,7 +37,7 @@ use Rattle.cy_commands.specs.Work.{IsMadeOf, Work}
 use Rattle.cy_commands.specs.private.KeptEnds.{AreApart, AreTested, IsDueKept, IsDueUnkept}
 use Rattle.cy_commands.specs.private.Unset.{IsStarved}
 use Rattle.cy_commands.specs.private.Unset.{IsDueUnset}
-use Rattle.cy_replay.specs.declared.error.SetupError.{SetupError}
+use Rattle.cy_setup.specs.declared.error.SetupError.{SetupError}
 use Rattle.cy_commands.proofs.NamesApart.{made_onward, not_apart, onward, refused_onward}
 use Rattle.cy_commands.proofs.PlayWriting.{file_named}
 use Rattle.cy_commands.proofs.Refusing.{ReadsBy, refuses, starved}

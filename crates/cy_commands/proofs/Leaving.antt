@@ -26,11 +26,11 @@ use Rattle.cy_recording.specs.Recording.{channels_of_tape, chunks_of_tape}
 use Rattle.cy_reader.specs.Record.{Message, Met}
 use Rattle.cy_tools.specs.Kept.{channels_with, chunks_with, passing}
 use Rattle.cy_tools.specs.Tools.{met_in}
-use Rattle.cy_replay.specs.declared.error.Refusal.{Refusal}
-use Rattle.cy_replay.specs.Setup.{Replayed}
-use Rattle.cy_words.specs.Command.{Asks, Check, Command, Info, Make, Merge, Play, PlayFilesDiffer, Recover, Split, Verify}
-use Rattle.cy_words.specs.MakeWords.{MakeWords}
-use Rattle.cy_words.specs.PlayWords.{PlayWords}
+use Rattle.cy_setup.specs.declared.error.Refusal.{Refusal}
+use Rattle.cy_setup.specs.Setup.{Replayed}
+use Rattle.cy_args.specs.Command.{Asks, Check, Command, Info, Make, Merge, Play, PlayFilesDiffer, Recover, Split, Verify}
+use Rattle.cy_args.specs.MakeWords.{MakeWords}
+use Rattle.cy_args.specs.PlayWords.{PlayWords}
 use Rattle.cy_commands.specs.declared.status.Status.{Status}
 use Rattle.cy_commands.specs.declared.status.Status.TheVariants.{Done, Refused, Usage, StoreFault, SinkFault, Limit, Memory}
 use Rattle.cy_commands.specs.Commands.{IsAccepted, outcome_of}

@@ -9,15 +9,15 @@ use Rattle.cy_store.specs.Files.{Files}
 use Rattle.cy_store.specs.Reads.{Reads, Accepts, Refuses, Absent}
 use Rattle.cy_store.specs.Store.{StoreView, SameCounts, Rose, WriteRose}
 use Rattle.cy_store.specs.Write.{after_writes}
-use Rattle.cy_replay.specs.Comes.{FailsAt}
-use Rattle.cy_replay.specs.Setup.{Replayed}
-use Rattle.cy_replay.specs.declared.error.Refusal.{Refusal}
+use Rattle.cy_setup.specs.Comes.{FailsAt}
+use Rattle.cy_setup.specs.Setup.{Replayed}
+use Rattle.cy_setup.specs.declared.error.Refusal.{Refusal}
 use Rattle.cy_make.specs.Inputs.{input_writes}
 use Rattle.cy_make.proofs.Leaving.{leaves}
 use Rattle.cy_made.specs.Accepted.{MadeFilesAreAccepted}
-use Rattle.cy_words.specs.FilterWords.{all_messages}
-use Rattle.cy_words.specs.MakeWords.{CanBeMade, MakeWords}
-use Rattle.cy_words.specs.PlayWords.{PlayWords}
+use Rattle.cy_args.specs.FilterWords.{all_messages}
+use Rattle.cy_args.specs.MakeWords.{CanBeMade, MakeWords}
+use Rattle.cy_args.specs.PlayWords.{PlayWords}
 use Rattle.cy_commands.specs.private.MakeEnds.{told}
 use Rattle.cy_commands.specs.Commands.MakeWork.{made_files, play_made}
 use Rattle.cy_commands.specs.Commands.PlayWork.{replayed_in}

@@ -11,8 +11,8 @@ use Rattle.cy_writer.proofs.Puts.{rose_more, after_writes-append, map-after_writ
 use Rattle.wake_core.specs.Plain.{Plain}
 use Rattle.wake_core.specs.Rest.{run_shown}
 use Rattle.cy_msg.specs.Request.{HasReader}
-use Rattle.cy_replay.specs.Setup.{IsSetUp, replayed}
-use Rattle.cy_replay.specs.declared.setup.Replay.{Replay}
+use Rattle.cy_setup.specs.Setup.{IsSetUp, replayed}
+use Rattle.cy_setup.specs.declared.setup.Replay.{Replay}
 use Rattle.cy_make.specs.declared.error.MakeError.{MakeError}
 use Rattle.cy_make.specs.declared.error.MakeError.TheVariants as make_error
 use Rattle.cy_make.specs.Inputs.{MakesFiles, input_writes}
@@ -24,16 +24,16 @@ use Rattle.cy_commands.specs.declared.failure.Failure.{Failure}
 use Rattle.cy_commands.specs.declared.failure.Failure.TheVariants as failure
 use Rattle.cy_commands.specs.declared.status.Status.{Status}
 use Rattle.cy_commands.specs.declared.status.Status.TheVariants.{Done, StoreFault, Memory}
-use Rattle.cy_words.specs.Command.{Make}
+use Rattle.cy_args.specs.Command.{Make}
 use Rattle.cy_commands.specs.Work.{Work}
 use Rattle.cy_commands.specs.Due.{IsDueFor}
 use Rattle.cy_commands.specs.Lines.{store_line, memory_line}
 use Rattle.cy_commands.specs.private.MakeEnds.{IsMade, IsDueUnmade, IsDueUnplayed, result_suffix}
-use Rattle.cy_words.specs.MakeWords.{MakeWords}
+use Rattle.cy_args.specs.MakeWords.{MakeWords}
 use Rattle.cy_commands.specs.Commands.MakeWork.{IsMakeWork, made_files, play_made}
 use Rattle.cy_commands.specs.PlayEnds.{HasRun, source_by}
 use Rattle.cy_commands.specs.private.PlayWrites.{IsLine, WritesPlay, name_of_play, writes_by}
-use Rattle.cy_words.specs.PlayWords.{PlayWords}
+use Rattle.cy_args.specs.PlayWords.{PlayWords}
 use Rattle.cy_commands.specs.Commands.PlayWork.{play_line, replayed_in, run_trace}
 use Rattle.cy_commands.proofs.PiecesPut.{whole}
 use Rattle.cy_commands.proofs.PlayExits as play

@@ -13,16 +13,16 @@ use Rattle.cy_reader.specs.Record.{Met}
 use Rattle.cy_writer.specs.RecordWrites.{record_puts}
 use Rattle.cy_writer.specs.declared.error.WriteError.{WriteError}
 use Rattle.cy_writer.specs.declared.error.WriteError.TheVariants as write_error
-use Rattle.cy_replay.specs.Apart.{IsApart, apart_from, standard_output}
-use Rattle.cy_replay.specs.Comes.{ComesTo, IsJudged}
-use Rattle.cy_replay.specs.Merging.{merged_in}
-use Rattle.cy_replay.proofs.Coming.{told_map}
-use Rattle.cy_replay.specs.declared.error.SetupError.{SetupError}
-use Rattle.cy_replay.specs.declared.error.SetupError.TheVariants as setup
+use Rattle.cy_setup.specs.Apart.{IsApart, apart_from, standard_output}
+use Rattle.cy_setup.specs.Comes.{ComesTo, IsJudged}
+use Rattle.cy_setup.specs.Merging.{merged_in}
+use Rattle.cy_setup.proofs.Coming.{told_map}
+use Rattle.cy_setup.specs.declared.error.SetupError.{SetupError}
+use Rattle.cy_setup.specs.declared.error.SetupError.TheVariants as setup
 use Rattle.cy_tools.specs.Kept.{IsKeptText, channels_with, chunks_with, kept_writes}
 use Rattle.cy_tools.specs.Merging.{MergeAnswer}
-use Rattle.cy_words.specs.Command.{Merge}
-use Rattle.cy_words.specs.MergeWords.{MergeWords}
+use Rattle.cy_args.specs.Command.{Merge}
+use Rattle.cy_args.specs.MergeWords.{MergeWords}
 use Rattle.cy_commands.specs.declared.status.Status.{Status}
 use Rattle.cy_commands.specs.Commands.{IsAccepted, outcome_of}
 use Rattle.cy_commands.specs.Commands.MergeWork.{IsMergeWork, merged_apart}

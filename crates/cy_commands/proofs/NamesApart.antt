@@ -4,20 +4,20 @@ use Rattle.std.specs.Prelude.{⊤}
 use Rattle.cy_store.specs.Files.{Files}
 use Rattle.cy_store.specs.Reads.{Reads, Accepts, Refuses, Absent, ◌>>=◌}
 use Rattle.cy_store.specs.Store.{StoreView, SameCounts}
-use Rattle.cy_replay.specs.Apart.{IsApart, apart_from}
-use Rattle.cy_replay.specs.Comes.{ComesTo, IsJudged}
-use Rattle.cy_replay.specs.Setup.{IsAsked, Replayed, replayed}
-use Rattle.cy_replay.specs.declared.setup.Replay.{Replay}
-use Rattle.cy_replay.proofs.Coming.{comes_err, comes_then}
-use Rattle.cy_words.specs.PlayWords.{PlayWords}
+use Rattle.cy_setup.specs.Apart.{IsApart, apart_from}
+use Rattle.cy_setup.specs.Comes.{ComesTo, IsJudged}
+use Rattle.cy_setup.specs.Setup.{IsAsked, Replayed, replayed}
+use Rattle.cy_setup.specs.declared.setup.Replay.{Replay}
+use Rattle.cy_setup.proofs.Coming.{comes_err, comes_then}
+use Rattle.cy_args.specs.PlayWords.{PlayWords}
 use Rattle.cy_commands.specs.Commands.PlayWork.{outputs_apart, replayed_in}
 use Rattle.cy_commands.specs.PlayEnds.{SetsUp}
 use Rattle.cy_commands.specs.private.PlayWrites.{ReadsReplay}
-use Rattle.cy_replay.specs.FaultText.{is_limit}
-use Rattle.cy_replay.specs.declared.error.Refusal.{Refusal}
-use Rattle.cy_replay.specs.declared.error.SetupError.{SetupError}
-use Rattle.cy_replay.specs.declared.error.SetupError.TheVariants as setup
-use Rattle.cy_words.specs.Command.{Command}
+use Rattle.cy_setup.specs.FaultText.{is_limit}
+use Rattle.cy_setup.specs.declared.error.Refusal.{Refusal}
+use Rattle.cy_setup.specs.declared.error.SetupError.{SetupError}
+use Rattle.cy_setup.specs.declared.error.SetupError.TheVariants as setup
+use Rattle.cy_args.specs.Command.{Command}
 use Rattle.cy_commands.specs.declared.status.Status.{Status}
 use Rattle.cy_commands.specs.declared.status.Status.TheVariants.{Limit, Refused}
 use Rattle.cy_commands.specs.Commands.{IsRefused, outcome_of}

@@ -1,12 +1,12 @@
 -- What is due for the command that was read is due for whatever the words ask for, since they ask for no other.
 use Rattle.std.proofs.Common.{◌≡◌, ℕ, List, Option, Some, None, Result, Ok, sym, subst}
 use Rattle.cy_store.specs.Store.{StoreView}
-use Rattle.cy_replay.specs.declared.setup.Replay.{Replay}
-use Rattle.cy_words.specs.Asking.{IsReadAs, IsSomeAsked}
-use Rattle.cy_words.specs.Command.{Command, Play, Asks, IsAsked}
-use Rattle.cy_words.specs.PlayViews.{play_words_of}
-use Rattle.cy_words.specs.declared.play_words.Play as code
-use Rattle.cy_words.proofs.Asked.{one_asked}
+use Rattle.cy_setup.specs.declared.setup.Replay.{Replay}
+use Rattle.cy_args.specs.Asking.{IsReadAs, IsSomeAsked}
+use Rattle.cy_args.specs.Command.{Command, Play, Asks, IsAsked}
+use Rattle.cy_args.specs.PlayViews.{play_words_of}
+use Rattle.cy_args.specs.declared.play_words.Play as code
+use Rattle.cy_args.proofs.Asked.{one_asked}
 use Rattle.cy_commands.specs.Begun.{HasBegun}
 use Rattle.cy_commands.specs.Due.{IsDue, IsDueFor}
 use Rattle.cy_commands.specs.Line.{bytes_of_line}

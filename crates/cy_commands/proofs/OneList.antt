@@ -12,8 +12,8 @@ use Rattle.cy_msg.specs.declared.token.Token.{Token}
 use Rattle.cy_msg.specs.declared.filter.Filter.{Filter}
 use Rattle.cy_timer.specs.Merged.{merged}
 use Rattle.cy_timer.specs.Timers.{timers_of}
-use Rattle.cy_replay.specs.Listing.{IsListed, choice_of}
-use Rattle.cy_replay.specs.Wiring.{Wired}
+use Rattle.cy_setup.specs.Listing.{IsListed, choice_of}
+use Rattle.cy_setup.specs.Wiring.{Wired}
 use Rattle.cy_reader.specs.Record.{Contents}
 use Rattle.cy_play_list.specs.Play.{Choice, IsPlayList, number_at, time_at, tokens_behind, value_at}
 

@@ -19,11 +19,11 @@ use Rattle.cy_trace.specs.TraceOfRun.{trace_of_run}
 use Rattle.cy_trace_text.specs.TraceText.{trace_text}
 use Rattle.cy_recording.specs.Compare.{first_difference}
 use Rattle.cy_recording.specs.Recording.{Source}
-use Rattle.cy_replay.specs.declared.error.Refusal.{Refusal}
-use Rattle.cy_replay.specs.Setup.{Replayed}
-use Rattle.cy_replay.specs.Stops.{stop_of}
-use Rattle.cy_replay.specs.TraceFile.{trace_in}
-use Rattle.cy_words.specs.PlayWords.{PlayWords}
+use Rattle.cy_setup.specs.declared.error.Refusal.{Refusal}
+use Rattle.cy_setup.specs.Setup.{Replayed}
+use Rattle.cy_setup.specs.Stops.{stop_of}
+use Rattle.cy_setup.specs.TraceFile.{trace_in}
+use Rattle.cy_args.specs.PlayWords.{PlayWords}
 use Rattle.cy_commands.specs.declared.status.Status.{Status}
 use Rattle.cy_commands.specs.declared.status.Status.TheVariants as status
 use Rattle.cy_commands.specs.Commands.PlayWork.{source_in, tape_record}

@@ -8,11 +8,11 @@ use Rattle.std.proofs.lemmas.List.Elements.{Contains-get_or}
 use Rattle.std.proofs.lemmas.Slice.Eq.{bytes_eq-Decides}
 use Rattle.cy_store.specs.Files.{Files}
 use Rattle.cy_store.specs.Reads.{Accepts, Reads, Refuses}
-use Rattle.cy_replay.specs.Apart.{IsApart, IsOneOf, apart_from, standard_output, unless_also}
-use Rattle.cy_replay.specs.Comes.{IsJudged}
-use Rattle.cy_replay.specs.declared.error.Refusal.{Refusal}
-use Rattle.cy_replay.specs.declared.error.SetupError.{SetupError}
-use Rattle.cy_replay.specs.declared.error.SetupError.TheVariants.{Refused}
+use Rattle.cy_setup.specs.Apart.{IsApart, IsOneOf, apart_from, standard_output, unless_also}
+use Rattle.cy_setup.specs.Comes.{IsJudged}
+use Rattle.cy_setup.specs.declared.error.Refusal.{Refusal}
+use Rattle.cy_setup.specs.declared.error.SetupError.{SetupError}
+use Rattle.cy_setup.specs.declared.error.SetupError.TheVariants.{Refused}
 use Rattle.cy_commands.specs.Commands.MakeWork.{made_suffixes, names_behind}
 use Rattle.cy_commands.specs.private.MakeEnds.{AreOwn}
 use Rattle.cy_commands.proofs.Leaving.{behind_prefix}

@@ -4,20 +4,20 @@ use Rattle.std.specs.Option.{option_map}
 use Rattle.std.specs.FinMap.{insert}
 use Rattle.cy_store.specs.Files.{Files}
 use Rattle.cy_store.specs.Reads.{Accepts, Reads}
-use Rattle.cy_replay.specs.declared.error.Refusal.{Refusal}
+use Rattle.cy_setup.specs.declared.error.Refusal.{Refusal}
 use Rattle.cy_store.specs.Store.{StoreView, SameCounts, WriteRose}
 use Rattle.cy_store.specs.Write.{after_writes}
 use Rattle.cy_writer.specs.Writes.{placed, StopsAt, StopsBefore}
 use Rattle.cy_writer.proofs.Puts.{rose_more, after_writes-append}
 use Rattle.wake_core.specs.Plain.{Plain}
 use Rattle.wake_core.specs.Rest.{run_shown}
-use Rattle.cy_replay.specs.declared.error.SetupError.{SetupError}
-use Rattle.cy_replay.specs.declared.setup.Replay.{Replay}
+use Rattle.cy_setup.specs.declared.error.SetupError.{SetupError}
+use Rattle.cy_setup.specs.declared.setup.Replay.{Replay}
 use Rattle.cy_writer.specs.RecordWrites.{file_writes, record_puts}
 use Rattle.cy_recording.specs.Recording.{channels_of_tape, chunks_of_tape}
-use Rattle.cy_replay.specs.Setup.{IsAsked, IsSetUp, Replayed, replayed}
-use Rattle.cy_replay.specs.Stops.{stop_of}
-use Rattle.cy_replay.specs.Wiring.{wired_by}
+use Rattle.cy_setup.specs.Setup.{IsAsked, IsSetUp, Replayed, replayed}
+use Rattle.cy_setup.specs.Stops.{stop_of}
+use Rattle.cy_setup.specs.Wiring.{wired_by}
 use Rattle.cy_msg.specs.declared.stop.Stop.{Stop}
 use Rattle.cy_writer.proofs.RecordBytes.{after_record, after_file, after_placed}
 use Rattle.cy_recording.proofs.TapeText.{record_text}
@@ -27,13 +27,13 @@ use Rattle.cy_commands.specs.declared.failure.Failure.TheVariants as failure
 use Rattle.cy_commands.specs.declared.status.Status.{Status}
 use Rattle.cy_commands.specs.declared.status.Status.TheVariants.{Done}
 use Rattle.cy_commands.specs.private.Unset.{IsDueUnset}
-use Rattle.cy_words.specs.Command.{Play}
+use Rattle.cy_args.specs.Command.{Play}
 use Rattle.cy_commands.specs.Work.{IsMadeOf, Work}
 use Rattle.cy_commands.specs.Due.{IsDueFor}
 use Rattle.cy_commands.specs.Lines.{store_line}
 use Rattle.cy_commands.specs.PlayEnds.{SetsUp, HasRun, source_by}
 use Rattle.cy_commands.specs.private.PlayWrites.{IsDueAfterPlay, IsLine, WritesPlay, writes_by}
-use Rattle.cy_words.specs.PlayWords.{PlayWords}
+use Rattle.cy_args.specs.PlayWords.{PlayWords}
 use Rattle.cy_commands.specs.Commands.PlayWork.{IsPlayed, IsPlayWork, readied_in, play_line, tape_record, run_trace}
 use Rattle.cy_commands.proofs.PiecesPut.{whole}
 use Rattle.cy_commands.proofs.Refusing as refusing

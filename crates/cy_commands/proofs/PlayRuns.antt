@@ -13,12 +13,12 @@ use Rattle.wake_core.specs.Way.{IsLed}
 use Rattle.wake_core.specs.WorldCalls.{IsTooMany}
 use Rattle.wake_core.specs.declared.entries.TheConstants.{MOST_PLANNED}
 use Rattle.wake_core.specs.declared.route.Route.{Route}
-use Rattle.cy_replay.specs.Listing.{choice_of}
-use Rattle.cy_replay.specs.Setup.{IsSetUp}
-use Rattle.cy_replay.specs.Wiring.{wired_by}
+use Rattle.cy_setup.specs.Listing.{choice_of}
+use Rattle.cy_setup.specs.Setup.{IsSetUp}
+use Rattle.cy_setup.specs.Wiring.{wired_by}
 use Rattle.cy_recording.specs.Recording.{IsWritable}
 use Rattle.cy_recording.specs.RecordLaws.{PlacesAreThere}
-use Rattle.cy_replay.specs.declared.setup.Replay.{Replay}
+use Rattle.cy_setup.specs.declared.setup.Replay.{Replay}
 use Rattle.cy_trace.specs.TraceForm.{IsTraceText}
 use Rattle.cy_commands.specs.PlayEnds.{HasRun, source_by}
 use Rattle.cy_commands.specs.Commands.PlayWork.{IsRunOf, run_trace}

@@ -18,11 +18,11 @@ use Rattle.cy_commands.specs.declared.failure.Failure.{Failure}
 use Rattle.cy_commands.specs.declared.failure.Failure.TheVariants as failure
 use Rattle.wake_core.specs.Plain.{Plain}
 use Rattle.wake_core.specs.Rest.{run_shown}
-use Rattle.cy_replay.specs.declared.setup.Replay.{Replay}
+use Rattle.cy_setup.specs.declared.setup.Replay.{Replay}
 use Rattle.cy_commands.specs.Commands.PlayWork.{run_trace}
 use Rattle.cy_commands.specs.PlayEnds.{source_by}
 use Rattle.cy_commands.specs.private.PlayWrites.{name_of_play, unwritten, WritesPieces, WritesPlay}
-use Rattle.cy_words.specs.PlayWords.{PlayWords}
+use Rattle.cy_args.specs.PlayWords.{PlayWords}
 use Rattle.cy_commands.proofs.Refusing.{same_since}
 
 -- the puts of a record's tape

@@ -5,12 +5,12 @@ use Rattle.cy_store.specs.Files.{Files}
 use Rattle.cy_store.specs.Reads.{Reads, Absent}
 use Rattle.cy_store.specs.Store.{StoreView, SameCounts}
 use Rattle.cy_store.specs.Write.{after_writes}
-use Rattle.cy_replay.specs.declared.error.Refusal.{Refusal}
-use Rattle.cy_replay.specs.declared.error.SetupError.{SetupError}
-use Rattle.cy_replay.specs.declared.error.SetupError.TheVariants as setup
-use Rattle.cy_replay.specs.Comes.{ComesTo}
-use Rattle.cy_replay.specs.FaultText.{is_limit}
-use Rattle.cy_words.specs.Command.{Command}
+use Rattle.cy_setup.specs.declared.error.Refusal.{Refusal}
+use Rattle.cy_setup.specs.declared.error.SetupError.{SetupError}
+use Rattle.cy_setup.specs.declared.error.SetupError.TheVariants as setup
+use Rattle.cy_setup.specs.Comes.{ComesTo}
+use Rattle.cy_setup.specs.FaultText.{is_limit}
+use Rattle.cy_args.specs.Command.{Command}
 use Rattle.cy_commands.specs.declared.status.Status.{Status}
 use Rattle.cy_commands.specs.declared.status.Status.TheVariants.{Done, Refused, Limit}
 use Rattle.cy_commands.specs.Due.{IsDueFor, RefusesFiles}

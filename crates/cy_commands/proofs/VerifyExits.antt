@@ -32,17 +32,17 @@ use Rattle.cy_recording.specs.declared.error.SameError.{SameError}
 use Rattle.cy_recording.specs.declared.error.SameError.TheVariants as same_error
 use Rattle.cy_verify.specs.Verdict as verdict
 use Rattle.cy_verify.specs.declared.verdict.Told.{Told}
-use Rattle.cy_replay.specs.declared.error.Fault.TheVariants as fault
-use Rattle.cy_replay.specs.declared.error.Refusal.{Refusal}
-use Rattle.cy_replay.specs.declared.error.SetupError.{SetupError}
-use Rattle.cy_replay.specs.declared.error.SetupError.TheVariants as setup
-use Rattle.cy_replay.specs.declared.setup.Replay.{Replay}
-use Rattle.cy_replay.specs.Comes.{ComesTo}
-use Rattle.cy_replay.specs.FaultText.{is_limit}
-use Rattle.cy_replay.specs.Setup.{IsAsked, IsSetUp, Replayed, replayed}
-use Rattle.cy_replay.specs.TraceFile.{trace_in}
-use Rattle.cy_words.specs.Command.{Verify}
-use Rattle.cy_words.specs.PlayWords.{PlayWords}
+use Rattle.cy_setup.specs.declared.error.Fault.TheVariants as fault
+use Rattle.cy_setup.specs.declared.error.Refusal.{Refusal}
+use Rattle.cy_setup.specs.declared.error.SetupError.{SetupError}
+use Rattle.cy_setup.specs.declared.error.SetupError.TheVariants as setup
+use Rattle.cy_setup.specs.declared.setup.Replay.{Replay}
+use Rattle.cy_setup.specs.Comes.{ComesTo}
+use Rattle.cy_setup.specs.FaultText.{is_limit}
+use Rattle.cy_setup.specs.Setup.{IsAsked, IsSetUp, Replayed, replayed}
+use Rattle.cy_setup.specs.TraceFile.{trace_in}
+use Rattle.cy_args.specs.Command.{Verify}
+use Rattle.cy_args.specs.PlayWords.{PlayWords}
 use Rattle.cy_commands.specs.declared.status.Status.{Status}
 use Rattle.cy_commands.specs.declared.status.Status.TheVariants.{Done}
 use Rattle.cy_commands.specs.Commands.PlayWork.{replayed_in, tape_record}

@@ -1,11 +1,11 @@
 -- What words ask for, as far as nothing is played.
 use Rattle.std.specs.Prelude.{◌≡◌, ⊤, Option, Some, Ok}
 use Rattle.cy_store.specs.Store.{StoreView}
-use Rattle.cy_replay.specs.Setup.{IsSetUp}
-use Rattle.cy_replay.specs.declared.setup.Replay.{Replay}
-use Rattle.cy_words.specs.Command.{Command, Play}
-use Rattle.cy_words.specs.PlayViews.{play_words_of}
-use Rattle.cy_words.specs.PlayWords.{PlayWords}
+use Rattle.cy_setup.specs.Setup.{IsSetUp}
+use Rattle.cy_setup.specs.declared.setup.Replay.{Replay}
+use Rattle.cy_args.specs.Command.{Command, Play}
+use Rattle.cy_args.specs.PlayViews.{play_words_of}
+use Rattle.cy_args.specs.PlayWords.{PlayWords}
 use Rattle.cy_commands.specs.declared.begun.Begun.{Begun}
 use Rattle.cy_commands.specs.declared.begun.Begun.TheVariants as begun
 use Rattle.cy_commands.specs.Due.{IsDue}

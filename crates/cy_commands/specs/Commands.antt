@@ -12,10 +12,10 @@ use Rattle.std.specs.Prelude.{ℕ, ◌≡◌, ⊤, List, Option, Some, IfSome}
 use Rattle.std.specs.List.{Contains}
 use Rattle.cy_store.specs.Files.{Files}
 use Rattle.cy_store.specs.Reads.{Reads, Accepts, Absent}
-use Rattle.cy_replay.specs.Configuration.{IsAsked}
-use Rattle.cy_replay.specs.Setup as setup
-use Rattle.cy_replay.specs.declared.error.Refusal.{Refusal}
-use Rattle.cy_words.specs.Command.{Command, Check, Info, Play, Make, Verify, Recover, Split, Merge}
+use Rattle.cy_setup.specs.Configuration.{IsAsked}
+use Rattle.cy_setup.specs.Setup as setup
+use Rattle.cy_setup.specs.declared.error.Refusal.{Refusal}
+use Rattle.cy_args.specs.Command.{Command, Check, Info, Play, Make, Verify, Recover, Split, Merge}
 use Rattle.cy_commands.specs.declared.status.Status.{Status}
 use Rattle.cy_commands.specs.Commands.CheckWork.{IsCheckWork, checked_in}
 use Rattle.cy_commands.specs.Commands.InfoWork.{IsInfoWork, told_of}

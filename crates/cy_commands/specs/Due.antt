@@ -7,7 +7,7 @@ use Rattle.cy_writer.specs.Writes.{StopsAt, StopsBefore}
 use Rattle.cy_commands.specs.declared.status.Status.{Status}
 use Rattle.cy_commands.specs.declared.status.Status.TheVariants.{Done, Refused, Usage, StoreFault}
 use Rattle.cy_commands.specs.declared.status.Status.TheVariants.{SinkFault, Limit, Memory}
-use Rattle.cy_words.specs.Command.{Command}
+use Rattle.cy_args.specs.Command.{Command}
 use Rattle.cy_commands.specs.Work.{Work}
 use Rattle.cy_commands.specs.Commands.{IsAbsent, IsAccepted, IsReadBy, IsRefused, outcome_of}
 use Rattle.cy_commands.specs.Lines.{usage_line, memory_line, store_line}

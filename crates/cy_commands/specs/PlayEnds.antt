@@ -8,12 +8,12 @@ use Rattle.wake_core.specs.Plain.{Plain}
 use Rattle.wake_core.specs.Rest.{run_shown}
 use Rattle.wake_core.specs.Run.{routes_of}
 use Rattle.wake_core.specs.Way.{IsLedTo}
-use Rattle.cy_replay.specs.Comes.{ComesTo}
+use Rattle.cy_setup.specs.Comes.{ComesTo}
 use Rattle.cy_recording.specs.Recording.{Source, IsWritable}
-use Rattle.cy_replay.specs.Setup.{replayed, IsAsked}
-use Rattle.cy_replay.specs.declared.error.SetupError.{SetupError}
-use Rattle.cy_replay.specs.declared.setup.Replay.{Replay}
-use Rattle.cy_words.specs.PlayWords.{PlayWords}
+use Rattle.cy_setup.specs.Setup.{replayed, IsAsked}
+use Rattle.cy_setup.specs.declared.error.SetupError.{SetupError}
+use Rattle.cy_setup.specs.declared.setup.Replay.{Replay}
+use Rattle.cy_args.specs.PlayWords.{PlayWords}
 use Rattle.cy_commands.specs.Commands.PlayWork.{IsRunOf, readied_in, run_trace, source_in}
 
 -- What reading the files of a play comes to, where the files that are written are other ones: a

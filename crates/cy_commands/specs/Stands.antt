@@ -10,8 +10,8 @@ use Rattle.cy_section.specs.RecordText.{record_bytes}
 use Rattle.cy_writer.specs.Unfinished.{AreOfOthers, StandsCut, StandsTorn, writes_among}
 use Rattle.cy_make.specs.Inputs.{all_configs, record_name}
 use Rattle.cy_make.specs.Texts.{suffix_of}
-use Rattle.cy_words.specs.Command.{Asks, Command, Check, Info, Play, Make, Verify, Recover, Split}
-use Rattle.cy_words.specs.Command.{Merge}
+use Rattle.cy_args.specs.Command.{Asks, Command, Check, Info, Play, Make, Verify, Recover, Split}
+use Rattle.cy_args.specs.Command.{Merge}
 use Rattle.cy_commands.specs.declared.status.Status.{Status}
 use Rattle.cy_commands.specs.declared.status.Status.TheVariants.{Done, Refused, Usage, StoreFault}
 use Rattle.cy_commands.specs.declared.status.Status.TheVariants.{SinkFault, Limit, Memory}

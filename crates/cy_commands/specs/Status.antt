@@ -1,9 +1,9 @@
 -- The number with which the process ends, and the status of a file that is refused.
 use Rattle.std.specs.Prelude.{ℕ, if◌then◌else◌}
 use Rattle.cy_store.specs.Reads.{Reads, Accepts, Refuses, Absent}
-use Rattle.cy_replay.specs.declared.error.Fault.{Fault}
-use Rattle.cy_replay.specs.declared.error.Refusal.{Refusal}
-use Rattle.cy_replay.specs.FaultText.{is_limit}
+use Rattle.cy_setup.specs.declared.error.Fault.{Fault}
+use Rattle.cy_setup.specs.declared.error.Refusal.{Refusal}
+use Rattle.cy_setup.specs.FaultText.{is_limit}
 use Rattle.cy_commands.specs.declared.status.Status.{Status}
 use Rattle.cy_commands.specs.declared.status.Status.TheVariants.{Done, Refused, Usage, StoreFault}
 use Rattle.cy_commands.specs.declared.status.Status.TheVariants.{SinkFault, Limit, Memory}

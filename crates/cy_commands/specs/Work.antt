@@ -3,7 +3,7 @@ use Rattle.std.specs.Prelude.{ℕ, ◌≡◌, List, Option, IfSome}
 use Rattle.cy_store.specs.Files.{Files}
 use Rattle.cy_store.specs.Reads.{Reads, Accepts}
 use Rattle.cy_store.specs.Write.{Write}
-use Rattle.cy_replay.specs.declared.error.Refusal.{Refusal}
+use Rattle.cy_setup.specs.declared.error.Refusal.{Refusal}
 
 -- What it writes to the store, in order, and the text that it prints.
 pub record Work : Type 0 where

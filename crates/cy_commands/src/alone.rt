@@ -2,15 +2,15 @@
 ghost use Rattle.std.specs.Prelude.{ℕ, List, Option};
 ghost use Rattle.cy_commands.specs.Due.{IsDue};
 ghost use Rattle.cy_commands.specs.Line.{bytes_of_line};
-ghost use Rattle.cy_words.specs.Asking.{IsReadAs};
-ghost use Rattle.cy_words.specs.Command as asked;
-ghost use Rattle.cy_words.specs.Command.{AsksStill, IsAsked};
+ghost use Rattle.cy_args.specs.Asking.{IsReadAs};
+ghost use Rattle.cy_args.specs.Command as asked;
+ghost use Rattle.cy_args.specs.Command.{AsksStill, IsAsked};
 
 use crate::begun::{Begun, begin};
 use crate::due::Due;
 use crate::play::due_played_alone;
+use cy_args::{CommandWords, WordsError};
 use cy_store::Store;
-use cy_words::{CommandWords, WordsError};
 use std::alloc::Global;
 use std::thread::Threads;
 

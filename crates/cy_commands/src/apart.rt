@@ -2,18 +2,18 @@
 ghost use Rattle.std.specs.Prelude.{◌≡◌, ℕ, List, map, Ok, IfOk, IfSome, IsErrOf};
 ghost use Rattle.cy_store.specs.Store.{StoreView};
 ghost use Rattle.cy_msg.specs.Request.{HasReader};
-ghost use Rattle.cy_replay.specs.Comes.{IsJudged};
-ghost use Rattle.cy_replay.specs.Setup.{IsSetUp};
-ghost use Rattle.cy_replay.specs.Steps.{configured};
-ghost use Rattle.cy_words.specs.PlayViews.{play_words_of};
+ghost use Rattle.cy_setup.specs.Comes.{IsJudged};
+ghost use Rattle.cy_setup.specs.Setup.{IsSetUp};
+ghost use Rattle.cy_setup.specs.Steps.{configured};
+ghost use Rattle.cy_args.specs.PlayViews.{play_words_of};
 ghost use Rattle.cy_commands.specs.Commands.PlayWork.{others_of, outputs_apart};
 ghost use Rattle.cy_commands.specs.PlayEnds.{SetsUp};
 ghost use Rattle.cy_commands.specs.private.PlayWrites.{ReadsReplay};
 
 use crate::play::read_files;
-use cy_replay::{Configuration, Replay, STANDARD_OUTPUT, SetupError, files_read, test_apart};
+use cy_args::Play;
+use cy_setup::{Configuration, Replay, STANDARD_OUTPUT, SetupError, files_read, test_apart};
 use cy_store::Store;
-use cy_words::Play;
 use std::alloc::{AllocError, Global};
 use std::thread::Threads;
 

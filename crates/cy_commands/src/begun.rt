@@ -3,18 +3,18 @@ ghost use Rattle.std.specs.Prelude.{ℕ, ◌≡◌, List, Option};
 ghost use Rattle.cy_commands.specs.Begun.{HasBegun, IsReady};
 ghost use Rattle.cy_commands.specs.Line.{bytes_of_line};
 ghost use Rattle.cy_commands.specs.Lines.{usage_line};
-ghost use Rattle.cy_words.specs.Asking.{IsReadAs};
-ghost use Rattle.cy_words.specs.Command as asked;
-ghost use Rattle.cy_words.specs.Command.{Asks, AsksStill, IsAsked};
+ghost use Rattle.cy_args.specs.Asking.{IsReadAs};
+ghost use Rattle.cy_args.specs.Command as asked;
+ghost use Rattle.cy_args.specs.Command.{Asks, AsksStill, IsAsked};
 
 use crate::commands::begin_command;
 use crate::due::{Due, out_of_memory};
 use crate::fault_text::USAGE_LINE;
 use crate::line::Line;
 use crate::status::Status;
-use cy_replay::Replay;
+use cy_args::{CommandWords, Play, WordsError};
+use cy_setup::Replay;
 use cy_store::Store;
-use cy_words::{CommandWords, Play, WordsError};
 use std::alloc::Global;
 use std::thread::Threads;
 

@@ -2,9 +2,9 @@
 ghost use Rattle.std.specs.Prelude.{Some};
 ghost use Rattle.cy_msg.specs.Request.{HasReader};
 ghost use Rattle.cy_commands.specs.Begun.{HasBegun, IsReady};
-ghost use Rattle.cy_words.specs.Command as asked;
-ghost use Rattle.cy_words.specs.PlayViews.{play_words_of};
-ghost use Rattle.cy_words.specs.Views.{command_asked, IsInForm};
+ghost use Rattle.cy_args.specs.Command as asked;
+ghost use Rattle.cy_args.specs.PlayViews.{play_words_of};
+ghost use Rattle.cy_args.specs.Views.{command_asked, IsInForm};
 
 mod check;
 mod info;
@@ -16,10 +16,10 @@ mod verify;
 
 use crate::apart::ready;
 use crate::begun::Begun;
-use crate::unset::due_unset;
+use crate::unset::due_after_failed_setup;
 use check::run_check;
+use cy_args::{Command, Play};
 use cy_store::Store;
-use cy_words::{Command, Play};
 use info::run_info;
 use make::run_make;
 use merge::run_merge;
@@ -43,7 +43,7 @@ fn begin_play<'a, S: Store, R: Threads + Sync>(
 {
     match ready(rt, alloc, store, play) {
         Ok(replay) => Begun::SetUp(*play, replay),
-        Err(error) => Begun::Ended(due_unset(alloc, error)),
+        Err(error) => Begun::Ended(due_after_failed_setup(alloc, error)),
     }
 }
 

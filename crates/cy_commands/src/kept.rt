@@ -8,9 +8,9 @@ ghost use Rattle.cy_commands.specs.private.KeptEnds.{AreTested, IsDueKept, IsDue
 use crate::due::{Due, out_of_memory, store_failed};
 use crate::line::Line;
 use crate::status::Status;
-use crate::unset::due_unset;
+use crate::unset::due_after_failed_setup;
 use cy_msg::Bytes;
-use cy_replay::{Fault, STANDARD_OUTPUT, SetupError, refused, test_apart};
+use cy_setup::{Fault, STANDARD_OUTPUT, SetupError, refused, test_apart};
 use cy_store::Store;
 use cy_tools::{File, ToolError};
 use itoa::Buffer;
@@ -97,7 +97,10 @@ pub(crate) fn due_unkept<'a>(
     ensures { IsDueUnkept input.now output.now error result.status (bytes_of_line result.line) }
 {
     match error {
-        ToolError::Load(fault) => due_unset(alloc, refused(alloc, input, Fault::Record(fault))),
+        ToolError::Load(fault) => due_after_failed_setup(
+            alloc,
+            refused(alloc, input, Fault::Record(fault)),
+        ),
         ToolError::Store(file) => store_failed(name_of(input, output, file)),
         ToolError::Memory => out_of_memory(),
     }

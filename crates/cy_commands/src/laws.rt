@@ -3,10 +3,10 @@ ghost use Rattle.cy_commands.specs.Commands.MakeWork.{AskedTextsAreShort};
 ghost use Rattle.cy_commands.specs.Commands.VerifyWork.{VerdictsAreOne};
 ghost use Rattle.cy_commands.specs.Stands.{LeavesItsFiles};
 
+use cy_args::play_files_differ;
 use cy_make::made_texts_are_short;
 use cy_trace_read::{first_bad_is_one, texts_tell_traces};
 use cy_trace_text::{runs_are_traces, traces_tell_runs};
-use cy_words::play_files_differ;
 use cy_writer::{
     record_writes_leave_the_record, stopped_writes_leave_a_front, stopped_writes_leave_other_files,
 };

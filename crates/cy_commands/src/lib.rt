@@ -2,7 +2,7 @@
 //! status is due then. A play on threads begins and ends here too; how it runs is in `cyber_cli`.
 //!
 //! `specs/Due` says which status is due, `specs/Commands` what each command reads and makes, by a
-//! file of its own below. Which words ask for which command says `cy_words`, how a status is told
+//! file of its own below. Which words ask for which command says `cy_args`, how a status is told
 //! `cyber_cli`.
 #![tactic(auto)]
 

@@ -10,7 +10,7 @@ use crate::fault_text::STORE_FAILED;
 use crate::line::Line;
 use crate::status::Status;
 use cy_msg::Bytes;
-use cy_replay::{Fault, SetupError};
+use cy_setup::{Fault, SetupError};
 use std::alloc::{AllocError, Global};
 
 // The status of a fault.
@@ -58,7 +58,7 @@ fn due_of<'a>(alloc: Global, error: &SetupError) -> Due<'a>
 }
 
 /// What is due where the files are not accepted.
-pub fn due_unset<'a>(alloc: Global, error: SetupError) -> Due<'a>
+pub fn due_after_failed_setup<'a>(alloc: Global, error: SetupError) -> Due<'a>
     ensures { IsDueUnset error result.status (bytes_of_line result.line) }
 {
     let due = due_of(alloc, &error);

@@ -20,14 +20,14 @@ use Rattle.cy_timer.specs.Timers.{timers_of}
 use Rattle.wake_core.specs.Planned.{planned}
 use Rattle.wake_core.specs.Run.{routes_of}
 use Rattle.wake_core.specs.declared.entries.TheConstants.{MOST_PLANNED}
-use Rattle.cy_replay.specs.declared.error.Fault.{Fault}
-use Rattle.cy_replay.specs.declared.error.Fault.TheVariants as fault
-use Rattle.cy_replay.specs.Configuration.{Configured, configuration_in}
-use Rattle.cy_replay.specs.Faults.{in_file, unless}
-use Rattle.cy_replay.specs.Listing.{all_count, channels_of as channel_names, choice_of, contents_or, counts_of, few_in, limited, planned_in, played_in, played_on, record_in, ticks_on, times_of}
-use Rattle.cy_replay.specs.Setup.{judged_in, replay_in}
-use Rattle.cy_replay.specs.Stops.{stop_in}
-use Rattle.cy_replay.specs.Wiring.{Wired, wired_of, wiring_in}
+use Rattle.cy_setup.specs.declared.error.Fault.{Fault}
+use Rattle.cy_setup.specs.declared.error.Fault.TheVariants as fault
+use Rattle.cy_setup.specs.Configuration.{Configured, configuration_in}
+use Rattle.cy_setup.specs.Faults.{in_file, unless}
+use Rattle.cy_setup.specs.Listing.{all_count, channels_of as channel_names, choice_of, contents_or, counts_of, few_in, limited, planned_in, played_in, played_on, record_in, ticks_on, times_of}
+use Rattle.cy_setup.specs.Setup.{judged_in, replay_in}
+use Rattle.cy_setup.specs.Stops.{stop_in}
+use Rattle.cy_setup.specs.Wiring.{Wired, wired_of, wiring_in}
 use Rattle.cy_make.specs.declared.config.Config.TheVariants.{Adder, Band, Last8, Late, Dag}
 use Rattle.cy_make.specs.Inputs.{record_name, with_inputs}
 use Rattle.cy_make.specs.Messages.{channels_of, untyped}

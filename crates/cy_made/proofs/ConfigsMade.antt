@@ -14,7 +14,7 @@ use Rattle.cy_comp.specs.declared.kind.Kind.TheVariants as kind
 use Rattle.cy_dag.specs.Values.{each_refusal}
 use Rattle.cy_dag.specs.Classes.{class_named}
 use Rattle.cy_dag.specs.declared.config.Config as dag
-use Rattle.cy_replay.specs.Configuration.{config_by}
+use Rattle.cy_setup.specs.Configuration.{config_by}
 use Rattle.cy_make.specs.declared.config.Config.TheVariants.{Adder, Band, Last8, Late}
 use Rattle.cy_make.specs.Texts.{text_of}
 use Rattle.std.specs.Str.{is_utf8, chars}

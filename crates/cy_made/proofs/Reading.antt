@@ -13,12 +13,12 @@ use Rattle.cy_dag.specs.DagFile.{components_of, dag_refusal, unknown_in_dag}
 use Rattle.cy_dag.specs.declared.config.Config as dag
 use Rattle.cy_dag.specs.declared.dag.DagComponent.{DagComponent}
 use Rattle.cy_sched.specs.SchedFile.{default_sched}
-use Rattle.cy_replay.specs.Values.{valued_configs}
-use Rattle.cy_replay.specs.declared.error.Fault.TheVariants as fault
-use Rattle.cy_replay.specs.declared.error.Refusal.{Refusal}
-use Rattle.cy_replay.specs.AnswersFile.{answered_by, answered_in, answers_file}
-use Rattle.cy_replay.specs.Configuration.{Configured, DagSays, config_by, config_in, configs_from, configs_in, configuration_in, dag_in, dag_of, fields_of, longest_config, refused_in, said_in, sched_in, text_in}
-use Rattle.cy_replay.specs.Faults.{in_file}
+use Rattle.cy_setup.specs.Values.{valued_configs}
+use Rattle.cy_setup.specs.declared.error.Fault.TheVariants as fault
+use Rattle.cy_setup.specs.declared.error.Refusal.{Refusal}
+use Rattle.cy_setup.specs.AnswersFile.{answered_by, answered_in, answers_file}
+use Rattle.cy_setup.specs.Configuration.{Configured, DagSays, config_by, config_in, configs_from, configs_in, configuration_in, dag_in, dag_of, fields_of, longest_config, refused_in, said_in, sched_in, text_in}
+use Rattle.cy_setup.specs.Faults.{in_file}
 use Rattle.cy_make.specs.declared.config.Config.{Config}
 use Rattle.cy_make.specs.declared.config.Config.TheVariants.{Adder, Band, Last8, Late, Dag}
 use Rattle.cy_make.specs.Inputs.{with_inputs}

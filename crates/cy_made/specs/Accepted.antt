@@ -8,7 +8,7 @@ use Rattle.cy_msg.specs.declared.filter.Filter.{Filter}
 use Rattle.cy_make.specs.declared.config.Config.TheVariants.{Dag}
 use Rattle.cy_make.specs.Inputs.{record_name, with_inputs}
 use Rattle.cy_make.specs.Texts.{longest_prefix, suffix_of}
-use Rattle.cy_replay.specs.Setup.{Replayed, replay_in}
+use Rattle.cy_setup.specs.Setup.{Replayed, replay_in}
 
 -- A replay of the record that is made, through the components that are made, with the default
 -- scheduler and no stop.

@@ -22,7 +22,7 @@ use Rattle.cy_section.specs.RecordText.{Part, bytes_of, parts_of, record_bytes, 
 use Rattle.cy_section.proofs.Lengths.{length-header_section, length-of-message_field, length-message_fields}
 use Rattle.cy_reader.specs.declared.error.LoadError.{LoadError}
 use Rattle.cy_cut.specs.Sections.{WholeSection, Sections, longest_section, sections_from}
-use Rattle.cy_reader.specs.Record.{◌>>=◌, Met, file_header, sections_met, nothing}
+use Rattle.cy_reader.specs.Record.{◌>>=◌, Met, file_header, add_sections, nothing}
 use Rattle.cy_reader.specs.Named.{named_messages}
 use Rattle.cy_reader.specs.Said.{section_messages, IsSaid}
 use Rattle.cy_salvage.specs.Salvage.{Salvage, own_fault, until_fault, sound_sections, dropped_behind, if_usable, salvage_in, salvage_of}
@@ -216,24 +216,24 @@ said channels chunks file cs_are are front =
     ap (flat_map section_messages) (sound_front channels chunks file cs_are are front) ∙ (channels_say channels (messages_in chunks) chunks (length file) header_end cs_are are).messages
 
 -- the messages that are met are those of the sound sections
-met_of_salvage : (size : ℕ) (sound : Sections) (s : Salvage) → salvage_in size sound ≡ Ok s → sections_met sound.sections None nothing ≡ Ok s.met
-met_of_salvage size sound s is = by (sections_met sound.sections None nothing) refl
+met_of_salvage : (size : ℕ) (sound : Sections) (s : Salvage) → salvage_in size sound ≡ Ok s → add_sections sound.sections None nothing ≡ Ok s.met
+met_of_salvage size sound s is = by (add_sections sound.sections None nothing) refl
   where
     same : (x y : Salvage) → (let r : Result Salvage LoadError = Ok x in r ≡ Ok y) → x ≡ y
     same x y h = cc
 
-    by : (r : Result Met LoadError) → sections_met sound.sections None nothing ≡ r → sections_met sound.sections None nothing ≡ Ok s.met
+    by : (r : Result Met LoadError) → add_sections sound.sections None nothing ≡ r → add_sections sound.sections None nothing ≡ Ok s.met
     by (Ok met) e =
         let whole : Salvage = record { met = met; dropped = dropped_behind size sound } in
         let there : (let r : Result Salvage LoadError = Ok whole in r ≡ Ok s) = sym (ap (λ (r : Result Met LoadError). r >>= λ m. Ok (record { met = m; dropped = dropped_behind size sound })) e) ∙ is in
         e ∙ ap (λ (x : Salvage). let r : Result Met LoadError = Ok x.met in r) (same whole s there)
     by (Err x) e = absurd (let no : (let r : Result Salvage LoadError = Err x in r ≡ Ok s) = sym (ap (λ (r : Result Met LoadError). r >>= λ m. Ok (record { met = m; dropped = dropped_behind size sound })) e) ∙ is in cc)
 
-pub sections_met_of : (file : List ℕ) (s : Salvage) → salvage_of file ≡ Ok s → sections_met (sound_sections file).sections None nothing ≡ Ok s.met
+pub sections_met_of : (file : List ℕ) (s : Salvage) → salvage_of file ≡ Ok s → add_sections (sound_sections file).sections None nothing ≡ Ok s.met
 unfolding salvage_of
 sections_met_of file s is = by (if_usable (file_header file)) refl
   where
-    by : (r : Result (Unit {0}) LoadError) → if_usable (file_header file) ≡ r → sections_met (sound_sections file).sections None nothing ≡ Ok s.met
+    by : (r : Result (Unit {0}) LoadError) → if_usable (file_header file) ≡ r → add_sections (sound_sections file).sections None nothing ≡ Ok s.met
     by (Ok u) e = met_of_salvage (length file) (sound_sections file) s (sym (ap (λ (r : Result (Unit {0}) LoadError). r >>= λ usable. salvage_in (length file) (sound_sections file)) e) ∙ is)
     by (Err x) e = absurd (let no : (let r : Result Salvage LoadError = Err x in r ≡ Ok s) = sym (ap (λ (r : Result (Unit {0}) LoadError). r >>= λ usable. salvage_in (length file) (sound_sections file)) e) ∙ is in cc)
 

@@ -13,7 +13,7 @@ use Rattle.cy_section.specs.RecordText.{Part, IsRecordText, parts_of, record_byt
 use Rattle.cy_section.proofs.Lengths.{length-header_section}
 use Rattle.cy_reader.specs.declared.error.LoadError.{LoadError}
 use Rattle.cy_cut.specs.Sections.{WholeSection, longest_section, longest_file}
-use Rattle.cy_reader.specs.Record.{◌>>=◌, Met, file_header, section_met, sections_met, nothing, size_of, with_section, largest_channels}
+use Rattle.cy_reader.specs.Record.{◌>>=◌, Met, file_header, add_section, add_sections, nothing, size_of, with_section, largest_channels}
 use Rattle.cy_salvage.specs.Salvage.{Salvage, sound_sections, dropped_behind, if_usable, salvage_in, salvage_of}
 use Rattle.cy_writer.specs.RecordWrites.{record_sections}
 use Rattle.cy_writer.specs.Unfinished.{unfinished}
@@ -30,16 +30,16 @@ use Rattle.cy_read_back.proofs.CutSections.{parts_within}
 use Rattle.cy_read_back.proofs.CutMessages.{front_salvaged, sound_front}
 
 -- where all sections are met, the first ones are
-first_met : (xs ys : List WholeSection) (now all : Met) → sections_met (xs ++ ys) None now ≡ Ok all → (met : Met) × (sections_met xs None now ≡ Ok met)
+first_met : (xs ys : List WholeSection) (now all : Met) → add_sections (xs ++ ys) None now ≡ Ok all → (met : Met) × (add_sections xs None now ≡ Ok met)
 first_met [] ys now all is = (now, refl)
-first_met (x ∷ xs) ys now all is = by (λ m rest. first_met xs ys m all rest) (section_met x now) refl
+first_met (x ∷ xs) ys now all is = by (λ m rest. first_met xs ys m all rest) (add_section x now) refl
   where
-    by : ((m : Met) → sections_met (xs ++ ys) None m ≡ Ok all → (met : Met) × (sections_met xs None m ≡ Ok met)) → (r : Result Met LoadError) → section_met x now ≡ r
-        → (met : Met) × (sections_met (x ∷ xs) None now ≡ Ok met)
+    by : ((m : Met) → add_sections (xs ++ ys) None m ≡ Ok all → (met : Met) × (add_sections xs None m ≡ Ok met)) → (r : Result Met LoadError) → add_section x now ≡ r
+        → (met : Met) × (add_sections (x ∷ xs) None now ≡ Ok met)
     by rest (Ok m) e =
-        let more = rest m (sym (ap (λ (r : Result Met LoadError). r >>= sections_met (xs ++ ys) None) e) ∙ is) in
-        (more.0, ap (λ (r : Result Met LoadError). r >>= sections_met xs None) e ∙ more.1)
-    by rest (Err f) e = absurd (let no : (let r : Result Met LoadError = Err f in r ≡ Ok all) = sym (ap (λ (r : Result Met LoadError). r >>= sections_met (xs ++ ys) None) e) ∙ is in cc)
+        let more = rest m (sym (ap (λ (r : Result Met LoadError). r >>= add_sections (xs ++ ys) None) e) ∙ is) in
+        (more.0, ap (λ (r : Result Met LoadError). r >>= add_sections xs None) e ∙ more.1)
+    by rest (Err f) e = absurd (let no : (let r : Result Met LoadError = Err f in r ≡ Ok all) = sym (ap (λ (r : Result Met LoadError). r >>= add_sections (xs ++ ys) None) e) ∙ is in cc)
 
 -- those that stand whole in a file are the first ones of the text
 first_parts : (parts : List Part) (size at : ℕ) → (later : List WholeSection) × (placed at parts ≡ placed at (parts_within size at parts) ++ later)
@@ -82,7 +82,7 @@ usable file header long short =
     header_read incomplete_header (drop header_end file) file whole short long refl fits
 
 -- so the file is accepted
-salvaged_as : (file : List ℕ) (met : Met) → file_header file ≡ Ok incomplete_header → sections_met (sound_sections file).sections None nothing ≡ Ok met
+salvaged_as : (file : List ℕ) (met : Met) → file_header file ≡ Ok incomplete_header → add_sections (sound_sections file).sections None nothing ≡ Ok met
     → salvage_of file ≡ Ok (let s : Salvage = record { met = met; dropped = dropped_behind (length file) (sound_sections file) } in s)
 unfolding salvage_of
 salvaged_as file met header sections =
@@ -102,9 +102,9 @@ accepted channels chunks whole file same t is =
     let within = no_longer file whole is.front.header long front in
     let short : length file ≤ longest_file = omega (arith, within, t.short) in
     let first = first_parts parts (length file) header_end in
-    let all = ap (λ (ss : List WholeSection). sections_met ss None nothing) (sym first.1) ∙ text_met channels chunks whole t in
+    let all = ap (λ (ss : List WholeSection). add_sections ss None nothing) (sym first.1) ∙ text_met channels chunks whole t in
     let met = first_met (placed header_end (parts_within (length file) header_end parts)) first.0 nothing _ all in
-    let sound = ap (λ (ss : List WholeSection). sections_met ss None nothing) (sound_front channels chunks file cs are is.front) ∙ met.1 in
+    let sound = ap (λ (ss : List WholeSection). add_sections ss None nothing) (sound_front channels chunks file cs are is.front) ∙ met.1 in
     let salvaged = salvaged_as file met.0 (usable file is.header is.front.header short) sound in
     (_, salvaged, front_salvaged channels chunks file _ cs are is.front salvaged)
 

@@ -20,7 +20,7 @@ use Rattle.cy_read_back.proofs.RowsRead.{chunk_header_at-body}
 use Rattle.cy_read_back.proofs.WrittenRead.{channel_at-body, chunk_body_read}
 use Rattle.cy_reader.specs.declared.error.LoadError.{LoadError}
 use Rattle.cy_cut.specs.Sections.{WholeSection}
-use Rattle.cy_reader.specs.Record.{◌>>=◌, Met, Message, nothing, of_section, size_of, within_limits, with_section, channel_given, channel_met, name_mentioned, message_met, messages_met, body_met, section_met, sections_met, longest_name, longest_content, most_channels, largest_channels}
+use Rattle.cy_reader.specs.Record.{◌>>=◌, Met, Message, nothing, of_section, size_of, within_limits, with_section, channel_given, channel_met, name_mentioned, add_message, messages_met, add_body, add_section, add_sections, longest_name, longest_content, most_channels, largest_channels}
 use Rattle.cy_read_back.specs.Records.{IsReadableChannel, message_on}
 use Rattle.cy_reader.proofs.Meeting.{channel_section}
 use Rattle.cy_read_back.proofs.TextNames.{AreNew, is_name, number_of-new, number_of-name}
@@ -64,20 +64,20 @@ channel_more front back all c messages are short new = rw (channel_new front bac
 abbrev pub section_of_part : ℕ → Part → WholeSection
 section_of_part at p = record { kind = kind_at at p; body_at = at + 16; body = body_of p }
 
-channel_step : (at : ℕ) (c : Channel) (ms : List BodyMessage) (now : Met) → ChannelFits c → section_met (section_of_part at (channel_part ms c)) now ≡ channel_met c now
+channel_step : (at : ℕ) (c : Channel) (ms : List BodyMessage) (now : Met) → ChannelFits c → add_section (section_of_part at (channel_part ms c)) now ≡ channel_met c now
 channel_step at c ms now fits =
     channel_section (section_of_part at (channel_part ms c)) c now refl (ap (channel_at (at + 16)) (body_of-section kind.Channel (channel_body c)) ∙ channel_at-body (at + 16) c fits)
 
 -- all channels, in front of other sections
 pub channels_meet : (cs front all : List Channel) (ms : List BodyMessage) (at : ℕ) (rest : List Part) (messages : List Message) → AreNew (map (λ c. c.name) front) (map (λ c. c.name) cs)
     → AllByRecursion IsReadableChannel cs → AllByRecursion ChannelFits cs → AreFront front cs all
-    → sections_met (placed at (map (channel_part ms) cs ++ rest)) None (met_with front messages)
-    ≡ sections_met (placed (at + length (bytes_of (map (channel_part ms) cs))) rest) None (met_with all messages)
+    → add_sections (placed at (map (channel_part ms) cs ++ rest)) None (met_with front messages)
+    ≡ add_sections (placed (at + length (bytes_of (map (channel_part ms) cs))) rest) None (met_with all messages)
 channels_meet [] front all ms at rest messages new are fits limits =
     let here : at ≡ at + 0 = omega arith in
     let same : front ≡ all = sym (append-nil front) ∙ limits.whole in
-    ap (λ (n : ℕ). sections_met (placed n rest) None (met_with front messages)) here
-    ∙ ap (λ (l : List Channel). sections_met (placed (at + 0) rest) None (met_with l messages)) same
+    ap (λ (n : ℕ). add_sections (placed n rest) None (met_with front messages)) here
+    ∙ ap (λ (l : List Channel). add_sections (placed (at + 0) rest) None (met_with l messages)) same
 channels_meet (c ∷ cs) front all ms at rest messages new are fits limits =
     let p = channel_part ms c in
     let more : AreFront (front ++ c ∷ []) cs all = record { whole = append_assoc front (c ∷ []) cs ∙ limits.whole; few = limits.few; small = limits.small } in
@@ -86,9 +86,9 @@ channels_meet (c ∷ cs) front all ms at rest messages new are fits limits =
     let later = placed (at + length p.bytes) (map (channel_part ms) cs ++ rest) in
     let next : at + length p.bytes + length (bytes_of (map (channel_part ms) cs)) ≡ at + length (p.bytes ++ bytes_of (map (channel_part ms) cs)) =
     omega (arith, length-append p.bytes (bytes_of (map (channel_part ms) cs))) in
-    ap (λ (r : Result Met LoadError). r >>= sections_met later None) one
+    ap (λ (r : Result Met LoadError). r >>= add_sections later None) one
     ∙ channels_meet cs (front ++ c ∷ []) all ms (at + length p.bytes) rest messages (subst (λ (names : List (List ℕ)). AreNew names (map (λ (c : Channel). c.name) cs)) names new.1) are.1 fits.1 more
-    ∙ ap (λ (n : ℕ). sections_met (placed n rest) None (met_with all messages)) next
+    ∙ ap (λ (n : ℕ). add_sections (placed n rest) None (met_with all messages)) next
 
 -- a message on one of the channels, within the limits
 pub record IsOn (channels : List Channel) (m : BodyMessage) : Type 0 where
@@ -105,8 +105,8 @@ known_name name channels known short =
     rw (le-ltb longest_name (length name) short, number.1) refl
 
 message_more : (m : PlacedMessage) (channels : List Channel) (done : List Message) → IsOn channels m.message
-    → message_met m (met_with channels done) ≡ Ok (met_with channels (done ++ message_on channels m.message ∷ []))
-unfolding message_met
+    → add_message m (met_with channels done) ≡ Ok (met_with channels (done ++ message_on channels m.message ∷ []))
+unfolding add_message
 message_more m channels done on =
     rw (known_name m.message.channel_name channels on.known on.short, le-ltb longest_content (length m.message.content) on.small) refl
 
@@ -125,20 +125,20 @@ all_fit channels [] on = tt
 all_fit channels (m ∷ ms) on = (on.0.fits, all_fit channels ms on.1)
 
 body_more : (at : ℕ) (chunk : List BodyMessage) (channels : List Channel) (done : List Message) → AllByRecursion (IsOn channels) chunk
-    → section_met (section_of_part at (chunk_body_part chunk)) (met_with channels done) ≡ Ok (met_with channels (done ++ map (message_on channels) chunk))
-unfolding section_met
+    → add_section (section_of_part at (chunk_body_part chunk)) (met_with channels done) ≡ Ok (met_with channels (done ++ map (message_on channels) chunk))
+unfolding add_section
 body_more at chunk channels done on =
     let all = messages_of (fields_of (at + 16) (chunk_body chunk)) in
     let read = chunk_body_read (at + 16) chunk (all_fit channels chunk on) in
     let here : AllByRecursion (IsOn channels) (map (λ (m : PlacedMessage). m.message) all.messages) = subst (λ (ms : List BodyMessage). AllByRecursion (IsOn channels) ms) (sym read.1) on in
-    ap (λ (bytes : List ℕ). let m = messages_of (fields_of (at + 16) bytes) in body_met m.fault m.messages (met_with channels done)) (body_of-section kind.ChunkBody (chunk_body chunk))
-    ∙ ap (λ (o : Option SectionError). body_met o all.messages (met_with channels done)) read.0
+    ap (λ (bytes : List ℕ). let m = messages_of (fields_of (at + 16) bytes) in add_body m.fault m.messages (met_with channels done)) (body_of-section kind.ChunkBody (chunk_body chunk))
+    ∙ ap (λ (o : Option SectionError). add_body o all.messages (met_with channels done)) read.0
     ∙ messages_more all.messages channels done here
     ∙ ap (λ (ms : List BodyMessage). Ok (met_with channels (done ++ map (message_on channels) ms))) read.1
 
 -- a chunk's header says nothing
-header_more : (at : ℕ) (chunk : List BodyMessage) (now : Met) → ChunkHeaderFits (chunk_header_of chunk) → section_met (section_of_part at (chunk_header_part chunk)) now ≡ Ok now
-unfolding section_met
+header_more : (at : ℕ) (chunk : List BodyMessage) (now : Met) → ChunkHeaderFits (chunk_header_of chunk) → add_section (section_of_part at (chunk_header_part chunk)) now ≡ Ok now
+unfolding add_section
 header_more at chunk now fits =
     let h = chunk_header_of chunk in
     ap (λ (bytes : List ℕ). of_section (chunk_header_at (at + 16) bytes) >>= λ _. Ok now) (body_of-section kind.ChunkHeader (chunk_header_body h))
@@ -153,7 +153,7 @@ abbrev pub chunk_parts : List (List BodyMessage) → List Part
 chunk_parts chunks = flat_map (λ chunk. chunk_header_part chunk ∷ chunk_body_part chunk ∷ []) chunks
 
 chunks_meet : (chunks : List (List BodyMessage)) (channels : List Channel) (at : ℕ) (done : List Message) → AllByRecursion (IsChunkOn channels) chunks
-    → sections_met (placed at (chunk_parts chunks)) None (met_with channels done) ≡ Ok (met_with channels (done ++ map (message_on channels) (messages_in chunks)))
+    → add_sections (placed at (chunk_parts chunks)) None (met_with channels done) ≡ Ok (met_with channels (done ++ map (message_on channels) (messages_in chunks)))
 chunks_meet [] channels at done on = ap (λ (l : List Message). Ok (met_with channels l)) (sym (append-nil done))
 chunks_meet (chunk ∷ chunks) channels at done on =
     let h = chunk_header_part chunk in
@@ -163,8 +163,8 @@ chunks_meet (chunk ∷ chunks) channels at done on =
     let now = met_with channels done in
     let read = map (message_on channels) chunk in
     let later = placed at3 (chunk_parts chunks) in
-    ap (λ (r : Result Met LoadError). r >>= sections_met (section_of_part at2 b ∷ later) None) (header_more at chunk now on.0.header)
-    ∙ ap (λ (r : Result Met LoadError). r >>= sections_met later None) (body_more at2 chunk channels done on.0.messages)
+    ap (λ (r : Result Met LoadError). r >>= add_sections (section_of_part at2 b ∷ later) None) (header_more at chunk now on.0.header)
+    ∙ ap (λ (r : Result Met LoadError). r >>= add_sections later None) (body_more at2 chunk channels done on.0.messages)
     ∙ chunks_meet chunks channels at3 (done ++ read) on.1
     ∙ ap (λ (l : List Message). Ok (met_with channels l)) (append_assoc done read (map (message_on channels) (messages_in chunks))
     ∙ ap (λ (l : List Message). done ++ l) (sym (map-append (message_on channels) chunk (messages_in chunks))))
@@ -172,7 +172,7 @@ chunks_meet (chunk ∷ chunks) channels at done on =
 -- all sections
 pub text_meets : (channels : List Channel) (chunks : List (List BodyMessage)) (at : ℕ) → AreNew [] (map (λ c. c.name) channels) → AllByRecursion IsReadableChannel channels
     → AllByRecursion ChannelFits channels → length channels ≤ most_channels → sum_by size_of (map with_section channels) ≤ largest_channels → AllByRecursion (IsChunkOn channels) chunks
-    → sections_met (placed at (parts_of channels chunks)) None nothing ≡ Ok (met_with channels (map (message_on channels) (messages_in chunks)))
+    → add_sections (placed at (parts_of channels chunks)) None nothing ≡ Ok (met_with channels (map (message_on channels) (messages_in chunks)))
 text_meets channels chunks at new are fits few small on =
     channels_meet channels [] channels (messages_in chunks) at (chunk_parts chunks) [] new are fits (record { whole = refl; few = few; small = small })
     ∙ chunks_meet chunks channels (at + length (bytes_of (map (channel_part (messages_in chunks)) channels))) [] on

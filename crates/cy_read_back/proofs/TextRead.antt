@@ -20,7 +20,7 @@ use Rattle.cy_read_back.proofs.RowsRead.{header_at-body}
 use Rattle.cy_cut.specs.declared.heads.PlacedHead.{PlacedHead}
 use Rattle.cy_cut.specs.Sections.{Sections, longest_section, sections_from, longest_file}
 use Rattle.cy_cut.specs.Heads.{PlacedIndex, end_of, index_at, index_of, index_head, header_head, section_head, heads_of}
-use Rattle.cy_reader.specs.Record.{nothing, size_of, with_section, file_header, sections_met, source_of, record_of, most_channels, largest_channels, parts_of as file_parts}
+use Rattle.cy_reader.specs.Record.{nothing, size_of, with_section, file_header, add_sections, source_of, record_of, most_channels, largest_channels, parts_of as file_parts}
 use Rattle.cy_read_back.specs.Records.{IsReadableChannel, IsReadableMessage, AreReadable, message_on, heads_from, text_entries, text_index, text_source, text_contents}
 use Rattle.cy_read_back.proofs.TextNames.{AreNew, is_name, names_there, channels_once, name_readable}
 use Rattle.cy_read_back.proofs.TextSections.{IsSection, StandsThere, placed, long_file, bytes_there, taken_there, sections-written, heads-written, end-written, few_parts}
@@ -243,7 +243,7 @@ text_source_of name file channels chunks t =
 
 -- its channels and messages
 pub text_met : (channels : List Channel) (chunks : List (List BodyMessage)) (file : List ℕ) → IsText channels chunks file
-    → sections_met (placed 2064 (parts_of channels chunks)) None nothing ≡ Ok (met_with channels (map (message_on channels) (messages_in chunks)))
+    → add_sections (placed 2064 (parts_of channels chunks)) None nothing ≡ Ok (met_with channels (map (message_on channels) (messages_in chunks)))
 text_met channels chunks file t =
     text_meets channels chunks 2064 t.new t.each_channel (channels_fit channels t.each_channel t.each_small) t.few t.small t.on
 

@@ -14,7 +14,7 @@ use Rattle.cy_section.specs.Reading.{PlacedMessage}
 use Rattle.cy_reader.specs.declared.error.LoadError.{LoadError}
 use Rattle.cy_reader.specs.declared.error.LoadError.TheVariants.{TooManyChannels, ChannelsTooLarge}
 use Rattle.cy_reader.specs.declared.known.Known.{Known}
-use Rattle.cy_reader.specs.Record.{◌>>=◌, Met, Message, size_of, number_of, named_only, within_limits, mentioned, name_mentioned, numbered, content_fits, message_met, messages_met, body_met, nothing, most_channels, largest_channels, longest_name, longest_content}
+use Rattle.cy_reader.specs.Record.{◌>>=◌, Met, Message, size_of, number_of, named_only, within_limits, mentioned, name_mentioned, numbered, content_fits, add_message, messages_met, add_body, nothing, most_channels, largest_channels, longest_name, longest_content}
 use Rattle.cy_reader.specs.private.Alone.{all_mentioned, name_in, renumbered, behind}
 use Rattle.cy_reader.proofs.Sums.{number_of-below, number_of-added}
 
@@ -168,15 +168,15 @@ with_it m c channels = Ok (record { channels = channels; messages = c.messages +
 abbrev after_mention : PlacedMessage → Met → List Known → Result Met LoadError
 after_mention m c channels = content_fits m.message.content (with_it m c channels)
 
-content_short : (m : PlacedMessage) (old new : Met) → message_met m old ≡ Ok new → length m.message.content ≤ longest_content
-unfolding message_met
+content_short : (m : PlacedMessage) (old new : Met) → add_message m old ≡ Ok new → length m.message.content ≤ longest_content
+unfolding add_message
 content_short m old new e = elim (cases_lt longest_content (length m.message.content)) [
   | inl large ↦ absurd (let s = bind_ok (name_mentioned m.message.channel_name old.channels) (after_mention m old) new e in let wrong = rw (lt-ltb longest_content (length m.message.content) large) at s.2 in cc)
   | inr small ↦ small
 ]
 
-message_is : (m : PlacedMessage) (c : Met) → length m.message.content ≤ longest_content → message_met m c ≡ name_mentioned m.message.channel_name c.channels >>= with_it m c
-unfolding message_met
+message_is : (m : PlacedMessage) (c : Met) → length m.message.content ≤ longest_content → add_message m c ≡ name_mentioned m.message.channel_name c.channels >>= with_it m c
+unfolding add_message
 message_is m c small = rw (le-ltb longest_content (length m.message.content) small) refl
 
 record IsTaken (m : PlacedMessage) (old new : Met) : Type 0 where
@@ -184,7 +184,7 @@ record IsTaken (m : PlacedMessage) (old new : Met) : Type 0 where
   pub mention : name_mentioned m.message.channel_name old.channels ≡ Ok new.channels
   pub more : new.messages ≡ old.messages ++ numbered m new.channels ∷ []
 
-is_taken : (m : PlacedMessage) (old new : Met) → message_met m old ≡ Ok new → IsTaken m old new
+is_taken : (m : PlacedMessage) (old new : Met) → add_message m old ≡ Ok new → IsTaken m old new
 is_taken m old new e =
     let short = content_short m old new e in
     let s = bind_ok (name_mentioned m.message.channel_name old.channels) (with_it m old) new (sym (message_is m old short) ∙ e) in
@@ -249,7 +249,7 @@ module _ (c : Met) where
       rw (there, after, found.1) refl)
 
   again_ok : (m : PlacedMessage) (l next : Met) (n : ℕ) (channels : List Known) → IsTaken m l next → number_of m.message.channel_name l.channels ≡ Some n → next.channels ≡ l.channels
-      → all_mentioned l.channels c.channels ≡ Ok channels → message_met m (whole l channels) ≡ put next channels
+      → all_mentioned l.channels c.channels ≡ Ok channels → add_message m (whole l channels) ≡ put next channels
   again_ok m l next n channels taken is same all =
       let name = m.message.channel_name in
       let found = all_found l.channels c.channels channels n all (number_of-below name l.channels n is) in
@@ -260,7 +260,7 @@ module _ (c : Met) where
 
   first_ok : (m : PlacedMessage) (l next : Met) (channels : List Known) → IsTaken m l next → number_of m.message.channel_name l.channels ≡ None
       → next.channels ≡ l.channels ++ named_only m.message.channel_name ∷ [] → AreNumbered l → all_mentioned l.channels c.channels ≡ Ok channels
-      → message_met m (whole l channels) ≡ name_mentioned m.message.channel_name channels >>= put next
+      → add_message m (whole l channels) ≡ name_mentioned m.message.channel_name channels >>= put next
   first_ok m l next channels taken none grown few all =
       message_is m (whole l channels) taken.short ∙ by_answer (name_mentioned m.message.channel_name channels) refl
     where
@@ -271,7 +271,7 @@ module _ (c : Met) where
           messages_more m l next channels now (length l.channels) taken number (numbers_more m.message.channel_name l next channels now few grown all is)
 
   by_mention : (m : PlacedMessage) (l next : Met) (r : Result (List Known) LoadError) → IsTaken m l next → AreNumbered l → IsMentioned m.message.channel_name l.channels next.channels
-      → all_mentioned l.channels c.channels ≡ r → (r >>= put l) >>= message_met m ≡ all_mentioned next.channels c.channels >>= put next
+      → all_mentioned l.channels c.channels ≡ r → (r >>= put l) >>= add_message m ≡ all_mentioned next.channels c.channels >>= put next
   by_mention m l next (Err e) taken few (again n is same) all =
       sym (ap (λ (ks : List Known). all_mentioned ks c.channels >>= put next) same ∙ ap (λ (x : Result (List Known) LoadError). x >>= put next) all)
   by_mention m l next (Ok channels) taken few (again n is same) all =
@@ -285,12 +285,12 @@ module _ (c : Met) where
       ∙ sym (ap (λ (ks : List Known). all_mentioned ks c.channels >>= put next) grown ∙ ap (λ (x : Result (List Known) LoadError). x >>= put next) (all_mentioned-more l.channels (named_only m.message.channel_name) c.channels)
       ∙ ap (λ (x : Result (List Known) LoadError). (x >>= name_mentioned m.message.channel_name) >>= put next) all)
 
-  one_more : (m : PlacedMessage) (l next : Met) → message_met m l ≡ Ok next → AreNumbered l → behind l c >>= message_met m ≡ behind next c
+  one_more : (m : PlacedMessage) (l next : Met) → add_message m l ≡ Ok next → AreNumbered l → behind l c >>= add_message m ≡ behind next c
   one_more m l next e few =
       let taken = is_taken m l next e in
       by_mention m l next (all_mentioned l.channels c.channels) taken few (is_mentioned m.message.channel_name l.channels next.channels taken.mention) refl
 
-  still_numbered : (m : PlacedMessage) (l next : Met) → message_met m l ≡ Ok next → AreNumbered l → AreNumbered next
+  still_numbered : (m : PlacedMessage) (l next : Met) → add_message m l ≡ Ok next → AreNumbered l → AreNumbered next
   still_numbered m l next e few =
       let taken = is_taken m l next e in
       let mention = is_mentioned m.message.channel_name l.channels next.channels taken.mention in
@@ -302,7 +302,7 @@ module _ (c : Met) where
       (All-append (λ x. x.channel < length next.channels) l.messages (numbered m next.channels ∷ []) (λ i d small. omega (arith, few i d small, longer))
       (All-cons (λ x. x.channel < length next.channels) (numbered m next.channels) [] (omega (arith, below, number)) (All-nil (λ x. x.channel < length next.channels))))
 
-  then_all : (r : Result Met LoadError) (m : PlacedMessage) (ms : List PlacedMessage) → r >>= messages_met (m ∷ ms) ≡ (r >>= message_met m) >>= messages_met ms
+  then_all : (r : Result Met LoadError) (m : PlacedMessage) (ms : List PlacedMessage) → r >>= messages_met (m ∷ ms) ≡ (r >>= add_message m) >>= messages_met ms
   then_all (Ok d) m ms = refl
   then_all (Err e) m ms = refl
 
@@ -313,7 +313,7 @@ module _ (c : Met) where
   all_more : (ms : List PlacedMessage) (l last : Met) → messages_met ms l ≡ Ok last → AreNumbered l → behind l c >>= messages_met ms ≡ behind last c
   all_more [] l last e few = let same : l ≡ last = cc in then_none (behind l c) ∙ ap (λ (x : Met). behind x c) same
   all_more (m ∷ ms) l last e few =
-      let s = bind_ok (message_met m l) (messages_met ms) last e in
+      let s = bind_ok (add_message m l) (messages_met ms) last e in
       then_all (behind l c) m ms ∙ ap (λ (r : Result Met LoadError). r >>= messages_met ms) (one_more m l s.0 s.1 few) ∙ all_more ms s.0 last s.2 (still_numbered m l s.0 s.1 few)
 
   messages_alone : (ms : List PlacedMessage) (alone : Met) → messages_met ms nothing ≡ Ok alone → messages_met ms c ≡ behind alone c
@@ -321,6 +321,6 @@ module _ (c : Met) where
       let start : behind nothing c ≡ Ok c = ap (λ (l : List Message). let made : Met = record { channels = c.channels; messages = l } in let r : Result Met LoadError = Ok made in r) (append-nil c.messages) in
       sym (ap (λ (r : Result Met LoadError). r >>= messages_met ms) start) ∙ all_more ms nothing alone e (All-nil (λ (m : Message). m.channel < 0))
 
-  pub body_alone : (fault : Option SectionError) (ms : List PlacedMessage) (alone : Met) → body_met fault ms nothing ≡ Ok alone → body_met fault ms c ≡ behind alone c
+  pub body_alone : (fault : Option SectionError) (ms : List PlacedMessage) (alone : Met) → add_body fault ms nothing ≡ Ok alone → add_body fault ms c ≡ behind alone c
   body_alone None ms alone e = messages_alone ms alone e
   body_alone (Some fault) ms alone e = absurd cc

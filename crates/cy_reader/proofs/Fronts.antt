@@ -15,7 +15,7 @@ use Rattle.cy_cut.specs.declared.heads.KeptIndex.{KeptIndex}
 use Rattle.cy_cut.specs.declared.heads.PlacedHead.{PlacedHead}
 use Rattle.cy_cut.specs.Sections.{WholeSection, Sections, sections_from, header_end, longest_file}
 use Rattle.cy_cut.specs.Heads.{header_head, section_head, index_head, index_of, heads_of, seen_index}
-use Rattle.cy_reader.specs.Record.{◌>>=◌, fault_of, Met, Contents, Source, shown, source_of, nothing, file_header, sized_header, sections_met, parts_of, record_of}
+use Rattle.cy_reader.specs.Record.{◌>>=◌, fault_of, Met, Contents, Source, shown, source_of, nothing, file_header, sized_header, add_sections, parts_of, record_of}
 use Rattle.cy_reader.specs.private.Front.{IsFront, index_in, cut_source, cut_record}
 use Rattle.cy_cut.specs.Cutting.{IsCut, AreKept, fault_in, seen_part}
 use Rattle.cy_reader.proofs.Bodies.{nothing_comes, before_fault, then_fault}
@@ -76,7 +76,7 @@ module _ (name file : List ℕ) (f : Front) (front : IsFront file f) where
   abbrev behind : Met → Result Contents LoadError
   behind met = Ok (shown (source_of name file f.header) met)
 
-  parts_are : (all : Sections) → sections_from file header_end ≡ all → parts_of file ≡ sections_met all.sections all.fault nothing >>= λ met. Ok (f.header, met)
+  parts_are : (all : Sections) → sections_from file header_end ≡ all → parts_of file ≡ add_sections all.sections all.fault nothing >>= λ met. Ok (f.header, met)
   unfolding parts_of
   parts_are all is = rw (front.header, is) refl
 
@@ -84,9 +84,9 @@ module _ (name file : List ℕ) (f : Front) (front : IsFront file f) where
   over (Ok met) = refl
   over (Err e) = refl
 
-  record_is : (all : Sections) → sections_from file header_end ≡ all → record_of name file ≡ sections_met all.sections all.fault nothing >>= behind
+  record_is : (all : Sections) → sections_from file header_end ≡ all → record_of name file ≡ add_sections all.sections all.fault nothing >>= behind
   unfolding record_of
-  record_is all is = ap (λ (r : Result (Header × Met) LoadError). r >>= λ parts. Ok (shown (source_of name file parts.0) parts.1)) (parts_are all is) ∙ over (sections_met all.sections all.fault nothing)
+  record_is all is = ap (λ (r : Result (Header × Met) LoadError). r >>= λ parts. Ok (shown (source_of name file parts.0) parts.1)) (parts_are all is) ∙ over (add_sections all.sections all.fault nothing)
 
   whole_is : (all : List WholeSection) (index : Option KeptIndex) → sections_from file header_end ≡ (let whole : Sections = record { sections = all; fault = None } in whole)
       → index_of file header_end ≡ option_map seen_index index → (met : Met) → behind met ≡ made all (Ok index) met
@@ -94,21 +94,21 @@ module _ (name file : List ℕ) (f : Front) (front : IsFront file f) where
   whole_is all index is last met = rw (front.size, front.head, is, last) refl
 
   by_end : (all : List WholeSection) (end : Result (Option KeptIndex) SectionError) → sections_from file header_end ≡ (let whole : Sections = record { sections = all; fault = fault_in end } in whole)
-      → IfOk end (λ i. index_of file header_end ≡ option_map seen_index i) → record_of name file ≡ sections_met all (fault_in end) nothing >>= made all end
-  by_end all (Ok index) is last = record_is (record { sections = all; fault = None }) is ∙ each (sections_met all None nothing)
+      → IfOk end (λ i. index_of file header_end ≡ option_map seen_index i) → record_of name file ≡ add_sections all (fault_in end) nothing >>= made all end
+  by_end all (Ok index) is last = record_is (record { sections = all; fault = None }) is ∙ each (add_sections all None nothing)
     where
       each : (r : Result Met LoadError) → r >>= behind ≡ r >>= made all (Ok index)
       each (Ok met) = whole_is all index is last met
       each (Err e) = refl
   by_end all (Err fault) is last = record_is (record { sections = all; fault = Some fault }) is ∙ nothing_comes all fault nothing behind (made all (Err fault))
 
-  kept_is : (c : CutFile) (all : List WholeSection) → AreKept all (f.head ∷ []) c.heads.items c.parts.items → sections_met all (fault_in c.end) nothing >>= made all c.end ≡ cut_record name f c
+  kept_is : (c : CutFile) (all : List WholeSection) → AreKept all (f.head ∷ []) c.heads.items c.parts.items → add_sections all (fault_in c.end) nothing >>= made all c.end ≡ cut_record name f c
   unfolding cut_record
   kept_is c all kept =
-      let met : sections_met all (fault_in c.end) nothing ≡ sections_met (map seen_part c.parts.items) (fault_in c.end) nothing
-      = sym (ap (λ (ss : List WholeSection). sections_met ss (fault_in c.end) nothing) kept.parts ∙ kept_met all (fault_in c.end) nothing) in
+      let met : add_sections all (fault_in c.end) nothing ≡ add_sections (map seen_part c.parts.items) (fault_in c.end) nothing
+      = sym (ap (λ (ss : List WholeSection). add_sections ss (fault_in c.end) nothing) kept.parts ∙ kept_met all (fault_in c.end) nothing) in
       ap (λ (r : Result Met LoadError). r >>= made all c.end) met
-      ∙ ap (λ (heads : List PlacedHead). sections_met (map seen_part c.parts.items) (fault_in c.end) nothing >>= λ met. Ok (shown (let s : Source = record {
+      ∙ ap (λ (heads : List PlacedHead). add_sections (map seen_part c.parts.items) (fault_in c.end) nothing >>= λ met. Ok (shown (let s : Source = record {
         name = name;
         size = f.size;
         header = f.header;
@@ -123,12 +123,12 @@ module _ (name file : List ℕ) (f : Front) (front : IsFront file f) where
 abbrev made-of : List ℕ → Front → CutFile → Met → Result Contents LoadError
 made-of name f c met = Ok (shown (cut_source name f c) met)
 
-pub cut_wrong : (name : List ℕ) (f : Front) (c : CutFile) (e : LoadError) → sections_met (map seen_part c.parts.items) None nothing ≡ Err e → cut_record name f c ≡ Err e
+pub cut_wrong : (name : List ℕ) (f : Front) (c : CutFile) (e : LoadError) → add_sections (map seen_part c.parts.items) None nothing ≡ Err e → cut_record name f c ≡ Err e
 unfolding cut_record
 cut_wrong name f c e wrong = ap (λ (r : Result Met LoadError). r >>= made-of name f c) (before_fault (map seen_part c.parts.items) nothing (fault_in c.end) e wrong)
 
-pub cut_broken : (name : List ℕ) (f : Front) (c : CutFile) (fault : SectionError) (met : Met) → c.end ≡ Err fault → sections_met (map seen_part c.parts.items) None nothing ≡ Ok met → cut_record name f c ≡ Err (fault_of fault)
+pub cut_broken : (name : List ℕ) (f : Front) (c : CutFile) (fault : SectionError) (met : Met) → c.end ≡ Err fault → add_sections (map seen_part c.parts.items) None nothing ≡ Ok met → cut_record name f c ≡ Err (fault_of fault)
 unfolding cut_record
 cut_broken name f c fault met e is =
-    let wrong : sections_met (map seen_part c.parts.items) (fault_in c.end) nothing ≡ Err (fault_of fault) = ap (λ (x : Result (Option KeptIndex) SectionError). sections_met (map seen_part c.parts.items) (fault_in x) nothing) e ∙ then_fault (map seen_part c.parts.items) nothing met fault is in
+    let wrong : add_sections (map seen_part c.parts.items) (fault_in c.end) nothing ≡ Err (fault_of fault) = ap (λ (x : Result (Option KeptIndex) SectionError). add_sections (map seen_part c.parts.items) (fault_in x) nothing) e ∙ then_fault (map seen_part c.parts.items) nothing met fault is in
     ap (λ (r : Result Met LoadError). r >>= made-of name f c) wrong

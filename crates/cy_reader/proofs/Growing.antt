@@ -18,7 +18,7 @@ use Rattle.cy_reader.specs.declared.error.LoadError.TheVariants.{ContentTooLarge
 use Rattle.cy_reader.specs.declared.known.Known.{Known}
 use Rattle.cy_reader.specs.declared.loading.Loading.{Loading}
 use Rattle.cy_reader.specs.Record as meaning
-use Rattle.cy_reader.specs.Record.{◌>>=◌, Met, of_section, name_mentioned, channel_given, channel_met, content_fits, numbered, message_met, messages_met, body_met, section_of, section_met, longest_content, nothing}
+use Rattle.cy_reader.specs.Record.{◌>>=◌, Met, of_section, name_mentioned, channel_given, channel_met, content_fits, numbered, add_message, messages_met, add_body, section_of, add_section, longest_content, nothing}
 use Rattle.cy_cut.specs.Sections.{WholeSection}
 use Rattle.cy_reader.specs.private.Alone.{IsAlone}
 use Rattle.cy_reader.specs.private.Loading.{message_of, met_of}
@@ -65,8 +65,8 @@ abbrev count : Result Met LoadError → ℕ
 count (Ok met) = length met.messages
 count (Err e) = 0
 
-pub message_grown : (m : PlacedMessage) (c d : Met) → message_met m c ≡ Ok d → length d.messages ≡ length c.messages + 1
-unfolding message_met
+pub message_grown : (m : PlacedMessage) (c d : Met) → add_message m c ≡ Ok d → length d.messages ≡ length c.messages + 1
+unfolding add_message
 message_grown m c d = over (name_mentioned m.message.channel_name c.channels)
   where
     fits : (b : Bool) (channels : List Known) (e : LoadError) → (if b then Err e else Ok (with_messages channels (c.messages ++ numbered m channels ∷ []))) ≡ Ok d
@@ -81,20 +81,20 @@ message_grown m c d = over (name_mentioned m.message.channel_name c.channels)
 
 pub messages_grown : (ms : List PlacedMessage) (c d : Met) → messages_met ms c ≡ Ok d → length d.messages ≡ length c.messages + length ms
 messages_grown [] c d is = omega (arith, ap count is)
-messages_grown (m ∷ ms) c d is = over (message_met m c) refl is (λ mid rest. messages_grown ms mid d rest)
+messages_grown (m ∷ ms) c d is = over (add_message m c) refl is (λ mid rest. messages_grown ms mid d rest)
   where
-    over : (r : Result Met LoadError) → message_met m c ≡ r → r >>= messages_met ms ≡ Ok d
+    over : (r : Result Met LoadError) → add_message m c ≡ r → r >>= messages_met ms ≡ Ok d
         → ((mid : Met) → messages_met ms mid ≡ Ok d → length d.messages ≡ length mid.messages + length ms) → length d.messages ≡ length c.messages + length (m ∷ ms)
     over (Ok mid) one left rest = omega (arith, message_grown m c mid one, rest mid left)
     over (Err e) one left rest = absurd cc
 
-body_grown : (fault : Option SectionError) (ms : List PlacedMessage) (c d : Met) → body_met fault ms c ≡ Ok d → length d.messages ≡ length c.messages + length ms
+body_grown : (fault : Option SectionError) (ms : List PlacedMessage) (c d : Met) → add_body fault ms c ≡ Ok d → length d.messages ≡ length c.messages + length ms
 body_grown None ms c d is = messages_grown ms c d is
 body_grown (Some fault) ms c d is = absurd cc
 
 -- and a section no more than its body has bytes
-pub section_grown : (s : WholeSection) (c d : Met) → section_met s c ≡ Ok d → length d.messages ≤ length c.messages + length s.body
-unfolding section_met channel_met
+pub section_grown : (s : WholeSection) (c d : Met) → add_section s c ≡ Ok d → length d.messages ≤ length c.messages + length s.body
+unfolding add_section channel_met
 section_grown s c d = by_kind s.kind
   where
     given : (channel : Channel) (r : Result (List Known) LoadError) → (r >>= λ channels. Ok (with_messages channels c.messages)) ≡ Ok d → length d.messages ≤ length c.messages + length s.body
@@ -119,7 +119,7 @@ section_grown s c d = by_kind s.kind
     by_kind kind.Index is = omega (arith, ap count is)
 
 -- the same of what is kept
-pub kept_grown : (s : WholeSection) (before after : List (List ℕ)) (old new : Loading) → section_met s (met_of before old) ≡ Ok (met_of after new) → length new.messages.items ≤ length old.messages.items + length s.body
+pub kept_grown : (s : WholeSection) (before after : List (List ℕ)) (old new : Loading) → add_section s (met_of before old) ≡ Ok (met_of after new) → length new.messages.items ≤ length old.messages.items + length s.body
 kept_grown s before after old new is =
     omega (arith, section_grown s (met_of before old) (met_of after new) is, length-map old.messages.items (message_of before), length-map new.messages.items (message_of after))
 

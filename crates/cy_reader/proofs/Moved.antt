@@ -15,7 +15,7 @@ use Rattle.cy_reader.specs.declared.channels.Channels.{Channels}
 use Rattle.cy_reader.specs.declared.loading.Loading.{Loading}
 use Rattle.cy_reader.specs.declared.loading.Message.{Message}
 use Rattle.cy_reader.specs.Record as meaning
-use Rattle.cy_reader.specs.Record.{◌>>=◌, Met, number_of, body_met, nothing}
+use Rattle.cy_reader.specs.Record.{◌>>=◌, Met, number_of, add_body, nothing}
 use Rattle.cy_reader.specs.private.Alone.{AreDecoded, all_mentioned, behind, renumbered, moved, met_alone, AreNumbers, IsClosed, IsAlone}
 use Rattle.cy_reader.specs.private.Loading.{AreSmall, IsTied, IsNothing, IsSound, Grows, Leads, message_of, met_of}
 use Rattle.cy_reader.proofs.Behind.{body_alone}
@@ -116,7 +116,7 @@ moved_sound (Err e) bodies alone old new numbers sound closed grows are more roo
 -- what a chunk comes to by itself is what it comes to behind others
 pub alone_leads : (r : Result (Unit {0}) LoadError) (p : Part) (alone : Alone) (before : List (List ℕ)) (old new : Loading) → IsAlone p alone
     → Leads r (met_of (before ++ p.body ∷ []) new) (behind (met_alone p.body alone) (met_of before old))
-    → (let all = messages_of (fields_of p.body_at p.body) in Leads r (met_of (before ++ p.body ∷ []) new) (body_met all.fault all.messages (met_of before old)))
+    → (let all = messages_of (fields_of p.body_at p.body) in Leads r (met_of (before ++ p.body ∷ []) new) (add_body all.fault all.messages (met_of before old)))
 alone_leads r p alone before old new is leads =
     let all = messages_of (fields_of p.body_at p.body) in
     subst (λ (m : Result Met LoadError). Leads r (met_of (before ++ p.body ∷ []) new) m) (sym (body_alone (met_of before old) all.fault all.messages (met_alone p.body alone) is.met)) leads
@@ -148,11 +148,11 @@ pub met_nothing : (bodies : List (List ℕ)) (l : Loading) → IsNothing l → m
 met_nothing bodies l is = rw (is.channels, is.messages) refl
 
 pub alone_made : (p : Part) (a : Alone) (old new : Loading) → IsNothing old
-    → (let all = messages_of (fields_of p.body_at p.body) in body_met all.fault all.messages (met_of [] old) ≡ Ok (met_of (p.body ∷ []) new))
+    → (let all = messages_of (fields_of p.body_at p.body) in add_body all.fault all.messages (met_of [] old) ≡ Ok (met_of (p.body ∷ []) new))
     → a.channels ≡ new.channels.list → a.messages ≡ new.messages → IsSound 1 new → IsAlone p a
 alone_made p a old new is met channels messages sound = record {
   met = let all = messages_of (fields_of p.body_at p.body) in
-      ap (body_met all.fault all.messages) (sym (met_nothing [] old is)) ∙ met ∙ rw (channels, messages) refl;
+      ap (add_body all.fault all.messages) (sym (met_nothing [] old is)) ∙ met ∙ rw (channels, messages) refl;
   closed = record { numbered = rw (channels, messages) sound.numbered; placed = rw messages sound.placed };
 }
 

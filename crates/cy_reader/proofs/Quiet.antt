@@ -10,7 +10,7 @@ use Rattle.cy_section.specs.declared.types.SectionKind.TheVariants as kind
 use Rattle.cy_section.specs.Reading.{no_message, messages_of, chunk_header_at}
 use Rattle.cy_reader.specs.declared.error.LoadError.{LoadError}
 use Rattle.cy_cut.specs.Sections.{WholeSection}
-use Rattle.cy_reader.specs.Record.{◌>>=◌, Met, of_section, section_met, section_of, sections_met}
+use Rattle.cy_reader.specs.Record.{◌>>=◌, Met, of_section, add_section, section_of, add_sections}
 use Rattle.cy_cut.specs.Cutting.{fault_by, is_kept, is_kept_under}
 
 -- ---- one section
@@ -41,8 +41,8 @@ met_under kind.ChunkBody at body c e = rw (messages_none at body e) refl
 met_under kind.Index at body c e = refl
 met_under kind.Channel at body c e = absurd cc
 
-pub quiet_met : (s : WholeSection) (c : Met) → is_kept s ≡ false → section_met s c ≡ Ok c
-unfolding section_met
+pub quiet_met : (s : WholeSection) (c : Met) → is_kept s ≡ false → add_section s c ≡ Ok c
+unfolding add_section
 quiet_met s c e = met_under s.kind s.body_at s.body c e
 
 -- ---- all of them
@@ -52,11 +52,11 @@ alike (Ok d) f g same = same d
 alike (Err e) f g same = refl
 
 -- what is met is met in the others
-met_by : (b : Bool) (s : WholeSection) (ss : List WholeSection) (fault : Option SectionError) (c : Met) → ((d : Met) → sections_met (filter is_kept ss) fault d ≡ sections_met ss fault d) → is_kept s ≡ b
-    → sections_met (filter is_kept (s ∷ ss)) fault c ≡ sections_met (s ∷ ss) fault c
-met_by true s ss fault c behind e = rw e (alike (section_met s c) (sections_met (filter is_kept ss) fault) (sections_met ss fault) behind)
-met_by false s ss fault c behind e = rw e (behind c ∙ sym (ap (λ (r : Result Met LoadError). r >>= sections_met ss fault) (quiet_met s c e)))
+met_by : (b : Bool) (s : WholeSection) (ss : List WholeSection) (fault : Option SectionError) (c : Met) → ((d : Met) → add_sections (filter is_kept ss) fault d ≡ add_sections ss fault d) → is_kept s ≡ b
+    → add_sections (filter is_kept (s ∷ ss)) fault c ≡ add_sections (s ∷ ss) fault c
+met_by true s ss fault c behind e = rw e (alike (add_section s c) (add_sections (filter is_kept ss) fault) (add_sections ss fault) behind)
+met_by false s ss fault c behind e = rw e (behind c ∙ sym (ap (λ (r : Result Met LoadError). r >>= add_sections ss fault) (quiet_met s c e)))
 
-pub kept_met : (ss : List WholeSection) (fault : Option SectionError) (c : Met) → sections_met (filter is_kept ss) fault c ≡ sections_met ss fault c
+pub kept_met : (ss : List WholeSection) (fault : Option SectionError) (c : Met) → add_sections (filter is_kept ss) fault c ≡ add_sections ss fault c
 kept_met [] fault c = refl
 kept_met (s ∷ ss) fault c = met_by (is_kept s) s ss fault c (λ d. kept_met ss fault d) refl

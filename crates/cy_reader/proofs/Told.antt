@@ -21,7 +21,7 @@ use Rattle.cy_reader.specs.declared.error.LoadError.{LoadError}
 use Rattle.cy_reader.specs.declared.error.LoadError.TheVariants.{NameTooLong, ContentTooLarge, TooManyChannels, ChannelsTooLarge}
 use Rattle.cy_reader.specs.declared.known.Known.{Known}
 use Rattle.cy_cut.specs.Sections.{WholeSection, sections_from, header_end}
-use Rattle.cy_reader.specs.Record.{◌>>=◌, Met, Message, Contents, shown, source_of, file_header, parts_of, record_of, fault_of, of_section, size_of, number_of, within_limits, named_only, with_section, name_fits, mentioned, given_at, given, channel_given, name_mentioned, channel_met, content_fits, numbered, message_met, messages_met, body_met, section_of, section_met, sections_met, nothing, most_channels, largest_channels, longest_name, longest_content}
+use Rattle.cy_reader.specs.Record.{◌>>=◌, Met, Message, Contents, shown, source_of, file_header, parts_of, record_of, fault_of, of_section, size_of, number_of, within_limits, named_only, with_section, name_fits, mentioned, given_at, given, channel_given, name_mentioned, channel_met, content_fits, numbered, add_message, messages_met, add_body, section_of, add_section, add_sections, nothing, most_channels, largest_channels, longest_name, longest_content}
 use Rattle.cy_reader.specs.Named.{name_in, with_name, named_messages}
 use Rattle.cy_cut.specs.declared.cutting.CutFile.{CutFile}
 use Rattle.cy_reader.specs.declared.front.Front.{Front}
@@ -255,8 +255,8 @@ then_steps c d e ms rest one more = record {
   messages = more.messages ∙ ap (λ (l : List BodyMessage). l ++ rest) one.messages ∙ append_assoc (named_messages c) ms rest;
 }
 
-message_step : (m : PlacedMessage) (c d : Met) → message_met m c ≡ Ok d → Fine c → Steps c d (m.message ∷ [])
-unfolding message_met
+message_step : (m : PlacedMessage) (c d : Met) → add_message m c ≡ Ok d → Fine c → Steps c d (m.message ∷ [])
+unfolding add_message
 message_step m c d h fine =
     let added : List Known → Met = λ ds. record { channels = ds; messages = c.messages ++ numbered m ds ∷ [] } in
     let b = bind_ok (name_mentioned m.message.channel_name c.channels) (λ ds. content_fits m.message.content (Ok (added ds))) d h in
@@ -279,7 +279,7 @@ message_step m c d h fine =
 messages_step : (ms : List PlacedMessage) (c d : Met) → messages_met ms c ≡ Ok d → Fine c → Steps c d (map (λ m. m.message) ms)
 messages_step [] c d h fine = no_step c d fine (ok_is c d h)
 messages_step (m ∷ ms) c d h fine =
-    let b = bind_ok (message_met m c) (messages_met ms) d h in
+    let b = bind_ok (add_message m c) (messages_met ms) d h in
     let one = message_step m c b.0 b.1.0 fine in
     then_steps c b.0 d (m.message ∷ []) (map (λ m. m.message) ms) one (messages_step ms b.0 d b.1.1 one.fine)
 
@@ -299,7 +299,7 @@ channel_step ch c d h fine =
 
 -- ---- sections
 
-body_step : (fault : Option SectionError) (ms : List PlacedMessage) (c d : Met) → body_met fault ms c ≡ Ok d → Fine c → Steps c d (map (λ m. m.message) ms)
+body_step : (fault : Option SectionError) (ms : List PlacedMessage) (c d : Met) → add_body fault ms c ≡ Ok d → Fine c → Steps c d (map (λ m. m.message) ms)
 body_step None ms c d h fine = messages_step ms c d h fine
 body_step (Some fault) ms c d h fine = absurd (not_ok (fault_of fault) d h)
 
@@ -314,29 +314,29 @@ section_step kind.Channel at body c d h fine =
     let b = bind_ok (of_section (channel_at at body)) (λ (ch : Channel). channel_met ch c) d h in
     channel_step b.0 c d b.1.1 fine
 
-one_section : (s : WholeSection) (c d : Met) → section_met s c ≡ Ok d → Fine c → Steps c d (section_messages s)
-unfolding section_met section_messages
+one_section : (s : WholeSection) (c d : Met) → add_section s c ≡ Ok d → Fine c → Steps c d (section_messages s)
+unfolding add_section section_messages
 one_section s c d h fine = section_step s.kind s.body_at s.body c d h fine
 
-all_sections : (ss : List WholeSection) (c d : Met) → sections_met ss None c ≡ Ok d → Fine c → Steps c d (flat_map section_messages ss)
+all_sections : (ss : List WholeSection) (c d : Met) → add_sections ss None c ≡ Ok d → Fine c → Steps c d (flat_map section_messages ss)
 all_sections [] c d h fine = no_step c d fine (ok_is c d h)
 all_sections (s ∷ ss) c d h fine =
-    let b = bind_ok (section_met s c) (sections_met ss None) d h in
+    let b = bind_ok (add_section s c) (add_sections ss None) d h in
     let one = one_section s c b.0 b.1.0 fine in
     then_steps c b.0 d (section_messages s) (flat_map section_messages ss) one (all_sections ss b.0 d b.1.1 one.fine)
 
-pub told_as_said : (sections : List WholeSection) (met : Met) → sections_met sections None nothing ≡ Ok met → IsSaid sections met
+pub told_as_said : (sections : List WholeSection) (met : Met) → add_sections sections None nothing ≡ Ok met → IsSaid sections met
 told_as_said sections met h =
     let all = all_sections sections nothing met h (record { once = λ m n x there other. absurd (none-some x there); below = tt }) in
     record { messages = all.messages; once = all.fine.once }
 
 -- ---- the names of a record
 
-no_fault : (ss : List WholeSection) (fault : Option SectionError) (met : Met) → sections_met ss fault nothing ≡ Ok met → sections_met ss None nothing ≡ Ok met
+no_fault : (ss : List WholeSection) (fault : Option SectionError) (met : Met) → add_sections ss fault nothing ≡ Ok met → add_sections ss None nothing ≡ Ok met
 no_fault ss None met h = h
-no_fault ss (Some fault) met h = by (sections_met ss None nothing) refl
+no_fault ss (Some fault) met h = by (add_sections ss None nothing) refl
   where
-    by : (r : Result Met LoadError) → sections_met ss None nothing ≡ r → sections_met ss None nothing ≡ Ok met
+    by : (r : Result Met LoadError) → add_sections ss None nothing ≡ r → add_sections ss None nothing ≡ Ok met
     by (Ok m) e = absurd (not_ok (fault_of fault) met (sym (then_fault ss nothing m fault e) ∙ h))
     by (Err x) e = absurd (not_ok x met (sym (before_fault ss nothing (Some fault) x e) ∙ h))
 
@@ -346,7 +346,7 @@ below_at n [] all i m there = absurd (none-some m there)
 below_at n (x ∷ ms) all zero m there = subst (λ (y : Message). y.channel < n) (same_Some x m there) all.0
 below_at n (x ∷ ms) all (suc i) m there = below_at n ms all.1 i m there
 
-pub met_named : (ss : List WholeSection) (fault : Option SectionError) (met : Met) → sections_met ss fault nothing ≡ Ok met → StandOnChannels met.channels met.messages
+pub met_named : (ss : List WholeSection) (fault : Option SectionError) (met : Met) → add_sections ss fault nothing ≡ Ok met → StandOnChannels met.channels met.messages
 met_named ss fault met h =
     let all = all_sections ss nothing met (no_fault ss fault met h) (record { once = λ m n x there other. absurd (none-some x there); below = tt }) in
     record { once = all.fine.once; on_channels = below_at (length met.channels) met.messages all.fine.below }
@@ -356,8 +356,8 @@ unfolding parts_of
 parts_named file p h =
     let all = sections_from file header_end in
     let pair : Header → Met → Header × Met = λ header met. (header, met) in
-    let a = bind_ok (file_header file) (λ header. sections_met all.sections all.fault nothing >>= λ met. Ok (pair header met)) p h in
-    let b = bind_ok (sections_met all.sections all.fault nothing) (λ met. Ok (pair a.0 met)) p a.1.1 in
+    let a = bind_ok (file_header file) (λ header. add_sections all.sections all.fault nothing >>= λ met. Ok (pair header met)) p h in
+    let b = bind_ok (add_sections all.sections all.fault nothing) (λ met. Ok (pair a.0 met)) p a.1.1 in
     let is : pair a.0 b.0 ≡ p = ok_is (pair a.0 b.0) p b.1.1 in
     subst (λ (q : Header × Met). StandOnChannels q.1.channels q.1.messages) is (met_named all.sections all.fault b.0 b.1.0)
 
@@ -375,5 +375,5 @@ pub cut_named : (name : List ℕ) (f : Front) (c : CutFile) (r : Contents) → c
 unfolding cut_record
 cut_named name f c r h =
     let made : Met → Contents = shown (cut_source name f c) in
-    let a = bind_ok (sections_met (map seen_part c.parts.items) (fault_in c.end) nothing) (λ met. Ok (made met)) r h in
+    let a = bind_ok (add_sections (map seen_part c.parts.items) (fault_in c.end) nothing) (λ met. Ok (made met)) r h in
     subst (λ (d : Contents). StandOnChannels d.channels d.messages) (ok_is (made a.0) r a.1.1) (met_named (map seen_part c.parts.items) (fault_in c.end) a.0 a.1.0)

@@ -146,8 +146,8 @@ numbered m channels = record {
   content = m.message.content;
 }
 
-unfoldable pub message_met : PlacedMessage → Met → Result Met LoadError
-message_met m contents = do
+unfoldable pub add_message : PlacedMessage → Met → Result Met LoadError
+add_message m contents = do
   channels ← name_mentioned m.message.channel_name contents.channels
   content_fits m.message.content
       (Ok (record {
@@ -158,33 +158,33 @@ message_met m contents = do
 
 abbrev pub messages_met : List PlacedMessage → Met → Result Met LoadError
 messages_met [] contents = Ok contents
-messages_met (m ∷ rest) contents = message_met m contents >>= messages_met rest
+messages_met (m ∷ rest) contents = add_message m contents >>= messages_met rest
 
 -- The messages of a body, unless a fault ends them: it comes before any limit of the section.
-abbrev pub body_met : Option SectionError → List PlacedMessage → Met
+abbrev pub add_body : Option SectionError → List PlacedMessage → Met
     → Result Met LoadError
-body_met None messages contents = messages_met messages contents
-body_met (Some fault) messages contents = Err (fault_of fault)
+add_body None messages contents = messages_met messages contents
+add_body (Some fault) messages contents = Err (fault_of fault)
 
 -- A section: its own faults come first. Chunk headers are read and not needed.
 abbrev pub section_of : SectionKind → ℕ → List ℕ → Met → Result Met LoadError
 section_of kind.ChunkHeader at body contents = of_section (chunk_header_at at body) >>=
     λ _. Ok contents
 section_of kind.ChunkBody at body contents = let all = messages_of
-    (fields_of at body) in body_met all.fault all.messages contents
+    (fields_of at body) in add_body all.fault all.messages contents
 section_of kind.Channel at body contents = of_section (channel_at at body) >>=
     λ channel. channel_met channel contents
 section_of kind.Header at body contents = Ok contents
 section_of kind.Index at body contents = Ok contents
 
-unfoldable pub section_met : WholeSection → Met → Result Met LoadError
-section_met s contents = section_of s.kind s.body_at s.body contents
+unfoldable pub add_section : WholeSection → Met → Result Met LoadError
+add_section s contents = section_of s.kind s.body_at s.body contents
 
-abbrev pub sections_met : List WholeSection → Option SectionError → Met
+abbrev pub add_sections : List WholeSection → Option SectionError → Met
     → Result Met LoadError
-sections_met [] None contents = Ok contents
-sections_met [] (Some fault) contents = Err (fault_of fault)
-sections_met (s ∷ rest) fault contents = section_met s contents >>= sections_met rest fault
+add_sections [] None contents = Ok contents
+add_sections [] (Some fault) contents = Err (fault_of fault)
+add_sections (s ∷ rest) fault contents = add_section s contents >>= add_sections rest fault
 
 -- The file's header. Its fields take as many bytes of its section as its head says.
 abbrev pub uncompressed : Header → Result Header LoadError
@@ -219,7 +219,7 @@ unfoldable pub parts_of : List ℕ → Result (Header × Met) LoadError
 parts_of file = do
   header ← file_header file
   let all = sections_from file header_end
-  met ← sections_met all.sections all.fault nothing
+  met ← add_sections all.sections all.fault nothing
   Ok (header, met)
 
 -- The file of a record: its name, its length in bytes, its header, the head of each section that

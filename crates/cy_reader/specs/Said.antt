@@ -9,7 +9,7 @@ use Rattle.cy_section.specs.declared.types.BodyMessage.{BodyMessage}
 use Rattle.cy_section.specs.Reading.{messages_of}
 use Rattle.cy_reader.specs.declared.known.Known.{Known}
 use Rattle.cy_cut.specs.Sections.{WholeSection}
-use Rattle.cy_reader.specs.Record.{Met, Message, Contents, nothing, sections_met, record_of}
+use Rattle.cy_reader.specs.Record.{Met, Message, Contents, nothing, add_sections, record_of}
 use Rattle.cy_reader.specs.Named.{named_messages}
 
 -- The messages of a section: those of a chunk's body.
@@ -42,7 +42,7 @@ pub record IsSaid (sections : List WholeSection) (met : Met) : Type 0 where
 
 abbrev pub MeetsWhatIsSaid : Type 0
 MeetsWhatIsSaid = (sections : List WholeSection) (met : Met)
-    → sections_met sections None nothing ≡ Ok met → IsSaid sections met
+    → add_sections sections None nothing ≡ Ok met → IsSaid sections met
 
 -- No two channels of a record have one name.
 abbrev pub NamesDiffer : Type 0

@@ -5,7 +5,7 @@ ghost use Rattle.cy_reader.specs.private.Alone.{IsAlone, AreDecoded};
 
 use crate::LoadError;
 use crate::channels::Channels;
-use crate::gathering::chunk_met;
+use crate::gathering::add_chunk;
 use crate::known::Known;
 use crate::loading::{Loading, Message};
 use cy_cut::Part;
@@ -51,7 +51,7 @@ pub(crate) fn alone_of(alloc: Global, part: &Part) -> Result<Alone, LoadError>
     ensures { IfOk result (IsAlone part.now) }
 {
     let mut loading = Loading::none(alloc);
-    match chunk_met(alloc, &[], &mut loading, part) {
+    match add_chunk(alloc, &[], &mut loading, part) {
         Ok(()) => Ok(Alone::of(loading)),
         Err(error) => {
             drop(loading);

@@ -5,7 +5,7 @@ ghost use Rattle.std.specs.Vec.Iter.{into_iter_items};
 ghost use Rattle.cy_msg.specs.Answer.{AnswersOr};
 ghost use Rattle.cy_wire.specs.Field.{fields_of};
 ghost use Rattle.cy_section.specs.Reading.{messages_of};
-ghost use Rattle.cy_reader.specs.Record.{body_met, section_met, sections_met, nothing};
+ghost use Rattle.cy_reader.specs.Record.{add_body, add_section, add_sections, nothing};
 ghost use Rattle.cy_cut.specs.Sections.{longest_file};
 ghost use Rattle.cy_reader.specs.private.Alone.{IsAlone, AreDecoded};
 ghost use Rattle.cy_cut.specs.Cutting.{bytes_of, seen_part};
@@ -14,8 +14,8 @@ ghost use Rattle.cy_reader.specs.private.Loading.{HasRoom, GrowsBy, IsSound, Lea
 
 use crate::LoadError;
 use crate::decoding::{Alone, bytes_in, decode};
-use crate::joining::alone_met;
-use crate::loading::{Body, Loading, Message, body_met, plain_met};
+use crate::joining::add_alone;
+use crate::loading::{Body, Loading, Message, add_body, add_plain};
 use cy_cut::{Part, SectionView};
 use cy_msg::Bytes;
 use cy_section::SectionKind;
@@ -51,7 +51,7 @@ fn view_of(part: &Part) -> SectionView<'_>
 }
 
 // Keeps the messages of a chunk, whose body is to be kept behind others.
-pub(crate) fn chunk_met(
+pub(crate) fn add_chunk(
     alloc: Global,
     before: &[Bytes],
     loading: &mut Loading,
@@ -62,18 +62,18 @@ pub(crate) fn chunk_met(
     requires within { part.now.body_at + length part.now.body ≤ longest_file }
     ensures met { let all = messages_of (fields_of part.now.body_at part.now.body) in
         Leads result (met_of (before.now ++ part.now.body ∷ []) loading.new)
-        (body_met all.fault all.messages (met_of before.now loading.old)) }
+        (add_body all.fault all.messages (met_of before.now loading.old)) }
     ensures still_sound { OnOk result (IsSound (length before.now + 1) loading.new) }
     ensures not_store { IfErr result (λ e. e ≢ LoadError.Store) }
 {
     let bytes = part.body.as_slice();
     let at = part.body_at;
     let body = Body { before, at, bytes };
-    body_met(alloc, &body, loading, &view_of(part))
+    add_body(alloc, &body, loading, &view_of(part))
 }
 
 // The same, where it may be known what is met in the body by itself.
-fn decoded_met(
+fn add_decoded(
     alloc: Global,
     before: &[Bytes],
     loading: &mut Loading,
@@ -86,17 +86,17 @@ fn decoded_met(
     requires alone { IfSome alone (IsAlone part.now) }
     ensures met { let all = messages_of (fields_of part.now.body_at part.now.body) in
         Leads result (met_of (before.now ++ part.now.body ∷ []) loading.new)
-        (body_met all.fault all.messages (met_of before.now loading.old)) }
+        (add_body all.fault all.messages (met_of before.now loading.old)) }
     ensures still_sound { OnOk result (IsSound (length before.now + 1) loading.new) }
     ensures not_store { IfErr result (λ e. e ≢ LoadError.Store) }
 {
     match alone {
         Some(alone) => {
-            let met = alone_met(alloc, before.len() as u32, loading, &alone);
+            let met = add_alone(alloc, before.len() as u32, loading, &alone);
             drop(alone);
             met
         }
-        None => chunk_met(alloc, before, loading, part),
+        None => add_chunk(alloc, before, loading, part),
     }
 }
 
@@ -114,18 +114,18 @@ fn keep_chunk(
     requires alone { IfSome alone (IsAlone part) }
     ensures met { let all = messages_of (fields_of part.body_at part.body) in
         Leads result (met_of bodies.new.items loading.new)
-        (body_met all.fault all.messages (met_of bodies.old.items loading.old)) }
+        (add_body all.fault all.messages (met_of bodies.old.items loading.old)) }
     ensures still_sound { OnOk result (IsSound (length bodies.new.items) loading.new) }
     ensures bodies { OnOk result (length bodies.new.items ≤ length bodies.old.items + 1) }
     ensures not_store { IfErr result (λ e. e ≢ LoadError.Store) }
 {
-    decoded_met(alloc, bodies.as_slice(), loading, &part, alone)?;
+    add_decoded(alloc, bodies.as_slice(), loading, &part, alone)?;
     bodies.push(part.body)?;
     Ok(())
 }
 
 // Keeps what a section has. Of a chunk it may be known what is met in its body by itself.
-fn part_met(
+fn add_part(
     alloc: Global,
     bodies: &mut Vec<Bytes>,
     loading: &mut Loading,
@@ -137,7 +137,7 @@ fn part_met(
     requires within { part.body_at + length part.body ≤ longest_file }
     requires alone { IfSome alone (IsAlone part) }
     ensures met { Leads result (met_of bodies.new.items loading.new)
-        (section_met (seen_part part) (met_of bodies.old.items loading.old)) }
+        (add_section (seen_part part) (met_of bodies.old.items loading.old)) }
     ensures still_sound { OnOk result (IsSound (length bodies.new.items) loading.new) }
     ensures bodies { OnOk result (length bodies.new.items ≤ length bodies.old.items + 1) }
     ensures not_store { IfErr result (λ e. e ≢ LoadError.Store) }
@@ -146,7 +146,7 @@ fn part_met(
         SectionKind::ChunkBody => keep_chunk(alloc, bodies, loading, part, alone),
         _ => {
             drop(alone);
-            plain_met(alloc, &mut loading.channels, &view_of(&part))
+            add_plain(alloc, &mut loading.channels, &view_of(&part))
         }
     }
 }
@@ -166,7 +166,7 @@ fn join(
     requires within { All (λ p. p.body_at + length p.body ≤ longest_file) parts.items }
     requires decoded { AreDecoded parts.items decoded.items }
     ensures met { Leads result (met_of bodies.new.items loading.new)
-        (sections_met (map seen_part parts.items) None (met_of bodies.old.items loading.old)) }
+        (add_sections (map seen_part parts.items) None (met_of bodies.old.items loading.old)) }
     ensures still_sound { OnOk result (IsSound (length bodies.new.items) loading.new) }
     ensures grown { OnOk result (GrowsBy (bytes_of parts.items) (length bodies.old.items)
         (length bodies.new.items) loading.old loading.new) }
@@ -174,13 +174,13 @@ fn join(
 {
     let mut each = decoded.into_iter();
     for part in parts {
-        part_met(alloc, bodies, loading, part, each.next().flatten())?;
+        add_part(alloc, bodies, loading, part, each.next().flatten())?;
     }
     Ok(())
 }
 
 // The same, where the bodies are decoded side by side before.
-fn group_met<R: Threads + Sync>(
+fn add_group<R: Threads + Sync>(
     rt: &R,
     alloc: Global,
     bodies: &mut Vec<Bytes>,
@@ -191,7 +191,7 @@ fn group_met<R: Threads + Sync>(
     requires room { HasRoom (length bodies.old.items) loading.old (bytes_of parts.items) }
     requires within { All (λ p. p.body_at + length p.body ≤ longest_file) parts.items }
     ensures met { Leads result (met_of bodies.new.items loading.new)
-        (sections_met (map seen_part parts.items) None (met_of bodies.old.items loading.old)) }
+        (add_sections (map seen_part parts.items) None (met_of bodies.old.items loading.old)) }
     ensures still_sound { OnOk result (IsSound (length bodies.new.items) loading.new) }
     ensures grown { OnOk result (GrowsBy (bytes_of parts.items) (length bodies.old.items)
         (length bodies.new.items) loading.old loading.new) }
@@ -233,7 +233,7 @@ fn expect_more(messages: &mut Vec<Message>, done: usize, left: usize)
 
 // The chunks' bodies, and what is met in sections. Those of a group are decoded side by side, and
 // then kept, before the next group is looked at.
-pub(crate) fn parts_met<R: Threads + Sync>(
+pub(crate) fn add_parts<R: Threads + Sync>(
     rt: &R,
     alloc: Global,
     parts: Vec<Part>,
@@ -241,7 +241,7 @@ pub(crate) fn parts_met<R: Threads + Sync>(
     requires within { All (λ p. p.body_at + length p.body ≤ longest_file) parts.items }
     requires all { bytes_of parts.items ≤ longest_file }
     ensures met { AnswersOr LoadError.Memory (λ k. met_of k.0.items k.1) result
-        (sections_met (map seen_part parts.items) None nothing) }
+        (add_sections (map seen_part parts.items) None nothing) }
     ensures sound { IfOk result (λ k. IsSound (length k.0.items) k.1) }
     ensures not_store { IfErr result (λ e. e ≢ LoadError.Store) }
 {
@@ -257,7 +257,7 @@ pub(crate) fn parts_met<R: Threads + Sync>(
             return Ok((bodies, loading));
         }
         done = done.saturating_add(bytes_in(&group));
-        group_met(rt, alloc, &mut bodies, &mut loading, group)?;
+        add_group(rt, alloc, &mut bodies, &mut loading, group)?;
         expect_more(&mut loading.messages, done, all.saturating_sub(done));
     }
 }

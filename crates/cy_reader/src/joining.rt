@@ -60,7 +60,7 @@ fn move_messages(
 }
 
 // Keeps what was met in a body by itself, which is to be kept behind so many others.
-pub(crate) fn alone_met(
+pub(crate) fn add_alone(
     alloc: Global,
     bodies: u32,
     loading: &mut Loading,

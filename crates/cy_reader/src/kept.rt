@@ -4,11 +4,11 @@ ghost use Rattle.std.specs.Prelude.{slice_get, Some, None, IfOk, IfErr, IsOkUnle
 ghost use Rattle.cy_msg.specs.Answer.{AnswersOr};
 ghost use Rattle.cy_cut.specs.Cutting.{bytes_of, seen_part};
 ghost use Rattle.cy_cut.specs.Sections.{longest_file};
-ghost use Rattle.cy_reader.specs.Record.{Message, nothing, sections_met};
+ghost use Rattle.cy_reader.specs.Record.{Message, nothing, add_sections};
 ghost use Rattle.cy_reader.specs.United.{IsInTime, met_joined};
 ghost use Rattle.cy_reader.specs.private.Loading.{IsSound, met_of};
 
-use crate::gathering::parts_met;
+use crate::gathering::add_parts;
 use crate::loading::Loading;
 use crate::uniting::join_loading;
 use crate::{Known, LoadError, Loaded};
@@ -74,10 +74,10 @@ impl Kept {
         requires within { All (λ p. p.body_at + length p.body ≤ longest_file) parts.items }
         requires all { bytes_of parts.items ≤ longest_file }
         ensures met { AnswersOr LoadError.Memory (λ k. k) result
-            (sections_met (map seen_part parts.items) None nothing) }
+            (add_sections (map seen_part parts.items) None nothing) }
         ensures not_store { IfErr result (λ e. e ≢ LoadError.Store) }
     {
-        let (bodies, loading) = parts_met(rt, alloc, parts)?;
+        let (bodies, loading) = add_parts(rt, alloc, parts)?;
         Ok(Kept { bodies, loading })
     }
 

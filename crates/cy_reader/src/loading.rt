@@ -3,8 +3,8 @@ ghost use Rattle.std.specs.Prelude.{◌≡◌, ◌≢◌, ◌≤◌, ◌<◌, �
 ghost use Rattle.std.specs.Prelude.{List, IfOk, IfErr, OnOk, IsOkUnless};
 ghost use Rattle.cy_msg.specs.Answer.{AnswersOr};
 ghost use Rattle.cy_section.specs.Messages.{seen};
-ghost use Rattle.cy_reader.specs.Record.{message_met, body_met};
-ghost use Rattle.cy_reader.specs.Record.{Message as MessageMet, section_met, sections_met};
+ghost use Rattle.cy_reader.specs.Record.{add_message, add_body};
+ghost use Rattle.cy_reader.specs.Record.{Message as MessageMet, add_section, add_sections};
 ghost use Rattle.cy_reader.specs.Record.{parts_of, nothing};
 ghost use Rattle.cy_cut.specs.Sections.{header_end, sections_from};
 ghost use Rattle.cy_reader.specs.private.Kept.{IsLoaded};
@@ -97,9 +97,9 @@ fn note_message(
 }
 
 // Keeps a message of a body, and the channel that it names.
-#[tactic(auto, unfolding(crate::specs::Record::message_met), using(crate::proofs::Sound::sounds))]
+#[tactic(auto, unfolding(crate::specs::Record::add_message), using(crate::proofs::Sound::sounds))]
 #[inline(always)]
-fn message_met(
+fn add_message(
     alloc: Global,
     body: &Body<'_>,
     loading: &mut Loading,
@@ -111,7 +111,7 @@ fn message_met(
     requires short { IsShort body.now }
     requires few { length loading.old.messages.items + 1 < 2 ^ 32 }
     ensures met { let bodies = with_body body.now in Leads result (met_of bodies loading.new)
-        (message_met (seen message.now) (met_of bodies loading.old)) }
+        (add_message (seen message.now) (met_of bodies loading.old)) }
     ensures still_sound { OnOk result (IsSound (length (with_body body.now)) loading.new) }
     ensures not_store { IfErr result (λ e. e ≢ LoadError.Store) }
 {
@@ -136,7 +136,7 @@ pub fn read_out(messages: MessageReader<'_>) -> Result<(), LoadError>
 // Keeps the messages of a chunk, which stand in a body. A fault anywhere in it comes before any
 // limit.
 #[inline(never)]
-pub(crate) fn body_met(
+pub(crate) fn add_body(
     alloc: Global,
     body: &Body<'_>,
     loading: &mut Loading,
@@ -150,13 +150,13 @@ pub(crate) fn body_met(
     ensures met { let bodies = with_body body.now in
         let all = messages_of (fields_of section.now.body_at section.now.body.now) in
         Leads result (met_of bodies loading.new)
-        (body_met all.fault all.messages (met_of bodies loading.old)) }
+        (add_body all.fault all.messages (met_of bodies loading.old)) }
     ensures still_sound { OnOk result (IsSound (length (with_body body.now)) loading.new) }
     ensures not_store { IfErr result (λ e. e ≢ LoadError.Store) }
 {
     let mut reader = MessageReader::new(section.body, section.body_at as u64);
     while let Some(message) = reader.next_message()? {
-        if let Err(limit) = message_met(alloc, body, loading, &message) {
+        if let Err(limit) = add_message(alloc, body, loading, &message) {
             read_out(reader)?;
             return Err(limit);
         }
@@ -165,8 +165,8 @@ pub(crate) fn body_met(
 }
 
 // Keeps what a section has that is no chunk's body.
-#[tactic(auto, unfolding(crate::specs::Record::section_met))]
-pub(crate) fn plain_met(
+#[tactic(auto, unfolding(crate::specs::Record::add_section))]
+pub(crate) fn add_plain(
     alloc: Global,
     channels: &mut Channels,
     section: &SectionView<'_>,
@@ -175,7 +175,7 @@ pub(crate) fn plain_met(
     requires other { section.now.kind ≢ SectionKind.ChunkBody }
     requires short { IsShortSection section.now }
     ensures met { (messages : List MessageMet) → Leads result (met_with channels.new messages)
-        (section_met (seen_section section.now) (met_with channels.old messages)) }
+        (add_section (seen_section section.now) (met_with channels.old messages)) }
     ensures kept { OnOk result (Grows channels.old channels.new) }
     ensures not_store { IfErr result (λ e. e ≢ LoadError.Store) }
 {
@@ -195,8 +195,8 @@ pub(crate) fn plain_met(
 }
 
 // Keeps what a section has.
-#[tactic(auto, unfolding(crate::specs::Record::section_met), using(crate::proofs::Sound::sounds))]
-fn section_met(
+#[tactic(auto, unfolding(crate::specs::Record::add_section), using(crate::proofs::Sound::sounds))]
+fn add_section(
     alloc: Global,
     body: &Body<'_>,
     loading: &mut Loading,
@@ -208,23 +208,23 @@ fn section_met(
     requires short { IsShort body.now }
     requires few { length loading.old.messages.items + length section.now.body.now < 2 ^ 32 }
     ensures met { let bodies = with_body body.now in Leads result (met_of bodies loading.new)
-        (section_met (seen_section section.now) (met_of bodies loading.old)) }
+        (add_section (seen_section section.now) (met_of bodies loading.old)) }
     ensures still_sound { OnOk result (IsSound (length (with_body body.now)) loading.new) }
     ensures not_store { IfErr result (λ e. e ≢ LoadError.Store) }
 {
     match section.kind {
-        SectionKind::ChunkBody => body_met(alloc, body, loading, section),
-        _ => plain_met(alloc, &mut loading.channels, section),
+        SectionKind::ChunkBody => add_body(alloc, body, loading, section),
+        _ => add_plain(alloc, &mut loading.channels, section),
     }
 }
 
 // The channels and messages of the sections behind the header.
-fn sections_met(alloc: Global, file: &[u8]) -> Result<Loading, LoadError>
+fn add_sections(alloc: Global, file: &[u8]) -> Result<Loading, LoadError>
     requires long { header_end ≤ length file.now }
     requires short { length file.now < 2 ^ 32 }
     ensures met { let all = sections_from file.now header_end in
         AnswersOr LoadError.Memory (met_of (file.now ∷ [])) result
-        (sections_met all.sections all.fault nothing) }
+        (add_sections all.sections all.fault nothing) }
     ensures sound { IfOk result (IsSound 1) }
     ensures not_store { IfErr result (λ e. e ≢ LoadError.Store) }
 {
@@ -237,7 +237,7 @@ fn sections_met(alloc: Global, file: &[u8]) -> Result<Loading, LoadError>
     };
     let mut at = HEADER_SIZE;
     while let Some(section) = section_at(file, at)? {
-        section_met(alloc, &body, &mut loading, &section)?;
+        add_section(alloc, &body, &mut loading, &section)?;
         at = section.body_at + section.body.len();
     }
     Ok(loading)
@@ -252,6 +252,6 @@ pub(crate) fn parts_of(alloc: Global, file: &[u8]) -> Result<(Header, Loading), 
     ensures not_store { IfErr result (λ e. e ≢ LoadError.Store) }
 {
     let header = file_header(file)?;
-    let loading = sections_met(alloc, file)?;
+    let loading = add_sections(alloc, file)?;
     Ok((header, loading))
 }

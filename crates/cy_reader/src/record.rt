@@ -10,7 +10,7 @@ ghost use Rattle.cy_reader.specs.private.Front.{cut_record};
 ghost use Rattle.cy_reader.specs.Load.{FileAnswer, LoadAnswer};
 
 use crate::front::{Front, front_of};
-use crate::gathering::parts_met;
+use crate::gathering::add_parts;
 use crate::header::LONGEST_FILE;
 use crate::kept::Kept;
 use crate::loading::{Loading, parts_of};
@@ -111,7 +111,7 @@ fn record_of_cut<R: Threads + Sync>(
         end,
         ends_at: _,
     } = cut;
-    let (bodies, loading) = parts_met(rt, alloc, parts)?;
+    let (bodies, loading) = add_parts(rt, alloc, parts)?;
     let index = end?;
     push_index(&mut heads, index.as_ref())?;
     let name = Text::from_string(String::from_str(alloc, name)?);

@@ -7,8 +7,8 @@ ghost use Rattle.cy_run.specs.private.Sending.{Fills, FillsOn, Tells, TellsOn, I
 
 use crate::Idle;
 use cy_comp::Wiring;
-use cy_idle::bit_of;
 use cy_msg::Token;
+use cy_pace::bit_of;
 use cy_table::{FlagTable, Pass};
 use std::sync::Wait;
 

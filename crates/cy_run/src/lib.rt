@@ -58,7 +58,7 @@ mod run;
 mod serve;
 
 pub use crew::Worker;
-pub use cy_idle::{Idle, RunError};
+pub use cy_pace::{Idle, RunError};
 pub use driving::drive;
 pub use gate::{Gate, MeetGate, OpenGate, PairGate};
 pub use processor::work;

@@ -10,7 +10,7 @@ use crate::serve::serve;
 use crate::{Gate, Idle};
 use cy_comp::Wiring;
 use cy_ctx::{Context, take};
-use cy_idle::bit_of;
+use cy_pace::bit_of;
 use cy_table::{FlagTable, Hold, Pass};
 use std::sync::Wait;
 

@@ -23,7 +23,7 @@ use Rattle.cy_cut.specs.declared.cutting.CutFile.{CutFile}
 use Rattle.cy_cut.specs.declared.cutting.Part.{Part}
 use Rattle.cy_cut.specs.Sections.{WholeSection, Sections, no_section, with_section, header_end, longest_file}
 use Rattle.cy_cut.specs.Heads.{end_of}
-use Rattle.cy_reader.specs.Record.{◌>>=◌, Met, file_header, sections_met, nothing}
+use Rattle.cy_reader.specs.Record.{◌>>=◌, Met, file_header, add_sections, nothing}
 use Rattle.cy_salvage.specs.Salvage.{Salvage, SalvageAnswer, own_fault, until_fault, sound_sections, if_usable, dropped_at, salvage_in, salvage_of}
 use Rattle.cy_cut.specs.Cutting.{IsCut, CutAnswer, Follow, is_kept, seen_part, fault_in}
 use Rattle.cy_salvage.specs.private.Salvaging.{IsJudged, AreJudged, AreSound, SizeAnswer, place_before, salvage_kept, cut_salvage}
@@ -156,14 +156,14 @@ kept_salvage size end parts ss fault kept follow last =
     let same : others ≡ until_fault (filter is_kept ss) fault = ap (λ (l : List WholeSection). until_fault l fault) kept in
     let sections : others.sections ≡ filter is_kept all.sections = ap (λ (s : Sections). s.sections) same ∙ u.kept in
     let faults : others.fault ≡ all.fault = ap (λ (s : Sections). s.fault) same ∙ u.same_fault in
-    let met : sections_met all.sections None nothing ≡ sections_met others.sections None nothing = sym (ap (λ (l : List WholeSection). sections_met l None nothing) sections ∙ kept_met all.sections None nothing) in
+    let met : add_sections all.sections None nothing ≡ add_sections others.sections None nothing = sym (ap (λ (l : List WholeSection). add_sections l None nothing) sections ∙ kept_met all.sections None nothing) in
     let place : end_of header_end all.sections ≡ place_before end (slice_get parts (length others.sections)) =
     u.place ∙ ap (λ (n : ℕ). place_in n (slice_get (filter is_kept ss) (length (until_fault (filter is_kept ss) fault).sections))) (sym last)
     ∙ ap (λ (s : Sections). place_in end (slice_get (filter is_kept ss) (length s.sections))) (sym same)
     ∙ ap (λ (l : List WholeSection). place_in end (slice_get l (length others.sections))) (sym kept) ∙ sym (place_seen end parts (length others.sections)) in
     let dropped : dropped_at size (end_of header_end all.sections) all.fault ≡ dropped_at size (place_before end (slice_get parts (length others.sections))) others.fault =
     ap (λ (n : ℕ). dropped_at size n all.fault) place ∙ ap (dropped_at size (place_before end (slice_get parts (length others.sections)))) (sym faults) in
-    same_salvage (sections_met all.sections None nothing) (sections_met others.sections None nothing) _ _ met dropped
+    same_salvage (add_sections all.sections None nothing) (add_sections others.sections None nothing) _ _ met dropped
 
 pub salvage_is : (file : List ℕ) (size : ℕ) (c : CutFile) → size ≡ length file → if_usable (file_header file) ≡ Ok tt → IsCut file [] c → salvage_of file ≡ cut_salvage size c
 unfolding salvage_of sound_sections cut_salvage
@@ -288,17 +288,17 @@ sound_all parts i n fault end is so_far =
 -- ---- what they come to
 
 pub sound_salvage : (size : ℕ) (c : CutFile) (count : ℕ) (kept : List Part) (a : AreSound c.parts.items count (fault_in c.end)) → kept ≡ take count c.parts.items
-    → cut_salvage size c ≡ sections_met (map seen_part kept) None nothing >>= λ met. Ok (record { met = met; dropped = dropped_at size (place_before c.ends_at (slice_get c.parts.items count)) a.end })
+    → cut_salvage size c ≡ add_sections (map seen_part kept) None nothing >>= λ met. Ok (record { met = met; dropped = dropped_at size (place_before c.ends_at (slice_get c.parts.items count)) a.end })
 unfolding cut_salvage
 sound_salvage size c count kept a is =
     let these : List Part → Sections = λ ps. record { sections = map seen_part ps; fault = a.end } in
     let within = a.within in
     let many : length (map seen_part kept) ≡ count = length-map kept seen_part ∙ ap length is ∙ length-take-le count c.parts.items within in
     ap (salvage_kept size c.ends_at c.parts.items) (a.sound ∙ ap these (sym is))
-    ∙ ap (λ (n : ℕ). sections_met (map seen_part kept) None nothing >>= λ met. Ok (let s : Salvage = record { met = met; dropped = dropped_at size (place_before c.ends_at (slice_get c.parts.items n)) a.end } in s)) many
+    ∙ ap (λ (n : ℕ). add_sections (map seen_part kept) None nothing >>= λ met. Ok (let s : Salvage = record { met = met; dropped = dropped_at size (place_before c.ends_at (slice_get c.parts.items n)) a.end } in s)) many
 
 pub salvage_wrong : (size : ℕ) (c : CutFile) (count : ℕ) (kept : List Part) (a : AreSound c.parts.items count (fault_in c.end)) (e : LoadError) → kept ≡ take count c.parts.items
-    → sections_met (map seen_part kept) None nothing ≡ Err e → cut_salvage size c ≡ Err e
+    → add_sections (map seen_part kept) None nothing ≡ Err e → cut_salvage size c ≡ Err e
 salvage_wrong size c count kept a e is wrong =
     sound_salvage size c count kept a is
     ∙ ap (λ (r : Result Met LoadError). r >>= λ met. Ok (record { met = met; dropped = dropped_at size (place_before c.ends_at (slice_get c.parts.items count)) a.end })) wrong
@@ -326,7 +326,7 @@ dropped_is size end count n are_all last fault is within all some = elim (cases_
     ended (Some x) = refl
 
 pub salvage_met : (size : ℕ) (c : CutFile) (count place dropped : ℕ) (are_all : Bool) (kept : List Part) (a : AreSound c.parts.items count (fault_in c.end)) (met : Met) → kept ≡ take count c.parts.items
-    → sections_met (map seen_part kept) None nothing ≡ Ok met → are_all ≡ ((count == length c.parts.items) && is_none (fault_in c.end)) → place ≡ place_before c.ends_at (slice_get c.parts.items count)
+    → add_sections (map seen_part kept) None nothing ≡ Ok met → are_all ≡ ((count == length c.parts.items) && is_none (fault_in c.end)) → place ≡ place_before c.ends_at (slice_get c.parts.items count)
     → dropped ≡ cond are_all 0 (size - place) → cut_salvage size c ≡ Ok (record { met = met; dropped = dropped })
 salvage_met size c count place dropped are_all kept a met is so all there told =
     let end = place_before c.ends_at (slice_get c.parts.items count) in

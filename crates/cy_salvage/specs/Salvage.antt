@@ -17,7 +17,7 @@ use Rattle.cy_cut.specs.Sections.{WholeSection, Sections, no_section, with_secti
 use Rattle.cy_cut.specs.Sections.{header_end}
 use Rattle.cy_cut.specs.Cutting.{fault_by}
 use Rattle.cy_cut.specs.Heads.{end_of}
-use Rattle.cy_reader.specs.Record.{◌>>=◌, Met, nothing, file_header, sections_met}
+use Rattle.cy_reader.specs.Record.{◌>>=◌, Met, nothing, file_header, add_sections}
 use Rattle.cy_reader.specs.Said.{StandOnChannels}
 
 abbrev pub fault_under : SectionKind → ℕ → List ℕ → Option SectionError
@@ -71,7 +71,7 @@ pub record Salvage : Type 0 where
   pub dropped : ℕ
 
 abbrev pub salvage_in : ℕ → Sections → Result Salvage LoadError
-salvage_in size sound = sections_met sound.sections None nothing >>= λ met.
+salvage_in size sound = add_sections sound.sections None nothing >>= λ met.
     Ok (record { met = met; dropped = dropped_behind size sound })
 
 unfoldable pub salvage_of : List ℕ → Result Salvage LoadError

@@ -1,9 +1,9 @@
 //! The program `cyber`: it plays recorded messages through components.
 #![tactic(auto)]
 
+use cy_args::machine_words;
 use cy_run::OpenGate;
 use cy_store::{RealSink, RealStore};
-use cy_words::machine_words;
 use cyber_cli::{Status, cyber};
 use std::process::ExitCode;
 

@@ -7,10 +7,10 @@ use Rattle.cy_store.specs.Store.{StoreView, Rose}
 use Rattle.cy_commands.specs.declared.status.Status.{Status}
 use Rattle.cy_commands.specs.declared.status.Status.TheVariants.{Done, Refused, Usage, StoreFault, SinkFault, Limit, Memory}
 use Rattle.cy_store.specs.Reads.{Reads, Accepts, Refuses, Absent}
-use Rattle.cy_replay.specs.declared.error.Refusal.{Refusal}
+use Rattle.cy_setup.specs.declared.error.Refusal.{Refusal}
 use Rattle.cy_commands.specs.Status.{status_of}
-use Rattle.cy_words.specs.Command.{Check, Command, Info, Make, Merge, Play, Recover, Split, Verify}
-use Rattle.cy_words.specs.PlayWords.{PlayWords}
+use Rattle.cy_args.specs.Command.{Check, Command, Info, Make, Merge, Play, Recover, Split, Verify}
+use Rattle.cy_args.specs.PlayWords.{PlayWords}
 use Rattle.cy_commands.specs.Work.{Work}
 use Rattle.cy_commands.specs.Commands.{IsAbsent, IsAccepted, IsRefused, IsTaken, Judging, Making, Outcome, Reading, outcome_of}
 use Rattle.cy_commands.specs.Commands.VerifyWork.{IsReadToVerify, IsVerified, VerdictsAreOne}

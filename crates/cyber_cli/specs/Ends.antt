@@ -2,7 +2,7 @@
 use Rattle.std.specs.Prelude.{ℕ, ◌≡◌, ◌⊎◌, List, Option, Some}
 use Rattle.cy_store.specs.Files.{Files}
 use Rattle.cy_store.specs.Store.{StoreView, Rose}
-use Rattle.cy_words.specs.Command.{Command}
+use Rattle.cy_args.specs.Command.{Command}
 use Rattle.cy_commands.specs.declared.status.Status.{Status}
 use Rattle.cy_commands.specs.declared.status.Status.TheVariants.{Done, Refused, StoreFault, Limit}
 use Rattle.cy_commands.specs.declared.status.Status.TheVariants.{Memory}

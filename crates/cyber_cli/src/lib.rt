@@ -2,7 +2,7 @@
 //! components.
 //!
 //! `specs/Ends` says what they answer, `specs/Told` how it is told. What is due for each command
-//! says `cy_commands`, which words ask for which command `cy_words`.
+//! says `cy_commands`, which words ask for which command `cy_args`.
 #![tactic(auto)]
 
 mod program;

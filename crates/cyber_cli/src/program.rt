@@ -2,20 +2,20 @@
 ghost use Rattle.std.specs.Prelude.{ℕ, ◌≡◌, List, Option};
 ghost use Rattle.cy_commands.specs.Due.{IsDue};
 ghost use Rattle.cy_commands.specs.Line.{bytes_of_line};
-ghost use Rattle.cy_words.specs.Asking.{IsReadAs};
-ghost use Rattle.cy_words.specs.Command as asked;
-ghost use Rattle.cy_words.specs.Command.{Asks, AsksStill, IsAsked};
+ghost use Rattle.cy_args.specs.Asking.{IsReadAs};
+ghost use Rattle.cy_args.specs.Command as asked;
+ghost use Rattle.cy_args.specs.Command.{Asks, AsksStill, IsAsked};
 ghost use Rattle.cyber_cli.specs.Ends.{Answers, IsComplete};
 
 use crate::telling::tell;
 use crate::threads::due_played_with_threads;
+use cy_args::{CommandWords, WordsError};
 use cy_commands::{
     Begun, Due, Status, begin, commands_leave_their_files, due_of, verdicts_are_one,
 };
 use cy_msg::Text;
 use cy_run::Gate;
 use cy_store::{Sink, Store};
-use cy_words::{CommandWords, WordsError};
 use std::alloc::Global;
 use std::sync::Wait;
 use std::thread::Threads;

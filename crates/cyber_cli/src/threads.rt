@@ -2,20 +2,20 @@
 ghost use Rattle.std.specs.Prelude.{◌≡◌, false, Ok, IfOk};
 ghost use Rattle.cy_store.specs.Store.{StoreView};
 ghost use Rattle.wake_core.specs.WorldOf.{plain_of};
-ghost use Rattle.cy_replay.specs.Setup.{IsSetUp};
-ghost use Rattle.cy_words.specs.Command as command;
+ghost use Rattle.cy_setup.specs.Setup.{IsSetUp};
+ghost use Rattle.cy_args.specs.Command as command;
 ghost use Rattle.cy_commands.specs.Due.{IsDueFor};
 ghost use Rattle.cy_commands.specs.Line.{bytes_of_line};
 ghost use Rattle.cy_commands.specs.PlayEnds.{HasRun, SetsUp};
-ghost use Rattle.cy_words.specs.PlayViews.{play_words_of};
+ghost use Rattle.cy_args.specs.PlayViews.{play_words_of};
 
+use cy_args::Play;
 use cy_commands::{Due, due_played, opening, played_world};
 use cy_recording::played_places_are_there;
-use cy_replay::Replay;
 use cy_run::{Gate, run_threads};
+use cy_setup::Replay;
 use cy_store::Store;
 use cy_trace_text::trace_is_read_back;
-use cy_words::Play;
 use std::alloc::{AllocError, Global};
 use std::sync::Wait;
 use std::thread::Threads;

@@ -101,7 +101,7 @@ abbrev pub call_at : List Route → Route → ℕ → Option ℕ → Run → Run
 call_at routes x c None w = w
 call_at routes x c (Some position) w =
     with_call routes x c position
-        (slice_get (fused (w.arrivals c) (length x.readers)) (position - 1)) w
+    (slice_get (fused (w.arrivals c) (length x.readers)) (position - 1)) w
 
 -- A component ends.
 abbrev pub end_of : ℕ → Run → Run

@@ -7,10 +7,10 @@ use Rattle.cy_sched.specs.Placing.{IsPlaced}
 use Rattle.cy_sched.specs.declared.sched.Sched.{Sched}
 use Rattle.cy_sched.specs.declared.sched.Sched.TheVariants.{Classic, Choreography}
 use Rattle.cy_report.specs.CheckText.{text_of}
-use Rattle.cy_replay.specs.declared.error.Refusal.{Refusal}
-use Rattle.cy_replay.specs.Configuration.{Configured, configuration_in}
-use Rattle.cy_replay.specs.Wiring.{wiring_in}
-use Rattle.cy_words.specs.CheckWords.{CheckWords}
+use Rattle.cy_setup.specs.declared.error.Refusal.{Refusal}
+use Rattle.cy_setup.specs.Configuration.{Configured, configuration_in}
+use Rattle.cy_setup.specs.Wiring.{wiring_in}
+use Rattle.cy_args.specs.CheckWords.{CheckWords}
 use Rattle.cy_commands.specs.Work.{Work}
 
 -- The files are read, and their components wired over no channels of a record.

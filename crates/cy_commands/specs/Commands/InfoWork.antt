@@ -4,9 +4,9 @@ use Rattle.cy_store.specs.Files.{Files}
 use Rattle.cy_store.specs.Reads.{Reads}
 use Rattle.cy_reader.specs.Record.{Contents}
 use Rattle.cy_info.specs.Info.{info_text}
-use Rattle.cy_replay.specs.declared.error.Refusal.{Refusal}
-use Rattle.cy_replay.specs.Listing.{record_in}
-use Rattle.cy_words.specs.Command.{InfoWords}
+use Rattle.cy_setup.specs.declared.error.Refusal.{Refusal}
+use Rattle.cy_setup.specs.Listing.{record_in}
+use Rattle.cy_args.specs.Command.{InfoWords}
 use Rattle.cy_commands.specs.Work.{Work}
 
 -- The record is read.

@@ -9,12 +9,12 @@ use Rattle.cy_make.specs.declared.config.Config.TheVariants.{Dag}
 use Rattle.cy_make.specs.Messages.{channels_of, messages_to}
 use Rattle.cy_make.specs.Texts.{suffix_of, text_of}
 use Rattle.cy_make.specs.Inputs.{all_configs, record_name, made_record, input_writes, with_inputs}
-use Rattle.cy_replay.specs.declared.text.TheConstants.{LONGEST_CONFIG}
+use Rattle.cy_setup.specs.declared.text.TheConstants.{LONGEST_CONFIG}
 use Rattle.cy_msg.specs.Request.{OfFiles}
 use Rattle.cy_commands.specs.Work.{IsMadeOf, Work}
-use Rattle.cy_words.specs.Command.{Asks, Make}
-use Rattle.cy_words.specs.MakeWords.{MakeWords}
-use Rattle.cy_words.specs.PlayWords.{PlayWords, play_of_all}
+use Rattle.cy_args.specs.Command.{Asks, Make}
+use Rattle.cy_args.specs.MakeWords.{MakeWords}
+use Rattle.cy_args.specs.PlayWords.{PlayWords, play_of_all}
 use Rattle.cy_commands.specs.Commands.PlayWork.{IsPlayWork, replayed_in}
 
 -- A serial play of all messages of the record that is made, through the components that are made,

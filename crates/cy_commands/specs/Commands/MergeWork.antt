@@ -5,10 +5,10 @@ use Rattle.cy_store.specs.Reads.{Reads, ◌>>=◌}
 use Rattle.cy_salvage.specs.Joined.{Gathered}
 use Rattle.cy_reader.specs.United.{IsInTime}
 use Rattle.cy_reader.specs.Record.{Message, Met}
-use Rattle.cy_replay.specs.Apart.{apart_from, standard_output}
-use Rattle.cy_replay.specs.Merging.{merged_in}
-use Rattle.cy_replay.specs.declared.error.Refusal.{Refusal}
-use Rattle.cy_words.specs.MergeWords.{MergeWords}
+use Rattle.cy_setup.specs.Apart.{apart_from, standard_output}
+use Rattle.cy_setup.specs.Merging.{merged_in}
+use Rattle.cy_setup.specs.declared.error.Refusal.{Refusal}
+use Rattle.cy_args.specs.MergeWords.{MergeWords}
 use Rattle.cy_commands.specs.Commands.RecoverWork.{WritesKept}
 use Rattle.cy_commands.specs.Lines.{messages_line}
 use Rattle.cy_commands.specs.Work.{Work}

@@ -22,17 +22,17 @@ use Rattle.wake_core.specs.Run.{Run, routes_of}
 use Rattle.wake_core.specs.declared.route.Route.{Route}
 use Rattle.wake_core.specs.Serial.{SerialRun}
 use Rattle.wake_core.specs.Way.{IsLedTo}
-use Rattle.cy_replay.specs.Apart.{apart_from, files_read, standard_output}
-use Rattle.cy_replay.specs.Configuration.{Configured}
-use Rattle.cy_replay.specs.declared.error.Refusal.{Refusal}
-use Rattle.cy_replay.specs.Listing.{IsListed}
+use Rattle.cy_setup.specs.Apart.{apart_from, files_read, standard_output}
+use Rattle.cy_setup.specs.Configuration.{Configured}
+use Rattle.cy_setup.specs.declared.error.Refusal.{Refusal}
+use Rattle.cy_setup.specs.Listing.{IsListed}
 use Rattle.cy_writer.specs.RecordWrites.{file_writes, record_puts}
 use Rattle.cy_writer.specs.Writes.{placed}
 use Rattle.cy_recording.specs.Recording.{Source, channels_of_tape, messages_of_tape, chunks_of_tape}
-use Rattle.cy_replay.specs.Setup.{Replayed, replay_in}
-use Rattle.cy_replay.specs.Stops.{stop_of}
+use Rattle.cy_setup.specs.Setup.{Replayed, replay_in}
+use Rattle.cy_setup.specs.Stops.{stop_of}
 use Rattle.cy_commands.specs.Work.{Work}
-use Rattle.cy_words.specs.PlayWords.{PlayWords}
+use Rattle.cy_args.specs.PlayWords.{PlayWords}
 use Rattle.cy_trace.specs.CallCount.{calls_from}
 use Rattle.cy_report.specs.Summary.{summary_line}
 

@@ -8,11 +8,11 @@ use Rattle.cy_section.specs.RecordText.{record_bytes}
 use Rattle.cy_reader.specs.Record.{Message, Met}
 use Rattle.cy_salvage.specs.Salvage.{Salvage, salvage_of}
 use Rattle.cy_reader.specs.declared.error.LoadError.{LoadError}
-use Rattle.cy_replay.specs.Apart.{apart_from, standard_output}
-use Rattle.cy_replay.specs.declared.error.Fault.TheVariants as fault
-use Rattle.cy_replay.specs.declared.error.Refusal.{Refusal}
+use Rattle.cy_setup.specs.Apart.{apart_from, standard_output}
+use Rattle.cy_setup.specs.declared.error.Fault.TheVariants as fault
+use Rattle.cy_setup.specs.declared.error.Refusal.{Refusal}
 use Rattle.cy_tools.specs.Kept.{IsKeptText, channels_with, chunks_with, kept_writes}
-use Rattle.cy_words.specs.RecoverWords.{RecoverWords}
+use Rattle.cy_args.specs.RecoverWords.{RecoverWords}
 use Rattle.cy_commands.specs.Lines.{messages_line}
 use Rattle.cy_commands.specs.Work.{Work}
 

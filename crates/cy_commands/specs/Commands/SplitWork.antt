@@ -3,11 +3,11 @@ use Rattle.std.specs.Prelude.{◌≡◌, length, codes}
 use Rattle.cy_store.specs.Files.{Files}
 use Rattle.cy_store.specs.Reads.{Reads, ◌>>=◌}
 use Rattle.cy_reader.specs.Record.{Contents}
-use Rattle.cy_replay.specs.declared.error.Refusal.{Refusal}
-use Rattle.cy_replay.specs.Listing.{record_in}
+use Rattle.cy_setup.specs.declared.error.Refusal.{Refusal}
+use Rattle.cy_setup.specs.Listing.{record_in}
 use Rattle.cy_tools.specs.Kept.{passing}
 use Rattle.cy_tools.specs.Tools.{met_in}
-use Rattle.cy_words.specs.SplitWords.{SplitWords}
+use Rattle.cy_args.specs.SplitWords.{SplitWords}
 use Rattle.cy_commands.specs.Commands.RecoverWork.{WritesKept, kept_apart}
 use Rattle.cy_commands.specs.Lines.{messages_line}
 use Rattle.cy_commands.specs.Work.{Work}

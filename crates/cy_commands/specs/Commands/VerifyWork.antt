@@ -16,14 +16,14 @@ use Rattle.cy_report.specs.Summary.{lawful_line}
 use Rattle.cy_trace.specs.TraceForm.{IsFirstBad, IsTrace, IsTraceText}
 use Rattle.cy_trace.specs.TraceOfRun.{trace_of_run}
 use Rattle.cy_recording.specs.Compare.{first_difference}
-use Rattle.cy_replay.specs.declared.error.Fault.TheVariants as fault
-use Rattle.cy_replay.specs.declared.error.Refusal.{Refusal}
-use Rattle.cy_replay.specs.Listing.{IsListed, counts_of}
-use Rattle.cy_replay.specs.Setup as setup
-use Rattle.cy_replay.specs.Setup.{Replayed}
-use Rattle.cy_replay.specs.Stops.{stop_of}
-use Rattle.cy_replay.specs.TraceFile.{trace_in}
-use Rattle.cy_words.specs.PlayWords.{PlayWords}
+use Rattle.cy_setup.specs.declared.error.Fault.TheVariants as fault
+use Rattle.cy_setup.specs.declared.error.Refusal.{Refusal}
+use Rattle.cy_setup.specs.Listing.{IsListed, counts_of}
+use Rattle.cy_setup.specs.Setup as setup
+use Rattle.cy_setup.specs.Setup.{Replayed}
+use Rattle.cy_setup.specs.Stops.{stop_of}
+use Rattle.cy_setup.specs.TraceFile.{trace_in}
+use Rattle.cy_args.specs.PlayWords.{PlayWords}
 use Rattle.cy_commands.specs.Commands.PlayWork.{replayed_in, run_trace, source_in, tape_record}
 use Rattle.cy_commands.specs.Status.{status_of}
 use Rattle.cy_commands.specs.Work.{Work}

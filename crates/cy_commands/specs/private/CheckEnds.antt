@@ -2,8 +2,8 @@
 use Rattle.std.specs.Prelude.{ℕ, ◌≡◌, List, map}
 use Rattle.cy_msg.specs.declared.placement.ContextPlan.{ContextPlan}
 use Rattle.cy_sched.specs.Placing.{IsPlaced}
-use Rattle.cy_replay.specs.Configuration.{Configured}
-use Rattle.cy_words.specs.CheckWords.{CheckWords}
+use Rattle.cy_setup.specs.Configuration.{Configured}
+use Rattle.cy_args.specs.CheckWords.{CheckWords}
 use Rattle.cy_commands.specs.Commands.CheckWork.{check_text_of}
 
 -- The text of what was read, with its components placed.

@@ -6,12 +6,12 @@ use Rattle.cy_tools.specs.declared.error.File.{File}
 use Rattle.cy_tools.specs.declared.error.File.TheVariants.{Input, Output}
 use Rattle.cy_tools.specs.declared.error.ToolError.{ToolError}
 use Rattle.cy_tools.specs.declared.error.ToolError.TheVariants as tool
-use Rattle.cy_replay.specs.FaultText.{refusal_line}
-use Rattle.cy_replay.specs.declared.error.Fault.TheVariants as fault
-use Rattle.cy_replay.specs.declared.error.Refusal.{Refusal}
-use Rattle.cy_replay.specs.declared.error.SetupError.{SetupError}
-use Rattle.cy_replay.specs.declared.error.SetupError.TheVariants as setup
-use Rattle.cy_replay.specs.declared.error.SetupError.TheVariants.{Refused}
+use Rattle.cy_setup.specs.FaultText.{refusal_line}
+use Rattle.cy_setup.specs.declared.error.Fault.TheVariants as fault
+use Rattle.cy_setup.specs.declared.error.Refusal.{Refusal}
+use Rattle.cy_setup.specs.declared.error.SetupError.{SetupError}
+use Rattle.cy_setup.specs.declared.error.SetupError.TheVariants as setup
+use Rattle.cy_setup.specs.declared.error.SetupError.TheVariants.{Refused}
 use Rattle.cy_commands.specs.Commands.RecoverWork.{kept_apart}
 use Rattle.cy_commands.specs.declared.status.Status.{Status}
 use Rattle.cy_commands.specs.declared.status.Status.TheVariants.{Done, StoreFault}

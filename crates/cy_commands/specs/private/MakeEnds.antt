@@ -4,14 +4,14 @@ use Rattle.std.specs.List.{Contains}
 use Rattle.cy_store.specs.Files.{Files}
 use Rattle.cy_store.specs.Reads.{Accepts}
 use Rattle.cy_store.specs.Store.{StoreView}
-use Rattle.cy_replay.specs.Apart.{IsOneOf, standard_output}
-use Rattle.cy_replay.specs.declared.error.Refusal.{Refusal}
-use Rattle.cy_replay.specs.declared.error.SetupError.{SetupError}
-use Rattle.cy_replay.specs.declared.error.SetupError.TheVariants as setup_error
-use Rattle.cy_replay.specs.declared.error.SetupError.TheVariants.{Refused}
-use Rattle.cy_replay.specs.declared.setup.Replay.{Replay}
+use Rattle.cy_setup.specs.Apart.{IsOneOf, standard_output}
+use Rattle.cy_setup.specs.declared.error.Refusal.{Refusal}
+use Rattle.cy_setup.specs.declared.error.SetupError.{SetupError}
+use Rattle.cy_setup.specs.declared.error.SetupError.TheVariants as setup_error
+use Rattle.cy_setup.specs.declared.error.SetupError.TheVariants.{Refused}
+use Rattle.cy_setup.specs.declared.setup.Replay.{Replay}
 use Rattle.cy_msg.specs.Request.{OfFiles}
-use Rattle.cy_replay.specs.Setup.{IsSetUp, replayed}
+use Rattle.cy_setup.specs.Setup.{IsSetUp, replayed}
 use Rattle.cy_make.specs.declared.config.Config.TheVariants.{Dag}
 use Rattle.cy_make.specs.declared.error.MakeError.{MakeError}
 use Rattle.cy_make.specs.declared.error.MakeError.TheVariants as make_error
@@ -25,9 +25,9 @@ use Rattle.cy_commands.specs.declared.failure.File.TheVariants as file
 use Rattle.cy_commands.specs.declared.status.Status.{Status}
 use Rattle.cy_commands.specs.declared.status.Status.TheVariants.{StoreFault, Memory}
 use Rattle.cy_commands.specs.Lines.{store_line, memory_line}
-use Rattle.cy_words.specs.MakeWords.{MakeWords}
+use Rattle.cy_args.specs.MakeWords.{MakeWords}
 use Rattle.cy_commands.specs.Commands.MakeWork.{play_made, made_files}
-use Rattle.cy_words.specs.PlayWords.{PlayWords, play_of_all}
+use Rattle.cy_args.specs.PlayWords.{PlayWords, play_of_all}
 use Rattle.cy_commands.specs.Commands.PlayWork.{replayed_in}
 
 -- A replay is that of the files that are made.

@@ -7,13 +7,13 @@ use Rattle.cy_store.specs.Store.{StoreView}
 use Rattle.cy_salvage.specs.Joined.{Gathered}
 use Rattle.cy_writer.specs.declared.error.WriteError.{WriteError}
 use Rattle.cy_writer.specs.declared.error.WriteError.TheVariants as write_error
-use Rattle.cy_replay.specs.Comes.{ComesTo}
-use Rattle.cy_replay.specs.Merging.{merged_in}
-use Rattle.cy_replay.specs.declared.error.Refusal.{Refusal}
-use Rattle.cy_replay.specs.declared.error.SetupError.{SetupError}
-use Rattle.cy_replay.specs.declared.error.SetupError.TheVariants as setup
-use Rattle.cy_replay.specs.declared.error.SetupError.TheVariants.{Refused}
-use Rattle.cy_words.specs.MergeWords.{MergeWords}
+use Rattle.cy_setup.specs.Comes.{ComesTo}
+use Rattle.cy_setup.specs.Merging.{merged_in}
+use Rattle.cy_setup.specs.declared.error.Refusal.{Refusal}
+use Rattle.cy_setup.specs.declared.error.SetupError.{SetupError}
+use Rattle.cy_setup.specs.declared.error.SetupError.TheVariants as setup
+use Rattle.cy_setup.specs.declared.error.SetupError.TheVariants.{Refused}
+use Rattle.cy_args.specs.MergeWords.{MergeWords}
 use Rattle.cy_commands.specs.Commands.MergeWork.{merged_apart}
 use Rattle.cy_commands.specs.Lines.{store_line}
 use Rattle.cy_commands.specs.declared.status.Status.{Status}

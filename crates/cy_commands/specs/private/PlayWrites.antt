@@ -11,11 +11,11 @@ use Rattle.cy_writer.specs.RecordWrites.{file_writes}
 use Rattle.cy_writer.specs.Writes.{placed, puts_into, Makes, StopsAt, StopsBefore}
 use Rattle.wake_core.specs.Plain.{Plain}
 use Rattle.wake_core.specs.Rest.{run_shown}
-use Rattle.cy_replay.specs.Comes.{ComesTo}
-use Rattle.cy_replay.specs.Setup.{replayed, IsAsked}
-use Rattle.cy_replay.specs.declared.error.SetupError.{SetupError}
-use Rattle.cy_replay.specs.declared.setup.Replay.{Replay}
-use Rattle.cy_words.specs.PlayWords.{PlayWords}
+use Rattle.cy_setup.specs.Comes.{ComesTo}
+use Rattle.cy_setup.specs.Setup.{replayed, IsAsked}
+use Rattle.cy_setup.specs.declared.error.SetupError.{SetupError}
+use Rattle.cy_setup.specs.declared.setup.Replay.{Replay}
+use Rattle.cy_args.specs.PlayWords.{PlayWords}
 use Rattle.cy_commands.specs.declared.failure.Failure.{Failure}
 use Rattle.cy_commands.specs.declared.failure.Failure.TheVariants as failure
 use Rattle.cy_commands.specs.declared.failure.File.{File}

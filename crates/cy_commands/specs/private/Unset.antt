@@ -1,8 +1,8 @@
 -- What is due where a command's files are not accepted.
 use Rattle.std.specs.Prelude.{ℕ, ◌≡◌, ◌⊎◌, List}
-use Rattle.cy_replay.specs.declared.error.SetupError.{SetupError}
-use Rattle.cy_replay.specs.declared.error.SetupError.TheVariants as setup
-use Rattle.cy_replay.specs.FaultText.{refusal_line}
+use Rattle.cy_setup.specs.declared.error.SetupError.{SetupError}
+use Rattle.cy_setup.specs.declared.error.SetupError.TheVariants as setup
+use Rattle.cy_setup.specs.FaultText.{refusal_line}
 use Rattle.cy_commands.specs.declared.status.Status.{Status}
 use Rattle.cy_commands.specs.declared.status.Status.TheVariants.{StoreFault, Memory}
 use Rattle.cy_commands.specs.Lines.{store_line, memory_line}

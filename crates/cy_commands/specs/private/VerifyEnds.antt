@@ -11,13 +11,13 @@ use Rattle.cy_trace.specs.TraceForm.{IsTrace, text_of_trace}
 use Rattle.cy_trace.specs.declared.trace.Trace.{Trace}
 use Rattle.cy_verify.specs.Verdict as verdict
 use Rattle.cy_verify.specs.declared.verdict.Told.{Told}
-use Rattle.cy_replay.specs.declared.error.Fault.TheVariants as fault
-use Rattle.cy_replay.specs.declared.error.Refusal.{Refusal}
-use Rattle.cy_replay.specs.declared.error.SetupError.{SetupError}
-use Rattle.cy_replay.specs.declared.error.SetupError.TheVariants.{Refused, Store}
-use Rattle.cy_replay.specs.declared.setup.Replay.{Replay}
-use Rattle.cy_replay.specs.Setup.{replayed}
-use Rattle.cy_words.specs.PlayWords.{PlayWords}
+use Rattle.cy_setup.specs.declared.error.Fault.TheVariants as fault
+use Rattle.cy_setup.specs.declared.error.Refusal.{Refusal}
+use Rattle.cy_setup.specs.declared.error.SetupError.{SetupError}
+use Rattle.cy_setup.specs.declared.error.SetupError.TheVariants.{Refused, Store}
+use Rattle.cy_setup.specs.declared.setup.Replay.{Replay}
+use Rattle.cy_setup.specs.Setup.{replayed}
+use Rattle.cy_args.specs.PlayWords.{PlayWords}
 use Rattle.cy_commands.specs.Commands.VerifyWork.{IsRead, IsTold, IsVerified, Judged}
 use Rattle.cy_commands.specs.Commands.PlayWork.{source_in, tape_record}
 use Rattle.cy_commands.specs.Work.{Work}

@@ -1,26 +1,26 @@
 // The command `check`.
 ghost use Rattle.std.specs.Prelude.{◌≡◌, IfOk, IsOkUnless};
 ghost use Rattle.cy_sched.specs.SchedFile.{IsPlaceable};
-ghost use Rattle.cy_replay.specs.Comes.{ComesTo};
-ghost use Rattle.cy_replay.specs.Configuration.{IsAsked};
-ghost use Rattle.cy_replay.specs.Steps.{configured};
+ghost use Rattle.cy_setup.specs.Comes.{ComesTo};
+ghost use Rattle.cy_setup.specs.Configuration.{IsAsked};
+ghost use Rattle.cy_setup.specs.Steps.{configured};
 ghost use Rattle.cy_commands.specs.Commands.CheckWork.{checked_in, unknown_in};
-ghost use Rattle.cy_words.specs.Command as command;
+ghost use Rattle.cy_args.specs.Command as command;
 ghost use Rattle.cy_commands.specs.Due.{IsDueFor};
 ghost use Rattle.cy_commands.specs.Line.{bytes_of_line};
 ghost use Rattle.cy_commands.specs.private.CheckEnds.{IsTextOf};
-ghost use Rattle.cy_words.specs.Views.{check_words_of};
+ghost use Rattle.cy_args.specs.Views.{check_words_of};
 
 use crate::due::{Due, out_of_memory};
 use crate::line::Line;
 use crate::status::Status;
-use crate::unset::due_unset;
+use crate::unset::due_after_failed_setup;
+use cy_args::Check;
 use cy_msg::{Bytes, Text};
-use cy_replay::{Configuration, SetupError, place_components, read_configuration, wire_components};
 use cy_report::{SchedulerFile, check_text};
 use cy_sched::Sched;
+use cy_setup::{Configuration, SetupError, place_components, read_configuration, wire_components};
 use cy_store::Store;
-use cy_words::Check;
 use std::alloc::Global;
 use std::thread::Threads;
 
@@ -98,7 +98,7 @@ pub fn run_check<'a, S: Store, R: Threads + Sync>(
 {
     let configuration = match read_files(rt, alloc, store, check) {
         Ok(configuration) => configuration,
-        Err(error) => return due_unset(alloc, error),
+        Err(error) => return due_after_failed_setup(alloc, error),
     };
     let text = text_of(alloc, check, &configuration);
     drop(configuration);

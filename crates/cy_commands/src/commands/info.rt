@@ -1,18 +1,18 @@
 // The command `info`.
 ghost use Rattle.std.specs.Prelude.{◌≡◌};
-ghost use Rattle.cy_words.specs.Command as command;
+ghost use Rattle.cy_args.specs.Command as command;
 ghost use Rattle.cy_commands.specs.Due.{IsDueFor};
 ghost use Rattle.cy_commands.specs.Line.{bytes_of_line};
-ghost use Rattle.cy_words.specs.Views.{info_words_of};
+ghost use Rattle.cy_args.specs.Views.{info_words_of};
 
 use crate::due::{Due, out_of_memory};
 use crate::line::Line;
 use crate::status::Status;
-use crate::unset::due_unset;
+use crate::unset::due_after_failed_setup;
+use cy_args::Info;
 use cy_info::info_text;
-use cy_replay::read_record;
+use cy_setup::read_record;
 use cy_store::Store;
-use cy_words::Info;
 use std::alloc::Global;
 use std::thread::Threads;
 
@@ -29,7 +29,7 @@ pub fn run_info<'a, S: Store, R: Threads + Sync>(
 {
     let record = match read_record(rt, alloc, store, info.file) {
         Ok(record) => record,
-        Err(error) => return due_unset(alloc, error),
+        Err(error) => return due_after_failed_setup(alloc, error),
     };
     let text = info_text(alloc, &record);
     drop(record);

@@ -4,8 +4,8 @@ ghost use Rattle.std.specs.Str.{IsUtf8};
 ghost use Rattle.cy_store.specs.Memory.{shows_of};
 ghost use Rattle.cy_make.specs.Inputs.{IsAtFile};
 ghost use Rattle.cy_make.specs.Texts.{suffix_of};
-ghost use Rattle.cy_replay.specs.declared.error.Refusal.{Refusal};
-ghost use Rattle.cy_words.specs.Command as command;
+ghost use Rattle.cy_setup.specs.declared.error.Refusal.{Refusal};
+ghost use Rattle.cy_args.specs.Command as command;
 ghost use Rattle.cy_commands.specs.Due.{IsDueFor};
 ghost use Rattle.cy_commands.specs.Line.{bytes_of_line};
 ghost use Rattle.cy_commands.specs.Lines.{store_line};
@@ -13,9 +13,9 @@ ghost use Rattle.cy_commands.specs.private.MakeEnds.{AreOwn, IsMade, IsDueUnmade
 ghost use Rattle.cy_commands.specs.private.MakeEnds.{IsDueUnplayed, play_named, result_suffix};
 ghost use Rattle.cy_commands.specs.Commands.MakeWork.{made_files, names_behind, play_made};
 ghost use Rattle.cy_commands.specs.PlayEnds.{HasRun};
-ghost use Rattle.cy_words.specs.MakeWords.{CanBeMade};
-ghost use Rattle.cy_words.specs.PlayViews.{play_words_of};
-ghost use Rattle.cy_words.specs.Views.{make_words_of};
+ghost use Rattle.cy_args.specs.MakeWords.{CanBeMade};
+ghost use Rattle.cy_args.specs.PlayViews.{play_words_of};
+ghost use Rattle.cy_args.specs.Views.{make_words_of};
 ghost use Rattle.wake_core.specs.WorldOf.{plain_of};
 
 use crate::due::{Due, out_of_memory};
@@ -23,13 +23,13 @@ use crate::failure::{Failure, File};
 use crate::line::Line;
 use crate::play::{played_world, read_files, write_both};
 use crate::status::Status;
-use crate::unset::due_unset;
+use crate::unset::due_after_failed_setup;
+use cy_args::{Make, Play};
 use cy_made::made_files_are_accepted;
 use cy_make::{Config, Drafts, MakeError, name_with, write_inputs};
 use cy_msg::{Components, Text};
-use cy_replay::{Replay, STANDARD_OUTPUT, SetupError, test_apart};
+use cy_setup::{Replay, STANDARD_OUTPUT, SetupError, test_apart};
 use cy_store::Store;
-use cy_words::{Make, Play};
 use std::alloc::{AllocError, Global};
 use std::thread::Threads;
 use wake_core::World;
@@ -364,6 +364,6 @@ pub fn run_make<'a, S: Store, R: Threads + Sync>(
 {
     match test_made(alloc, store, make.prefix) {
         Ok(()) => make_apart(rt, alloc, make, store),
-        Err(error) => due_unset(alloc, error),
+        Err(error) => due_after_failed_setup(alloc, error),
     }
 }

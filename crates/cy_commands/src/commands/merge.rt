@@ -3,21 +3,21 @@ ghost use Rattle.std.specs.Prelude.{◌≡◌, ◌≤◌, [], length, map, vec_c
 ghost use Rattle.cy_salvage.specs.Joined.{Gathered, IsOrdered};
 ghost use Rattle.cy_commands.specs.declared.kept.TheConstants.{LINE_ROOM};
 ghost use Rattle.cy_store.specs.Store.{StoreView};
-ghost use Rattle.cy_words.specs.Command as command;
+ghost use Rattle.cy_args.specs.Command as command;
 ghost use Rattle.cy_commands.specs.Due.{IsDueFor};
 ghost use Rattle.cy_commands.specs.Line.{bytes_of_line};
 ghost use Rattle.cy_commands.specs.private.MergeEnds.{AreInputs, IsApartFrom, IsDueUnwritten};
 ghost use Rattle.cy_commands.specs.private.MergeEnds.{IsUnitedIn};
-ghost use Rattle.cy_words.specs.Views.{merge_words_of};
+ghost use Rattle.cy_args.specs.Views.{merge_words_of};
 
 use crate::due::{Due, out_of_memory, store_failed};
 use crate::kept::{LINE_ROOM, due_kept};
-use crate::unset::due_unset;
-use cy_replay::{STANDARD_OUTPUT, SetupError, read_merged, test_apart};
+use crate::unset::due_after_failed_setup;
+use cy_args::Merge;
 use cy_salvage::Merged;
+use cy_setup::{STANDARD_OUTPUT, SetupError, read_merged, test_apart};
 use cy_store::Store;
 use cy_tools::write_merged;
-use cy_words::Merge;
 use cy_writer::WriteError;
 use std::alloc::Global;
 use std::thread::Threads;
@@ -127,7 +127,7 @@ fn merge_apart<'a, S: Store, R: Threads + Sync>(
         Ok(merged) => write_in_time(alloc, merge, merged, inputs.len(), line, store),
         Err(error) => {
             drop(line);
-            due_unset(alloc, error)
+            due_after_failed_setup(alloc, error)
         }
     }
 }
@@ -146,7 +146,7 @@ fn merge_named<'a, S: Store, R: Threads + Sync>(
 {
     match test_inputs(alloc, store, merge.output, inputs) {
         Ok(()) => merge_apart(rt, alloc, merge, inputs, store),
-        Err(error) => due_unset(alloc, error),
+        Err(error) => due_after_failed_setup(alloc, error),
     }
 }
 

@@ -1,15 +1,15 @@
 // The command `recover`.
-ghost use Rattle.cy_words.specs.Command as command;
+ghost use Rattle.cy_args.specs.Command as command;
 ghost use Rattle.cy_commands.specs.Due.{IsDueFor};
 ghost use Rattle.cy_commands.specs.Line.{bytes_of_line};
 ghost use Rattle.cy_commands.specs.private.KeptEnds.{AreApart};
-ghost use Rattle.cy_words.specs.Views.{recover_words_of};
+ghost use Rattle.cy_args.specs.Views.{recover_words_of};
 
 use crate::due::{Due, out_of_memory};
 use crate::kept::{LINE_ROOM, due_kept, due_unkept, test_kept};
-use crate::unset::due_unset;
+use crate::unset::due_after_failed_setup;
+use cy_args::Recover;
 use cy_store::Store;
-use cy_words::Recover;
 use std::alloc::Global;
 use std::thread::Threads;
 
@@ -49,6 +49,6 @@ pub fn run_recover<'a, S: Store, R: Threads + Sync>(
 {
     match test_kept(alloc, store, recover.input, recover.output) {
         Ok(()) => recover_apart(rt, alloc, recover, store),
-        Err(error) => due_unset(alloc, error),
+        Err(error) => due_after_failed_setup(alloc, error),
     }
 }

@@ -1,17 +1,17 @@
 // The command `split`.
 ghost use Rattle.std.specs.Prelude.{◌≡◌};
-ghost use Rattle.cy_words.specs.Command as command;
+ghost use Rattle.cy_args.specs.Command as command;
 ghost use Rattle.cy_commands.specs.Due.{IsDueFor};
 ghost use Rattle.cy_commands.specs.Line.{bytes_of_line};
 ghost use Rattle.cy_commands.specs.private.KeptEnds.{AreApart};
-ghost use Rattle.cy_words.specs.Views.{split_words_of};
+ghost use Rattle.cy_args.specs.Views.{split_words_of};
 
 use crate::due::{Due, out_of_memory};
 use crate::kept::{LINE_ROOM, due_kept, due_unkept, test_kept};
-use crate::unset::due_unset;
+use crate::unset::due_after_failed_setup;
+use cy_args::Split;
 use cy_msg::Filter;
 use cy_store::Store;
-use cy_words::Split;
 use std::alloc::Global;
 use std::thread::Threads;
 
@@ -72,6 +72,6 @@ pub fn run_split<'a, S: Store, R: Threads + Sync>(
 {
     match test_kept(alloc, store, split.input, split.output) {
         Ok(()) => split_apart(rt, alloc, split, store),
-        Err(error) => due_unset(alloc, error),
+        Err(error) => due_after_failed_setup(alloc, error),
     }
 }

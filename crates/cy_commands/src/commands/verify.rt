@@ -2,11 +2,11 @@
 ghost use Rattle.std.specs.Prelude.{◌≡◌, IfOk, IfErr, IsOkUnless, length};
 ghost use Rattle.cy_msg.specs.declared.play_list.PlayList.{PlayList};
 ghost use Rattle.cy_msg.specs.Request.{HasReader};
-ghost use Rattle.cy_replay.specs.Setup.{IsSetUp, Replayed, replayed};
+ghost use Rattle.cy_setup.specs.Setup.{IsSetUp, Replayed, replayed};
 ghost use Rattle.cy_report.specs.Summary.{lawful_line as line_by};
 ghost use Rattle.cy_verify.specs.Verdict.{IsOfRun};
-ghost use Rattle.cy_words.specs.Command as command;
-ghost use Rattle.cy_words.specs.PlayViews.{play_words_of};
+ghost use Rattle.cy_args.specs.Command as command;
+ghost use Rattle.cy_args.specs.PlayViews.{play_words_of};
 ghost use Rattle.cy_commands.specs.Commands.VerifyWork.{IsReadToVerify, IsSetOut};
 ghost use Rattle.cy_commands.specs.Commands.VerifyWork.{IsVerified, Judged};
 ghost use Rattle.cy_commands.specs.Due.{IsDueFor};
@@ -20,17 +20,17 @@ use crate::due::Due;
 use crate::line::Line;
 use crate::play::read_files;
 use crate::status::Status;
-use crate::unset::due_unset;
+use crate::unset::due_after_failed_setup;
+use cy_args::Play;
 use cy_msg::{Bytes, PlayList, Token};
 use cy_recording::{Played, SameError, played_places_are_there, same_record};
-use cy_replay::{Fault, Replay, SetupError, failed, read_trace_file, refused};
 use cy_report::lawful_line;
+use cy_setup::{Fault, Replay, SetupError, failed, read_trace_file, refused};
 use cy_store::Store;
 use cy_trace::{Trace, TraceError};
 use cy_trace_read::{read_trace, texts_tell_traces};
 use cy_trace_text::{runs_are_traces, traces_of_runs_fit};
 use cy_verify::{Told, Verdict, VerifyError, verify};
-use cy_words::Play;
 use std::alloc::Global;
 use std::mem::size_of;
 use std::thread::Threads;
@@ -254,6 +254,6 @@ pub fn run_verify<'a, S: Store, R: Threads + Sync>(
             status: Status::Done,
             line: Line::Made(line),
         },
-        Err(error) => due_unset(alloc, error),
+        Err(error) => due_after_failed_setup(alloc, error),
     }
 }

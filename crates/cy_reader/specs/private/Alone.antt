@@ -10,7 +10,7 @@ use Rattle.cy_cut.specs.declared.cutting.Part.{Part}
 use Rattle.cy_reader.specs.declared.decoding.Alone.{Alone}
 use Rattle.cy_reader.specs.declared.loading.Message.{Message}
 use Rattle.cy_reader.specs.Record as meaning
-use Rattle.cy_reader.specs.Record.{◌>>=◌, Met, body_met, name_mentioned, named_only, nothing}
+use Rattle.cy_reader.specs.Record.{◌>>=◌, Met, add_body, name_mentioned, named_only, nothing}
 use Rattle.cy_reader.specs.Record.{number_of}
 use Rattle.cy_reader.specs.private.Loading.{message_of}
 
@@ -29,7 +29,7 @@ pub record IsClosed (a : Alone) : Type 0 where
 -- This is what a chunk's body comes to where nothing was met before it.
 pub record IsAlone (p : Part) (a : Alone) : Type 0 where
   pub met : (let all = messages_of (fields_of p.body_at p.body) in
-      body_met all.fault all.messages nothing ≡ Ok (met_alone p.body a))
+      add_body all.fault all.messages nothing ≡ Ok (met_alone p.body a))
   pub closed : IsClosed a
 
 -- It is known of some sections what they come to so.

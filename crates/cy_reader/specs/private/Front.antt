@@ -12,7 +12,7 @@ use Rattle.cy_reader.specs.declared.front.Front.{Front}
 use Rattle.cy_cut.specs.declared.heads.KeptIndex.{KeptIndex}
 use Rattle.cy_cut.specs.Heads.{PlacedIndex, header_head, index_head, seen_index}
 use Rattle.cy_reader.specs.Load.{IsRefusal}
-use Rattle.cy_reader.specs.Record.{◌>>=◌, Contents, Source, file_header, sections_met, nothing}
+use Rattle.cy_reader.specs.Record.{◌>>=◌, Contents, Source, file_header, add_sections, nothing}
 use Rattle.cy_reader.specs.Record.{shown}
 use Rattle.cy_cut.specs.Sections.{header_end, longest_file}
 use Rattle.cy_cut.specs.Cutting.{seen_part, fault_in}
@@ -47,5 +47,5 @@ cut_source name f c = record {
 
 unfoldable pub cut_record : List ℕ → Front → CutFile → Result Contents LoadError
 cut_record name f c = do
-  met ← sections_met (map seen_part c.parts.items) (fault_in c.end) nothing
+  met ← add_sections (map seen_part c.parts.items) (fault_in c.end) nothing
   Ok (shown (cut_source name f c) met)

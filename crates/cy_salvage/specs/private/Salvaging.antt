@@ -10,7 +10,7 @@ use Rattle.cy_reader.specs.declared.error.LoadError.{LoadError}
 use Rattle.cy_reader.specs.declared.error.LoadError.TheVariants.{Store, Memory}
 use Rattle.cy_cut.specs.declared.cutting.Part.{Part}
 use Rattle.cy_cut.specs.declared.cutting.CutFile.{CutFile}
-use Rattle.cy_reader.specs.Record.{◌>>=◌, file_header, sections_met, nothing}
+use Rattle.cy_reader.specs.Record.{◌>>=◌, file_header, add_sections, nothing}
 use Rattle.cy_cut.specs.Sections.{header_end, longest_file, Sections}
 use Rattle.cy_salvage.specs.Salvage.{Salvage, own_fault, until_fault, if_usable, dropped_at}
 use Rattle.cy_salvage.specs.Salvage.{salvage_of}
@@ -50,7 +50,7 @@ place_before end (Some p) = p.body_at - 16
 
 -- What is salvaged of a file of this size that was cut into sections.
 abbrev pub salvage_kept : ℕ → ℕ → List Part → Sections → Result Salvage LoadError
-salvage_kept size end parts sound = sections_met sound.sections None nothing >>= λ met.
+salvage_kept size end parts sound = add_sections sound.sections None nothing >>= λ met.
     Ok (record {
       met = met;
       dropped = dropped_at size (place_before end (slice_get parts (length sound.sections)))

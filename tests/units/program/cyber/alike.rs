@@ -1,7 +1,7 @@
 // A store to which two names are one file: a command that would write one of them is refused.
 use super::ran::{Ran, ends, run};
 use super::samples::in_record;
-use cy_replay::{Fault, SetupError, test_apart};
+use cy_setup::{Fault, SetupError, test_apart};
 use cy_store::{MemStore, Store, StoreError};
 use cyber_cli::Status;
 use std::alloc::Global;

@@ -2,7 +2,7 @@
 use super::faults::{CALLS, CALLS_BEFORE, READS};
 use super::ran::chain_store;
 use cy_msg::{Bytes, Components, Filter, Items, Request, StopAt, Text};
-use cy_replay::{Fault, Refusal, Replay, SetupError, set_up};
+use cy_setup::{Fault, Refusal, Replay, SetupError, set_up};
 use cy_store::{MemStore, Store};
 use std::alloc::Global;
 use std::test::Fail;

@@ -1,6 +1,6 @@
 use Rattle.std.proofs.Common.{Bor, List, ℕ, [], ◌∷◌, ◌++◌, ◌∙◌, ap, map}
 use Rattle.std.proofs.lemmas.List.{map-append}
-use Rattle.cy_replay.specs.Apart.{standard_output}
+use Rattle.cy_setup.specs.Apart.{standard_output}
 use Rattle.cy_commands.proofs.apart.others_of.Goals as goal
 
 pub returns : goal.returns

@@ -1,4 +1,4 @@
-use Rattle.cy_words.specs.PlayViews.{play_words_of}
+use Rattle.cy_args.specs.PlayViews.{play_words_of}
 use Rattle.cy_commands.proofs.NamesApart.{is_unread}
 use Rattle.cy_commands.proofs.apart.ready.Goals as goal
 

@@ -1,6 +1,6 @@
 use Rattle.std.proofs.Common.{rules}
-use Rattle.cy_words.specs.Command.{Asks, AsksStill}
-use Rattle.cy_words.specs.Views.{command_asked}
+use Rattle.cy_args.specs.Command.{Asks, AsksStill}
+use Rattle.cy_args.specs.Views.{command_asked}
 use Rattle.cy_commands.proofs.OneDue.{read_begun}
 use Rattle.cy_commands.proofs.begun.begin.Goals as goal
 

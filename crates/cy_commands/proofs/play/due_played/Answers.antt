@@ -1,5 +1,5 @@
 use Rattle.wake_core.specs.WorldOf.{plain_of}
-use Rattle.cy_words.specs.PlayViews.{play_words_of}
+use Rattle.cy_args.specs.PlayViews.{play_words_of}
 use Rattle.cy_commands.proofs.PlayExits.{done, stopped}
 use Rattle.cy_commands.proofs.play.due_played.Goals as goal
 

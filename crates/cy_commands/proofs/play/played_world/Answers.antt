@@ -1,4 +1,4 @@
-use Rattle.cy_words.specs.PlayViews.{play_words_of}
+use Rattle.cy_args.specs.PlayViews.{play_words_of}
 use Rattle.cy_commands.proofs.PlayRuns.{has_run, serial_run, lawful_run}
 use Rattle.cy_commands.proofs.play.played_world.Goals as goal
 

@@ -4,7 +4,7 @@ use Rattle.wake_core.specs.WorldOf.{plain_of}
 use Rattle.wake_core.specs.Rest.{run_shown}
 use Rattle.cy_trace_text.specs.TraceText.{trace_text}
 use Rattle.cy_commands.specs.declared.failure.File.TheVariants as file
-use Rattle.cy_words.specs.PlayViews.{play_words_of}
+use Rattle.cy_args.specs.PlayViews.{play_words_of}
 use Rattle.cy_commands.proofs.PlayWriting.{blames, unrecorded, untold, untraced, written}
 use Rattle.cy_commands.proofs.play.write_both.Goals as goal
 

@@ -10,8 +10,8 @@ use Rattle.cy_reader.proofs.Growing.{kept_grown}
 use Rattle.cy_reader.proofs.Moved.{one_decoded}
 use Rattle.cy_reader.proofs.gathering.join.Goals as goal
 
-pub part_met-requires-clause-room : goal.part_met-requires-clause-room
-part_met-requires-clause-room c =
+pub add_part-requires-clause-room : goal.add_part-requires-clause-room
+add_part-requires-clause-room c =
     let i = c.loop-part.invariant in
     let left = into_iter_items c.loop-part.part-iterator in
     let rest = into_iter_items c.next.new.self in
@@ -31,10 +31,10 @@ loop-part-preserved c =
     let new = c.next-in-loop-part.new.self in
     let both = one_decoded p left rest (into_iter_items old) (into_iter_items new) (into_iter_len old) (into_iter_len new) c.next-in-loop-part.result is c.next-in-loop-part.ensures.cases i.known i.decoded in
     record {
-      so_far = one_met p left rest (met_of c.loop-part.bodies.items c.loop-part.loading) (met_of c.part_met.new.bodies.items c.part_met.new.loading) _ is c.in_ok-part_met.ensures.met i.so_far;
-      sound = c.in_ok-part_met.ensures.still_sound;
-      bodies = omega (arith, i.bodies, one, c.in_ok-part_met.ensures.bodies);
-      messages = omega (arith, i.messages, one, kept_grown (seen_part p) c.loop-part.bodies.items c.part_met.new.bodies.items c.loop-part.loading c.part_met.new.loading c.in_ok-part_met.ensures.met);
+      so_far = one_met p left rest (met_of c.loop-part.bodies.items c.loop-part.loading) (met_of c.add_part.new.bodies.items c.add_part.new.loading) _ is c.in_ok-add_part.ensures.met i.so_far;
+      sound = c.in_ok-add_part.ensures.still_sound;
+      bodies = omega (arith, i.bodies, one, c.in_ok-add_part.ensures.bodies);
+      messages = omega (arith, i.messages, one, kept_grown (seen_part p) c.loop-part.bodies.items c.add_part.new.bodies.items c.loop-part.loading c.add_part.new.loading c.in_ok-add_part.ensures.met);
       decoded = both.1;
       known = both.2;
       within = rest_within (λ (q : Part). q.body_at + length q.body ≤ longest_file) p left rest is i.within;

@@ -1,5 +1,5 @@
 use Rattle.cy_commands.specs.Line.{bytes_of_line}
-use Rattle.cy_words.proofs.Asked.{ask_for_one}
+use Rattle.cy_args.proofs.Asked.{ask_for_one}
 use Rattle.cyber_cli.proofs.Complete.{complete, not_sink}
 use Rattle.cyber_cli.proofs.Left.{asked_still}
 use Rattle.cyber_cli.proofs.program.cyber_still.Goals as goal

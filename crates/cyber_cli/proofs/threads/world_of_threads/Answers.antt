@@ -1,5 +1,5 @@
 use Rattle.wake_core.specs.WorldOf.{plain_of}
-use Rattle.cy_words.specs.PlayViews.{play_words_of}
+use Rattle.cy_args.specs.PlayViews.{play_words_of}
 use Rattle.cy_commands.proofs.PlayRuns.{has_run, any_run, threads_run}
 use Rattle.cyber_cli.proofs.threads.world_of_threads.Goals as goal
 

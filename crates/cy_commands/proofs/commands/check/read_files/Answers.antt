@@ -1,5 +1,5 @@
 use Rattle.std.proofs.lemmas.Result.{err_from_is_err_and}
-use Rattle.cy_words.specs.Views.{check_words_of}
+use Rattle.cy_args.specs.Views.{check_words_of}
 use Rattle.cy_commands.proofs.CheckExits.{files_stop, not_wired, all_read}
 use Rattle.cy_commands.proofs.commands.check.read_files.Goals as goal
 

@@ -1,14 +1,14 @@
 use Rattle.std.proofs.Common.{◌≡◌, refl}
 use Rattle.cy_commands.specs.Commands.InfoWork.{IsInfoWork, told_of}
-use Rattle.cy_words.specs.Command.{Info}
-use Rattle.cy_words.specs.Views.{info_words_of}
+use Rattle.cy_args.specs.Command.{Info}
+use Rattle.cy_args.specs.Views.{info_words_of}
 use Rattle.cy_commands.proofs.Refusing.{starved, told, unset}
 use Rattle.cy_commands.proofs.commands.info.run_info.Goals as goal
 
 pub returns-in-Err : goal.returns-in-Err
 returns-in-Err g c =
     let w = info_words_of c.args.info.now in
-    unset (Info w) (λ read. read) (told_of w) (λ name. name ≡ w.file) _ _ c.in-Err.error _ _ record { asked = λ file a. a; refused = λ due line r. r; absent = λ file h. h } c.in-Err.ensures c.due_unset.ensures
+    unset (Info w) (λ read. read) (told_of w) (λ name. name ≡ w.file) _ _ c.in-Err.error _ _ record { asked = λ file a. a; refused = λ due line r. r; absent = λ file h. h } c.in-Err.ensures c.due_after_failed_setup.ensures
 
 pub returns-in-Ok-text : goal.returns-in-Ok-text
 returns-in-Ok-text g c =

@@ -1,7 +1,7 @@
 use Rattle.std.proofs.Common.{ap}
 use Rattle.std.specs.FinMap.{empty}
 use Rattle.cy_store.specs.Memory.{shows_of}
-use Rattle.cy_words.specs.Views.{make_words_of}
+use Rattle.cy_args.specs.Views.{make_words_of}
 use Rattle.cy_commands.proofs.MakeDrafts.{drafted, unfailing}
 use Rattle.cy_commands.proofs.commands.make.draft.Goals as goal
 

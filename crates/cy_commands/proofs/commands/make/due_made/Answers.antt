@@ -1,6 +1,6 @@
 use Rattle.wake_core.specs.WorldOf.{plain_of}
-use Rattle.cy_words.specs.PlayViews.{play_words_of}
-use Rattle.cy_words.specs.Views.{make_words_of}
+use Rattle.cy_args.specs.PlayViews.{play_words_of}
+use Rattle.cy_args.specs.Views.{make_words_of}
 use Rattle.cy_commands.proofs.MakeExits.{unmade, done, unplayed, set_up_by, in_turn}
 use Rattle.cy_commands.proofs.commands.make.due_made.Goals as goal
 

@@ -1,5 +1,5 @@
-use Rattle.cy_words.specs.PlayViews.{play_words_of}
-use Rattle.cy_words.specs.Views.{make_words_of}
+use Rattle.cy_args.specs.PlayViews.{play_words_of}
+use Rattle.cy_args.specs.Views.{make_words_of}
 use Rattle.cy_commands.proofs.MakeExits.{set_up_by}
 use Rattle.cy_commands.proofs.commands.make.make_and_play.Goals as goal
 

@@ -1,7 +1,7 @@
 use Rattle.std.proofs.Common.{ap, rules, Err}
 use Rattle.cy_store.specs.Store.{StoreView}
-use Rattle.cy_words.specs.PlayViews.{play_words_of}
-use Rattle.cy_words.specs.Views.{make_words_of}
+use Rattle.cy_args.specs.PlayViews.{play_words_of}
+use Rattle.cy_args.specs.Views.{make_words_of}
 use Rattle.cy_commands.proofs.MakeExits.{made, has_reader}
 use Rattle.cy_commands.proofs.MakeDrafts.{unmissed, unrefused}
 use Rattle.cy_commands.proofs.commands.make.set_up_made.Goals as goal

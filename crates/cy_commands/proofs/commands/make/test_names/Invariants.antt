@@ -1,5 +1,5 @@
 use Rattle.std.proofs.Common.{◌≡◌, ◌∷◌, map, take}
-use Rattle.cy_replay.specs.Apart.{standard_output}
+use Rattle.cy_setup.specs.Apart.{standard_output}
 use Rattle.cy_commands.proofs.commands.make.test_names.Given as goal
 
 abbrev pub invariant-loop-name : goal.invariant-loop-name

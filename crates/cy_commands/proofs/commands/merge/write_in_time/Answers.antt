@@ -1,4 +1,4 @@
-use Rattle.cy_words.specs.Views.{merge_words_of}
+use Rattle.cy_args.specs.Views.{merge_words_of}
 use Rattle.cy_commands.proofs.MergeExits.{starved_before}
 use Rattle.cy_commands.proofs.commands.merge.write_in_time.Goals as goal
 

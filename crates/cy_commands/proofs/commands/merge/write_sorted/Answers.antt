@@ -1,4 +1,4 @@
-use Rattle.cy_words.specs.Views.{merge_words_of}
+use Rattle.cy_args.specs.Views.{merge_words_of}
 use Rattle.cy_commands.proofs.MergeExits.{merged, unwritten}
 use Rattle.cy_commands.proofs.commands.merge.write_sorted.Goals as goal
 

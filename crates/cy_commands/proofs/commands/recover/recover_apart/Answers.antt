@@ -1,4 +1,4 @@
-use Rattle.cy_words.specs.Views.{recover_words_of}
+use Rattle.cy_args.specs.Views.{recover_words_of}
 use Rattle.cy_commands.proofs.KeptExits.{recovered, unrecovered}
 use Rattle.cy_commands.proofs.commands.recover.recover_apart.Goals as goal
 

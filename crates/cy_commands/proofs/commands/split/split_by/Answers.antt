@@ -5,7 +5,7 @@ use Rattle.cy_tools.specs.Answer.{ToolAnswer}
 use Rattle.cy_tools.specs.Tools.{splitting}
 use Rattle.cy_tools.specs.declared.error.ToolError.{ToolError}
 use Rattle.cy_tools.specs.declared.splitting.Parted.{Parted}
-use Rattle.cy_words.specs.Views.{split_words_of}
+use Rattle.cy_args.specs.Views.{split_words_of}
 use Rattle.cy_commands.specs.Line.{bytes_of_line}
 use Rattle.cy_commands.specs.private.KeptEnds.{IsDueKept}
 use Rattle.cy_commands.proofs.KeptExits.{parted, unparted}

@@ -1,4 +1,4 @@
-use Rattle.cy_words.specs.PlayViews.{play_words_of}
+use Rattle.cy_args.specs.PlayViews.{play_words_of}
 use Rattle.cy_commands.proofs.VerifyExits.{record_differs, record_same, record_unread, record_writable}
 use Rattle.cy_commands.proofs.commands.verify.compare.Goals as goal
 

@@ -1,5 +1,5 @@
 use Rattle.std.proofs.lemmas.Result.{err_from_is_err_and}
-use Rattle.cy_words.specs.PlayViews.{play_words_of}
+use Rattle.cy_args.specs.PlayViews.{play_words_of}
 use Rattle.cy_commands.proofs.VerifyExits.{line_by, record_lost}
 use Rattle.cy_commands.proofs.commands.verify.compared.Goals as goal
 

@@ -1,5 +1,5 @@
 use Rattle.std.proofs.lemmas.Result.{err_from_is_err_and}
-use Rattle.cy_words.specs.PlayViews.{play_words_of}
+use Rattle.cy_args.specs.PlayViews.{play_words_of}
 use Rattle.cy_commands.proofs.VerifyExits.{both_found, both_lost, still_told}
 use Rattle.cy_commands.proofs.commands.verify.judged.Goals as goal
 

@@ -1,6 +1,6 @@
 use Rattle.std.proofs.lemmas.Result.{err_from_is_err_and}
-use Rattle.cy_replay.specs.Setup.{replayed}
-use Rattle.cy_words.specs.PlayViews.{play_words_of}
+use Rattle.cy_setup.specs.Setup.{replayed}
+use Rattle.cy_args.specs.PlayViews.{play_words_of}
 use Rattle.cy_commands.proofs.VerifyExits.{trace_lost, run_judged}
 use Rattle.cy_commands.proofs.commands.verify.judged_run.Goals as goal
 

@@ -4,7 +4,7 @@ use Rattle.cy_trace.specs.TraceForm.{ReadsTrace}
 use Rattle.cy_trace.specs.declared.error.TraceError.{TraceError}
 use Rattle.cy_trace.specs.declared.error.TraceError.TheVariants as trace_error
 use Rattle.cy_trace.specs.declared.trace.Trace.{Trace}
-use Rattle.cy_words.specs.PlayViews.{play_words_of}
+use Rattle.cy_args.specs.PlayViews.{play_words_of}
 use Rattle.cy_commands.proofs.VerifyExits.{text_read, trace_bad, trace_unread}
 use Rattle.cy_commands.proofs.commands.verify.trace_of.Goals as goal
 

@@ -1,5 +1,5 @@
 use Rattle.std.proofs.lemmas.Result.{err_from_is_err_and}
-use Rattle.cy_words.specs.PlayViews.{play_words_of}
+use Rattle.cy_args.specs.PlayViews.{play_words_of}
 use Rattle.cy_commands.proofs.VerifyExits.{all_found, all_lost}
 use Rattle.cy_commands.proofs.commands.verify.verified.Goals as goal
 

@@ -1,5 +1,0 @@
-use Rattle.cy_replay.proofs.Counting.{CountSoFar}
-use Rattle.cy_replay.proofs.counts.counts_of.Given as goal
-
-abbrev pub invariant-loop-token : goal.invariant-loop-token
-invariant-loop-token l = CountSoFar l.channels l.token-index l.tokens l.counts.items

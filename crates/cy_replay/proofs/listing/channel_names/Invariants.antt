@@ -1,6 +1,0 @@
-use Rattle.std.proofs.Common.{◌≡◌, take}
-use Rattle.cy_replay.specs.Listing.{channels_of}
-use Rattle.cy_replay.proofs.listing.channel_names.Given as goal
-
-abbrev pub invariant-loop-number : goal.invariant-loop-number
-invariant-loop-number l = l.names.items ≡ channels_of (record l.recorded { channels = take l.number l.recorded.channels })

@@ -1,5 +1,0 @@
-use Rattle.cy_words.proofs.InForm.{merge_files_apart}
-use Rattle.cy_words.proofs.laws.merge_files_differ.Goals as goal
-
-pub returns : goal.returns
-returns c = merge_files_apart

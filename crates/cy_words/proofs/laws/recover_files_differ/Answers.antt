@@ -1,5 +1,0 @@
-use Rattle.cy_words.proofs.InForm.{recover_files_apart}
-use Rattle.cy_words.proofs.laws.recover_files_differ.Goals as goal
-
-pub returns : goal.returns
-returns c = recover_files_apart

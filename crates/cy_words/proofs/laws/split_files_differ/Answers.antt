@@ -1,5 +1,0 @@
-use Rattle.cy_words.proofs.InForm.{split_files_apart}
-use Rattle.cy_words.proofs.laws.split_files_differ.Goals as goal
-
-pub returns : goal.returns
-returns c = split_files_apart

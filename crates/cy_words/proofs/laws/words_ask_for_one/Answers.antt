@@ -1,5 +1,0 @@
-use Rattle.cy_words.proofs.Asked.{ask_for_one}
-use Rattle.cy_words.proofs.laws.words_ask_for_one.Goals as goal
-
-pub returns : goal.returns
-returns c = ask_for_one

@@ -1,6 +1,0 @@
-use Rattle.std.proofs.Common.{◌∙◌}
-use Rattle.cy_words.proofs.Places.{place_mapped}
-use Rattle.cy_words.proofs.options.place_of.Goals as goal
-
-pub returns : goal.returns
-returns c = c.first_place.ensures ∙ place_mapped c.args.known.now c.args.name.now

@@ -1,8 +1,0 @@
-use Rattle.std.proofs.Common.{◌≡◌, drop, fold, map}
-use Rattle.clap.specs.Words.{app_of}
-use Rattle.cy_words.specs.private.OptionViews.{head_as}
-use Rattle.cy_words.specs.private.Program.{with_head}
-use Rattle.cy_words.proofs.program.with_forms.Given as goal
-
-abbrev pub invariant-loop-form : goal.invariant-loop-form
-invariant-loop-form l = fold with_head (app_of l.program) (map head_as (drop l.form-index l.forms)) ≡ fold with_head (app_of l.fn.program) (map head_as l.forms)
