@@ -3,13 +3,15 @@
 
 usage: gate.py REPOSITORY
 A table in Markdown: for each crate its lines of code, definitions and proofs (without comments), the number of its must-fail edits, the processor minutes of
-its proof, of the second proof that its edits begin with, of these and of its tests, and the most memory that a check took, in GB. The
-processes of the prover are looked at twice a second, so the last half second of each is not counted.
+its proof, of the second proof that its edits begin with, of these and of its tests, and the most memory that a check took, in GB. Then the
+lines of front/weights.txt: for each crate the processor seconds of its proof. The processes of the prover are looked at twice a second, so
+the last half second of each is not counted.
 """
 import os, resource, subprocess, sys, threading, time
 
 TICKS = os.sysconf("SC_CLK_TCK")
 PARTS = ("proof", "second", "edits", "tests")
+PROOF = 4  # the place of the minutes of the proof in a row
 
 
 def part_of(words, folder):
@@ -95,6 +97,9 @@ def main(repository):
         print(printed(name, row))
     columns = list(zip(*rows.values()))
     print(printed("all", [*map(sum, columns[:-1]), max(columns[-1])]))
+    print("\nLines of front/weights.txt:\n")
+    for name, row in rows.items():
+        print(f"{name} {round(row[PROOF] * 60)}")
     minutes = (used.ru_utime + used.ru_stime) / 60
     print(f"\n`{' '.join(words)}` ended with status {status} after {(time.monotonic() - begun) / 60:.0f} minutes and {minutes:.0f} processor minutes.")
     return status

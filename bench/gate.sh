@@ -1,6 +1,6 @@
 #!/usr/bin/env bash
 # What the gate costs, crate by crate: runs `rt ci` from nothing over a copy of what is committed here, and prints a table in Markdown of the
-# lines of each crate and the processor minutes of its parts.
+# lines of each crate and the processor minutes of its parts, and the lines of front/weights.txt.
 # Usage: bench/gate.sh [FOLDER]; the copy is made in FOLDER, or else in a temporary one that is removed. Beside it nothing should run.
 set -euo pipefail
 top=$(cd "$(dirname "$0")/.." && pwd)

@@ -12,17 +12,19 @@ crates_needed() {
     }' "$top/crates.txt"
 }
 
-# Which crates are proved so far, by the log, with what share of the work that is, by the minutes that CONTRIBUTING.md has for each.
+# Which crates are proved so far, by the log, and what share of the work they are, by the seconds that front/weights.txt has for each. A
+# crate that has no line there counts as a minute.
 proved_so_far() {
   awk '
-    FILENAME ~ /CONTRIBUTING.md$/ { split($0, cell, / *[|] */); if (cell[2] in known) weight[cell[2]] = cell[7]; next }
-    FILENAME ~ /crates.txt$/ { sub(/[ :].*/, ""); known[$0]; weight[$0] = 1; next }
+    /^#/ { next }
+    FILENAME ~ /crates.txt$/ { sub(/[ :].*/, ""); weight[$0] = 60; next }
+    FILENAME ~ /weights.txt$/ { if ($1 in weight) weight[$1] = $2; next }
     $1 == "rt:" && ($3 == "proved" || $3 == "is" && $4 == "kept:") { done[$2] }
     END {
       for (crate in weight) { all += weight[crate]; count++ }
       for (crate in done) { part += weight[crate]; proved++ }
       printf "%d of %d crates proved, %d %% of the work", proved, count, 100 * part / all
-    }' "$copy/crates.txt" "$top/CONTRIBUTING.md" "$log"
+    }' "$copy/crates.txt" "$top/front/weights.txt" "$log"
 }
 
 # The time since the build began, in minutes and seconds.

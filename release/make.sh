@@ -102,7 +102,7 @@ fill_stage() {
     "$stage/usr/share/zsh/vendor-completions" "$doc"
   install -D -m 755 "$program" "$lib/crates/cyber/out/cyber"
   copy_files "$lib" cyber front tools batch
-  rm "$lib/front/repository.sh" "$lib/front/build.sh" "$lib/front/quick.sh" "$lib/front/kit.txt"
+  rm "$lib/front/repository.sh" "$lib/front/build.sh" "$lib/front/quick.sh" "$lib/front/kit.txt" "$lib/front/weights.txt"
   write_version >"$lib/front/version.txt"
   ln -s "../lib/$name/cyber" "$stage/usr/bin/cyber"
   python3 "$top/release/manual.py" "$top/docs/COMMANDS.md" "$version" "$date" | gzip -9n >"$stage/usr/share/man/man1/cyber.1.gz"

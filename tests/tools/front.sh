@@ -280,7 +280,7 @@ KIT
 # Makes a repository in which nothing is built.
 copy_repository() { # the folder
   mkdir -p "$1/crates/cyber/src"
-  cp -r "$top/cyber" "$top/front" "$top/HANDLES" "$top/CONTRIBUTING.md" "$1/"
+  cp -r "$top/cyber" "$top/front" "$top/HANDLES" "$1/"
   echo 'cyber:' >"$1/crates.txt"
   cp "$top/crates/cyber/src/main.rt" "$1/crates/cyber/src/"
 }
@@ -326,6 +326,7 @@ looks_quickly() {
   FAILS=yes looks 126 "$QUICK" info in.rec
   says err 'cyber: the quick look came to no answer. rt try said:'
   refuses_quick_looks
+  weighs_each_crate
   builds_and_is_stale
 }
 
@@ -379,6 +380,14 @@ await_text() { # the file
     [ ! -s "$1" ] || return
     sleep 0.02
   done
+}
+
+# Looks that front/weights.txt has one line for each crate of crates.txt, in the same order: a name and a count of seconds.
+weighs_each_crate() {
+  begin 'the progress of a build has a weight for each crate'
+  sed 's/#.*//; s/[ :].*//; /^$/d' "$top/crates.txt" >crates
+  sed -n -E 's/^([a-z_]+) [1-9][0-9]*$/\1/p' "$top/front/weights.txt" | cmp -s - crates
+  count $? "$name: front/weights.txt has other crates than crates.txt: $(grep -v '^#' "$top/front/weights.txt" | tr '\n' ' ')"
 }
 
 builds_and_is_stale() {
